@@ -1,0 +1,11 @@
+pub mod Tables
+pub mod State
+pub mod Places
+pub mod Good
+pub mod Ready
+pub mod Counted
+pub mod After
+pub mod Legal
+pub mod Finish
+pub mod History
+pub mod Verdict

@@ -1,0 +1,18 @@
+//! Scripts, trace entries and limits: the types that every layer speaks of, and in specs/ the one-thread timer machine.
+#![tactic(auto)]
+
+mod entry;
+mod lists;
+mod script;
+mod state;
+mod time;
+
+pub use entry::{Entry, Limits, Outcome, Verdict};
+pub use lists::{Code, Decls, Funcs, Text};
+pub use script::{Decl, Func, Instr, Place, Script, What};
+pub use state::{Goroutine, Mode};
+pub use time::{CAP, due_after};
+
+/// Memory ran out.
+#[derive(Clone, Copy, Debug, PartialEq, Eq)]
+pub struct NoMemory;

@@ -1,0 +1,56 @@
+//! A script: its declarations, and the code of its functions.
+
+use crate::lists::{Code, Decls, Funcs, Text};
+
+/// A script as the reader makes it. Declarations and functions are in the order of their lines, counted from 0.
+#[derive(Drop)]
+pub struct Script {
+    /// Every declared name; functions are among them.
+    pub decls: Decls,
+    pub funcs: Funcs,
+    /// The place of `main` in `funcs`.
+    pub main: u32,
+}
+
+/// A declared name.
+#[derive(Drop)]
+pub struct Decl {
+    /// 1 to 32 bytes: a letter, then letters, digits and `_`.
+    pub name: Text,
+    pub what: What,
+}
+
+/// What a name is declared as.
+#[derive(Clone, Copy, Debug, PartialEq, Eq)]
+pub enum What {
+    Function,
+}
+
+/// A function.
+#[derive(Drop)]
+pub struct Func {
+    /// The place of its declaration in the script's `decls`.
+    pub decl: u32,
+    /// Its instructions, with `Finish` at the end.
+    pub code: Code,
+}
+
+/// An instruction of a goroutine.
+#[derive(Clone, Copy, Debug, PartialEq, Eq)]
+pub enum Instr {
+    /// Look at the clock.
+    Now,
+    /// Sleep for `d` nanoseconds.
+    Sleep { d: u64 },
+    /// The end of the function.
+    Finish,
+}
+
+/// Where a goroutine stands.
+#[derive(Clone, Copy, Debug, PartialEq, Eq)]
+pub struct Place {
+    /// The place of the function in the script's `funcs`.
+    pub func: u32,
+    /// The index in that function's code.
+    pub at: u32,
+}

@@ -1,0 +1,14 @@
+//! Times, in whole nanoseconds since the program began.
+
+ghost use Rattle.std.specs.Prelude.{◌≡◌, ◌+◌, ◌≤◌, min};
+
+/// The greatest time: 2^63 - 1 nanoseconds, the greatest duration of Go's package `time`.
+pub const CAP: u64 = 9_223_372_036_854_775_807;
+
+/// The time that is `d` nanoseconds after `now`, at most [`CAP`]: it never wraps (Go 1.23, the runtime's `when`).
+pub fn due_after(now: u64, d: u64) -> u64
+    requires { now ≤ CAP }
+    ensures { result ≡ min (now + d) CAP }
+{
+    now.saturating_add(d).min(CAP)
+}
