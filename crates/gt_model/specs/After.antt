@@ -18,20 +18,20 @@ abbrev pub in_mode : Mode → Goroutine → Goroutine
 in_mode mode r = record r { mode = mode }
 
 -- a goroutine moves on: to the place after its instruction
-abbrev pub moved_on : Goroutine → Goroutine
-moved_on r = record r { place = place_after r.place; mode = Mode.At }
+abbrev pub moved_on : Script → Goroutine → Goroutine
+moved_on script r = record r { place = place_after script r.place; mode = Mode.At }
 
-abbrev pub moves : State → ℕ → State
-moves s g = with_goroutine s g moved_on
+abbrev pub moves : Script → State → ℕ → State
+moves script s g = with_goroutine s g (moved_on script)
 
 -- a goroutine falls asleep, or goes on at once
-abbrev pub asleep : Option ℕ → Goroutine → Goroutine
-asleep None r = moved_on r
-asleep (Some until) r = in_mode (Mode.Sleeping until) r
+abbrev pub asleep : Script → Option ℕ → Goroutine → Goroutine
+asleep script None r = moved_on script r
+asleep script (Some until) r = in_mode (Mode.Sleeping until) r
 
 -- a new goroutine at the beginning of function f
-abbrev pub begun : ℕ → ℕ → Goroutine
-begun w f = record { world = w; place = first_place f; mode = Mode.At }
+abbrev pub begun : Script → ℕ → ℕ → Goroutine
+begun script w f = record { world = w; place = first_place script f; mode = Mode.At }
 
 -- the function of g ends. The run ends with main, which goroutine 1 runs
 abbrev pub ends : State → ℕ → State
@@ -41,13 +41,13 @@ ends s g = record s {
 }
 
 -- what an entry does, but for the number of entries. What a row does not name stays
-abbrev pub effect : State → Entry → State
-effect s (Entry.Now g at) = moves s g
-effect s (Entry.End g) = ends s g
-effect s (Entry.Sleep g until) = with_goroutine s g (asleep until)
-effect s (Entry.Wake g) = moves s g
-effect s (Entry.Clock world at) = record s { clocks = set s.clocks world at }
-effect s (Entry.Finish outcome) = record s { ending = Ending.Finished outcome }
+abbrev pub effect : Script → State → Entry → State
+effect script s (Entry.Now g at) = moves script s g
+effect script s (Entry.End g) = ends s g
+effect script s (Entry.Sleep g until) = with_goroutine s g (asleep script until)
+effect script s (Entry.Wake g) = moves script s g
+effect script s (Entry.Clock world at) = record s { clocks = set s.clocks world at }
+effect script s (Entry.Finish outcome) = record s { ending = Ending.Finished outcome }
 
 -- the end of a run is not counted
 abbrev pub counts : Entry → ℕ
@@ -55,14 +55,14 @@ counts (Entry.Finish outcome) = 0
 counts _ = 1
 
 -- the state after an entry
-abbrev pub after : State → Entry → State
-after s e = let next : State = effect s e in record next { entries = s.entries + counts e }
+abbrev pub after : Script → State → Entry → State
+after script s e = let next : State = effect script s e in record next { entries = s.entries + counts e }
 
 -- the first state: goroutine 1 stands at main's first place
 abbrev pub first_state : Script → State
 first_state script = record {
   clocks = 0 ∷ [];
   entries = 0;
-  goroutines = begun 0 script.main ∷ [];
+  goroutines = begun script 0 script.main ∷ [];
   ending = Ending.Running;
 }

@@ -21,11 +21,11 @@ IsIdle script s = (e : Entry) → May script s e → IsProgramClock e
 -- an idle jump: the program's clock moves to its least counted time, and a slip more, where nothing else may come
 pub record IsJump (script : Script) (s : State) (slip to : ℕ) : Type 0 where
   pub idle : IsIdle script s
-  pub to_least : IsSomeAnd (least (counted s 0)) (λ t. to ≡ min (t + slip) CAP)
+  pub to_least : IsSomeAnd (least (counted script s 0)) (λ t. to ≡ min (t + slip) CAP)
 
 -- the run may have this outcome next
-abbrev pub Finishes : State → Outcome → Type 0
-Finishes s Outcome.Exit = s.ending ≡ Ending.MainEnded
+abbrev pub Finishes : Script → Limits → State → Outcome → Type 0
+Finishes script limits s Outcome.Exit = s.ending ≡ Ending.MainEnded
 
 -- the run goes on: it has not ended, and its limit is not reached
 pub record IsRunning (limits : Limits) (s : State) : Type 0 where
@@ -34,5 +34,5 @@ pub record IsRunning (limits : Limits) (s : State) : Type 0 where
 
 -- the entry is legal
 abbrev pub Legal : Script → Limits → State → Entry → Type 0
-Legal script limits s (Entry.Finish outcome) = Finishes s outcome
+Legal script limits s (Entry.Finish outcome) = Finishes script limits s outcome
 Legal script limits s e = IsRunning limits s × May script s e

@@ -6,7 +6,7 @@ use Rattle.gt_model.specs.declared.script.Script.{Script}
 use Rattle.gt_model.specs.declared.script.Instr.{Instr}
 use Rattle.gt_model.specs.declared.state.Goroutine.{Goroutine}
 use Rattle.gt_model.specs.declared.state.Mode.{Mode}
-use Rattle.gt_model.specs.State.{State, stands, clock}
+use Rattle.gt_model.specs.State.{State, instr_at, clock}
 
 -- whether a goroutine could go on that stands at this instruction
 abbrev pub is_ready_instr : Instr → Bool
@@ -15,7 +15,7 @@ is_ready_instr (Instr.Sleep d) = true
 is_ready_instr Instr.Finish = true
 
 abbrev pub is_ready_in : Script → State → Goroutine → Mode → Bool
-is_ready_in script s r Mode.At = elim (stands script r) [ None ↦ false | Some i ↦ is_ready_instr i ]
+is_ready_in script s r Mode.At = elim (instr_at script r.place) [ None ↦ false | Some i ↦ is_ready_instr i ]
 is_ready_in script s r (Mode.Sleeping until) = nat_le until (clock s r.world)
 is_ready_in script s r Mode.Ended = false
 

@@ -17,8 +17,8 @@ Judged script limits s n [] Verdict.Legal = IsTrue (is_over s)
 Judged script limits s n [] Verdict.Unfinished = IsTrue (not (is_over s))
 Judged script limits s n [] (Verdict.Illegal entry) = ⊥
 Judged script limits s n (e ∷ h) (Verdict.Illegal entry) =
-    MatchBool (entry == n) (¬ Legal script limits s e) (Legal script limits s e × Judged script limits (after s e) (n + 1) h (Verdict.Illegal entry))
-Judged script limits s n (e ∷ h) verdict = Legal script limits s e × Judged script limits (after s e) (n + 1) h verdict
+    MatchBool (entry == n) (¬ Legal script limits s e) (Legal script limits s e × Judged script limits (after script s e) (n + 1) h (Verdict.Illegal entry))
+Judged script limits s n (e ∷ h) verdict = Legal script limits s e × Judged script limits (after script s e) (n + 1) h verdict
 
 -- the verdict on a list of entries
 abbrev pub IsVerdict : Script → Limits → List Entry → Verdict → Type 0

@@ -1,0 +1,23 @@
+-- A history with one more entry.
+use Rattle.std.proofs.Common.{◌≡◌, ℕ, List, [], ◌∷◌, ◌++◌, refl}
+use Rattle.gt_model.specs.declared.script.Script.{Script}
+use Rattle.gt_model.specs.declared.entry.Entry.{Entry}
+use Rattle.gt_model.specs.declared.entry.Limits.{Limits}
+use Rattle.gt_model.specs.State.{State}
+use Rattle.gt_model.specs.After.{after}
+use Rattle.gt_model.specs.Finish.{Legal}
+use Rattle.gt_model.specs.History.{AllLegal, AllJump, ClockJumps, state_after}
+
+pub state_after-append : (script : Script) (s : State) (h : List Entry) (e : Entry) → state_after script s (h ++ e ∷ []) ≡ after script (state_after script s h) e
+state_after-append script s [] e = refl
+state_after-append script s (x ∷ h) e = state_after-append script (after script s x) h e
+
+pub AllLegal-append : (script : Script) (limits : Limits) (s : State) (h : List Entry) (e : Entry)
+    → AllLegal script limits s h → Legal script limits (state_after script s h) e → AllLegal script limits s (h ++ e ∷ [])
+AllLegal-append script limits s [] e all next = (next, tt)
+AllLegal-append script limits s (x ∷ h) e all next = (all.0, AllLegal-append script limits (after script s x) h e all.1 next)
+
+pub AllJump-append : (script : Script) (slip : ℕ) (s : State) (h : List Entry) (e : Entry)
+    → AllJump script slip s h → ClockJumps script slip (state_after script s h) e → AllJump script slip s (h ++ e ∷ [])
+AllJump-append script slip s [] e all next = (next, tt)
+AllJump-append script slip s (x ∷ h) e all next = (all.0, AllJump-append script slip (after script s x) h e all.1 next)
