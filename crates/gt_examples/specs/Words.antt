@@ -1,0 +1,19 @@
+-- Short words for the scripts of worked examples.
+use Rattle.std.specs.Prelude.{ℕ, List, [], ◌∷◌, codes}
+use Rattle.gt_model.specs.declared.script.Script.{Script}
+use Rattle.gt_model.specs.declared.script.Decl.{Decl}
+use Rattle.gt_model.specs.declared.script.Func.{Func}
+use Rattle.gt_model.specs.declared.script.What.{What}
+use Rattle.gt_model.specs.declared.script.Instr.{Instr}
+use Rattle.gt_model.specs.declared.entry.Limits.{Limits}
+
+-- a script whose only function is main, with this code
+abbrev pub main_alone : List Instr → Script
+main_alone code = record {
+  decls = (record { name = codes "main"; what = What.Function }) ∷ [];
+  funcs = (record { decl = 0; code = code }) ∷ [];
+  main = 0;
+}
+
+abbrev pub default_limits : Limits
+default_limits = record { entries = 10000 }
