@@ -1,5 +1,5 @@
 -- The test of an idle state is right: where no goroutine is ready, nothing may come next but a move of the program's clock.
-use Rattle.std.proofs.Common.{◌≡◌, ℕ, zero, suc, ◌≤◌, List, [], ◌∷◌, refl, sym, ap, subst, arith, slice_get, Option, None, Some, Bool, true, false, not, ◌&&◌, IsSomeAnd, nat_le}
+use Rattle.std.proofs.Common.{◌≡◌, ℕ, zero, suc, ◌≤◌, List, [], ◌∷◌, refl, sym, subst, slice_get, Option, None, Some, Bool, true, false, not, IsSomeAnd}
 use Rattle.std.specs.List.{list_all}
 use Rattle.std.specs.Option.{option_map}
 use Rattle.std.proofs.lemmas.Bool.{and_parts, le-leb}
@@ -9,10 +9,9 @@ use Rattle.gt_model.specs.declared.entry.Entry.{Entry}
 use Rattle.gt_model.specs.declared.state.Goroutine.{Goroutine}
 use Rattle.gt_model.specs.declared.state.Mode.{Mode}
 use Rattle.gt_model.specs.Tables.{numbered}
-use Rattle.gt_model.specs.State.{State, goroutine_at, stands, stands_at, instr_at, until_of, mode_of, sleeps_until, clock, clock_of, world_of}
+use Rattle.gt_model.specs.State.{State, goroutine_at, stands, stands_at, instr_at, until_of, sleeps_until, clock, clock_of}
 use Rattle.gt_model.specs.Ready.{is_ready, is_ready_in, is_ready_instr, is_idle}
-use Rattle.gt_model.specs.Legal.{May, Does}
-use Rattle.gt_model.specs.Finish.{IsIdle, IsProgramClock}
+use Rattle.gt_model.specs.Finish.{IsIdle}
 
 -- what holds of each item of a list holds of one
 all_at : {X : Type 0} (p : X → Bool) (xs : List X) (i : ℕ) (x : X) → slice_get xs i ≡ Some x → list_all p xs ≡ true → p x ≡ true
@@ -64,8 +63,8 @@ nobody_wakes : (script : Script) (s : State) (g : ℕ) → is_idle script s ≡ 
 nobody_wakes script s g idle h =
     elim (goroutine_at s g)
     as (λ o. goroutine_at s g ≡ o
-        → IsSomeAnd (elim (option_map (λ (r : Goroutine). r.mode) o) [ None ↦ None | Some mode ↦ until_of mode ]) (λ until. until ≤ clock s (elim o [ None ↦ 0 | Some r ↦ r.world ]))
-        → ⊥) [
+    → IsSomeAnd (elim (option_map (λ (r : Goroutine). r.mode) o) [ None ↦ None | Some mode ↦ until_of mode ]) (λ until. until ≤ clock s (elim o [ None ↦ 0 | Some r ↦ r.world ]))
+    → ⊥) [
       | None ↦ λ p k. k
       | Some r ↦ λ p k. not_both (is_ready script s r) (all_numbered (λ (r : Goroutine). not (is_ready script s r)) s.goroutines g r p idle) (sleeper_ready script s r k)
     ] refl h

@@ -1,3 +1,4 @@
 pub mod Tables
 pub mod Histories
 pub mod Idle
+pub mod GoodCode

@@ -1,5 +1,5 @@
 -- A change at a place is a write there.
-use Rattle.std.proofs.Common.{◌≡◌, ℕ, zero, suc, ◌-◌, List, [], ◌∷◌, refl, ap, set, slice_get, get_or, Option, None, Some, sub-one, IsSomeAnd}
+use Rattle.std.proofs.Common.{◌≡◌, ℕ, zero, suc, ◌-◌, List, [], ◌∷◌, ap, set, slice_get, Some, sub-one}
 use Rattle.gt_model.specs.Tables.{numbered, change, change_numbered}
 
 pub change-set : {X : Type 0} (xs : List X) (i : ℕ) (f : X → X) (x : X) → slice_get xs i ≡ Some x → change xs i f ≡ set xs i (f x)

@@ -1,0 +1,13 @@
+use Rattle.std.proofs.Common.{◌+◌, arith}
+use Rattle.gt_top.proofs.Steps.{wakes}
+use Rattle.gt_top.proofs.runner.wake.Goals as goal
+
+pub returns : goal.returns
+returns c =
+    let was = c.requires.asleep in
+    record {
+      entries = was.entries + 1;
+      few = omega arith;
+      time = rw c.in_ok-push.ensures.clock was.time;
+      reached = rw (c.in_ok-push.ensures.history, c.in_ok-push.ensures.clock) (wakes _ _ _ _ _ _ was.reached c.requires.due (omega arith));
+    }
