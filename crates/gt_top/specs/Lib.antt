@@ -1,1 +1,4 @@
 pub mod Run
+pub mod Words
+pub mod Call
+pub mod Answer

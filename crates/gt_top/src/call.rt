@@ -1,0 +1,105 @@
+//! The top call.
+
+ghost use Rattle.std.specs.Prelude.{◌≡◌, ℕ, IfOk, IfErr, map, string_bytes};
+ghost use Rattle.gt_model.specs.Good.{IsGood};
+ghost use Rattle.gt_script.specs.Grammar.{Spells};
+ghost use Rattle.gt_top.specs.Call.{call_of, source_state, sink_state, ReadsAll};
+ghost use Rattle.gt_top.specs.Answer.{Answers, Simulates, IsAccepted, IsDoneOrNoMemory, ReadsNot, SpellsNot, Prints};
+
+use crate::runner::run_script;
+use crate::status::Status;
+use crate::words::{Order, read_words};
+use gt_io::{ReadError, Sink, Source, read_to_limit};
+use gt_model::{Outcome, Script};
+use gt_script::{Why, read_script};
+use gt_trace::write_trace;
+use std::alloc::Global;
+
+/// The most bytes that an input may have: 64 MiB.
+pub const INPUT_LIMIT: usize = 67_108_864;
+
+/// Does what the words ask for: reads its input from the source, writes its output to the sink, and always returns.
+///
+/// What it writes for `sim` is the trace of one complete history of the script that it read.
+pub fn calm<S: Source, K: Sink>(
+    alloc: Global,
+    words: &[String],
+    source: &mut S,
+    sink: &mut K,
+) -> Status
+    // The status says what was read and written.
+    ensures answer { Answers (map string_bytes words.now)
+        (call_of S.left S.faults S.given K.written K.faults source.old source.new sink.old sink.new) result }
+
+    // Good input is answered, unless a read, a write or memory failed.
+    ensures complete { IsAccepted (map string_bytes words.now)
+        (call_of S.left S.faults S.given K.written K.faults source.old source.new sink.old sink.new)
+        → IsDoneOrNoMemory result }
+{
+    match read_words(words) {
+        Ok(Order::Sim) => simulate(alloc, source, sink),
+        Err(fault) => Status::Usage(fault),
+    }
+}
+
+/// Reads a script, runs it, and writes its trace.
+fn simulate<S: Source, K: Sink>(alloc: Global, source: &mut S, sink: &mut K) -> Status
+    ensures { Simulates
+        (call_of S.left S.faults S.given K.written K.faults source.old source.new sink.old sink.new) result }
+{
+    let bytes = match read_input(alloc, source) {
+        Ok(bytes) => bytes,
+        Err(status) => return status,
+    };
+    let script = match spelled_script(alloc, bytes) {
+        Ok(script) => script,
+        Err(status) => return status,
+    };
+    print_run(alloc, &script, sink)
+}
+
+/// All that the source has, or the status of a refusal.
+fn read_input<S: Source>(alloc: Global, source: &mut S) -> Result<Vec<u8>, Status>
+    ensures all { IfOk result (λ bytes. ReadsAll (source_state S.left S.faults S.given source.old)
+        (source_state S.left S.faults S.given source.new) bytes.items) }
+    ensures refused { IfErr result (ReadsNot (source_state S.left S.faults S.given source.old)
+        (source_state S.left S.faults S.given source.new)) }
+{
+    match read_to_limit(alloc, source, INPUT_LIMIT) {
+        Ok(bytes) => Ok(bytes),
+        Err(ReadError::Failed) => Err(Status::ReadFault),
+        Err(ReadError::TooLong) => Err(Status::TooLong {
+            limit: INPUT_LIMIT as u64,
+        }),
+        Err(ReadError::NoMemory) => Err(Status::NoMemory),
+    }
+}
+
+/// The script that the bytes spell, or the status of a refusal. The bytes are let go.
+fn spelled_script(alloc: Global, bytes: Vec<u8>) -> Result<Script, Status>
+    ensures spelled { IfOk result (λ script. Spells bytes.items script) }
+    ensures good { IfOk result (λ script. IsGood script) }
+    ensures refused { IfErr result (SpellsNot bytes.items) }
+{
+    match read_script(alloc, bytes.as_slice()) {
+        Ok(script) => Ok(script),
+        Err(fault) => match fault.why {
+            Why::NoMemory => Err(Status::NoMemory),
+            _ => Err(Status::BadScript(fault)),
+        },
+    }
+}
+
+/// Runs a script, and then writes the trace of its history.
+fn print_run<K: Sink>(alloc: Global, script: &Script, sink: &mut K) -> Status
+    requires { IsGood script.now }
+    ensures { Prints script.now (sink_state K.written K.faults sink.old) (sink_state K.written K.faults sink.new) result }
+{
+    let Ok(history) = run_script(alloc, script) else {
+        return Status::NoMemory;
+    };
+    match write_trace(sink, script, history.as_slice()) {
+        Ok(()) => Status::Done(Outcome::Exit),
+        Err(_) => Status::WriteFault,
+    }
+}

@@ -1,0 +1,9 @@
+use Rattle.std.proofs.Common.{rules}
+use Rattle.gt_trace.specs.Text.{line_of}
+use Rattle.gt_trace.proofs.Fronts.{front_of_pieces}
+use Rattle.gt_trace.proofs.print.write_trace.Goals as goal
+
+pub returns-in_err-write_line-clause-front : goal.returns-in_err-write_line-clause-front
+returns-in_err-write_line-clause-front g c =
+    let front = front_of_pieces (line_of c.args.script.now) c.args.entries.now c.loop-entry.entry-index _ _ _ _ (search rules) c.loop-entry.invariant.0 c.in_err-write_line.ensures.front in
+    search rules

@@ -1,0 +1,11 @@
+//! Prints a history: a line of text for each entry.
+#![tactic(auto)]
+
+mod entries;
+mod line;
+mod print;
+
+pub use print::{write_line, write_trace};
+
+#[cfg(test)]
+mod tests;

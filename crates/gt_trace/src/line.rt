@@ -1,0 +1,61 @@
+// A line as it is built, a word after another.
+ghost use Rattle.std.specs.Prelude.{◌≡◌, ◌+◌, ◌≤◌, ◌∷◌, ◌++◌, length, decimal};
+ghost use Rattle.arrayvec.specs.ArrayVec.{array_vec_len};
+ghost use Rattle.gt_trace.specs.Text.{space, goroutine_word, time_word};
+
+use arrayvec::ArrayVec;
+use itoa::Buffer;
+
+/// The room of a line, in bytes. A number has at most 20 digits and a name at most 32 bytes, so each line fits.
+pub const LINE_ROOM: usize = 160;
+
+/// The bytes of a line.
+pub type Line = ArrayVec<u8, LINE_ROOM>;
+
+/// Appends these bytes.
+pub fn push_bytes(line: &mut Line, bytes: &[u8])
+    requires { array_vec_len line.old + length bytes.now ≤ LINE_ROOM }
+    ensures { line.new.items ≡ line.old.items ++ bytes.now }
+{
+    line.try_extend_from_slice(bytes).unwrap();
+}
+
+/// Appends a space and a word.
+pub fn push_word(line: &mut Line, word: &[u8])
+    requires { array_vec_len line.old + length word.now + 1 ≤ LINE_ROOM }
+    ensures { line.new.items ≡ line.old.items ++ space ∷ word.now }
+{
+    line.push(b' ');
+    push_bytes(line, word);
+}
+
+/// Appends a space and a number.
+pub fn push_number(line: &mut Line, number: u64)
+    requires { array_vec_len line.old + 21 ≤ LINE_ROOM }
+    ensures appended { line.new.items ≡ line.old.items ++ space ∷ decimal number }
+    ensures short { array_vec_len line.new ≤ array_vec_len line.old + 21 }
+{
+    push_word(line, Buffer::new().format(number).as_bytes());
+}
+
+/// Appends a space and a goroutine.
+pub fn push_goroutine(line: &mut Line, g: u32)
+    requires { array_vec_len line.old + 12 ≤ LINE_ROOM }
+    ensures appended { line.new.items ≡ line.old.items ++ space ∷ goroutine_word g }
+    ensures short { array_vec_len line.new ≤ array_vec_len line.old + 12 }
+{
+    push_word(line, b"g");
+    push_bytes(line, Buffer::new().format(g).as_bytes());
+}
+
+/// Appends a space and a time, or `-` where there is none.
+pub fn push_time(line: &mut Line, time: Option<u64>)
+    requires { array_vec_len line.old + 21 ≤ LINE_ROOM }
+    ensures appended { line.new.items ≡ line.old.items ++ space ∷ time_word time }
+    ensures short { array_vec_len line.new ≤ array_vec_len line.old + 21 }
+{
+    match time {
+        Some(time) => push_number(line, time),
+        None => push_word(line, b"-"),
+    }
+}
