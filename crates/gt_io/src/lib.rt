@@ -18,5 +18,8 @@ pub struct Failed;
 #[derive(Clone, Copy, Debug, PartialEq, Eq)]
 pub struct NoMemory;
 
+// How often a call that a signal interrupts is tried, before that is a fault.
+const TRIES: u32 = 64;
+
 #[cfg(test)]
 mod tests;

@@ -4,7 +4,7 @@ ghost use Rattle.gt_io.specs.Counts.{Rose};
 ghost use Rattle.gt_io.specs.Bytes.{Appended};
 ghost use Rattle.gt_io.specs.Sure.{told};
 
-use crate::{Failed, NoMemory};
+use crate::{Failed, NoMemory, TRIES};
 use std::alloc::Global;
 use std::io::{ErrorKind, Write};
 use std::marker::Model;
@@ -99,7 +99,8 @@ impl Sink for SureSink {
     }
 }
 
-/// A writer, as standard output is one, as a sink. It tells nothing of its bytes.
+/// A writer, as standard output is one, as a sink. It holds no bytes back and tells nothing of them. A
+/// write that a signal interrupts is tried again, and is a fault after 64 tries.
 #[derive(Drop)]
 pub struct StdSink<W> {
     writer: W,
@@ -131,9 +132,6 @@ impl<W: Write> Sink for StdSink<W> {
         count.ok_or(Failed)
     }
 }
-
-// How often a write that a signal interrupts is tried.
-const TRIES: u32 = 64;
 
 // One write, tried again where a signal interrupted it, or nothing where it failed.
 fn write_uninterrupted<W: Write>(writer: &mut W, bytes: &[u8]) -> Option<usize>

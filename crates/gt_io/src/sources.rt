@@ -3,7 +3,7 @@ ghost use Rattle.std.specs.Prelude.{◌≡◌, ℕ, ◌+◌, ◌<◌, ◌≤◌,
 ghost use Rattle.gt_io.specs.Counts.{Rose, RoseBy};
 ghost use Rattle.gt_io.specs.Bytes.{Taken};
 
-use crate::Failed;
+use crate::{Failed, TRIES};
 use std::io::{ErrorKind, Read};
 use std::marker::Model;
 
@@ -84,7 +84,8 @@ impl Source for SureSource {
     }
 }
 
-/// A reader, as standard input is one, as a source. It tells nothing of its bytes.
+/// A reader, as standard input is one, as a source. It tells nothing of its bytes. A read that a signal
+/// interrupts is tried again, and is a fault after 64 tries.
 #[derive(Drop)]
 pub struct StdSource<R> {
     reader: R,
@@ -126,9 +127,6 @@ impl<R: Read> Source for StdSource<R> {
         }
     }
 }
-
-// How often a read that a signal interrupts is tried.
-const TRIES: u32 = 64;
 
 // One read, tried again where a signal interrupted it, or nothing where it failed.
 fn read_uninterrupted<R: Read>(reader: &mut R, into: &mut [u8]) -> Option<usize>

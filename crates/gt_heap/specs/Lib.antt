@@ -1,0 +1,5 @@
+pub mod Tree
+pub mod Contents
+pub mod Order
+pub mod Lending
+pub mod Sifting

@@ -1,0 +1,4 @@
+pub mod DurationLemmas
+pub mod GoodLemmas
+pub mod LineLemmas
+pub mod ReadingLemmas

@@ -1,0 +1,53 @@
+//! Why a text is no script.
+
+/// A refusal: the first faulty line, and the first cause on it in the order of [`Why`].
+#[derive(Clone, Copy, Debug, PartialEq, Eq)]
+pub struct ScriptFault {
+    /// The line, counted from 1, skipped lines included; 0 where memory ran out.
+    pub line: u32,
+    pub why: Why,
+}
+
+impl ScriptFault {
+    ghost use Rattle.std.specs.Prelude.{◌≡◌, ◌<◌, ◌↔◌};
+    ghost use Rattle.gt_script.specs.declared.fault.Why.{Why};
+
+    /// This cause on this line.
+    pub(crate) fn new(line: u32, why: Why) -> ScriptFault
+        requires { 0 < line }
+        ensures why { result.why ≡ why }
+        ensures line { (result.line ≡ 0) ↔ (why ≡ Why.NoMemory) }
+    {
+        match why {
+            Why::NoMemory => ScriptFault { line: 0, why },
+            _ => ScriptFault { line, why },
+        }
+    }
+}
+
+/// The causes of a refusal, in the order in which they count on one line.
+#[derive(Clone, Copy, Debug, PartialEq, Eq)]
+pub enum Why {
+    /// The line holds the first byte at which the text is not UTF-8.
+    Utf8,
+    /// The first line with words is not `gotime script 1`.
+    Head,
+    /// The first word is unknown or cannot stand here, or the number of words is wrong.
+    Word,
+    /// A name is spelled wrongly.
+    Name,
+    /// The name was declared on an earlier line.
+    Twice,
+    /// The script ends inside a function.
+    Missing,
+    /// A duration is spelled wrongly or out of range.
+    Number,
+    /// An `end` without its function.
+    Nest,
+    /// The line brings the instructions above 1,000.
+    Many,
+    /// There is no function `main`.
+    NoMain,
+    /// Memory ran out.
+    NoMemory,
+}
