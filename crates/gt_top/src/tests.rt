@@ -58,9 +58,21 @@ fn refusals_write_nothing(rt: HostRuntime) -> Result<(), Fail> {
             bad(4, Why::Missing),
         ),
         ([].as_slice(), good, Status::Usage(WordFault::Command)),
-        (["simulate"].as_slice(), good, Status::Usage(WordFault::Command)),
-        (["", "sim"].as_slice(), good, Status::Usage(WordFault::Command)),
-        (["sim", "-p"].as_slice(), good, Status::Usage(WordFault::Form)),
+        (
+            ["simulate"].as_slice(),
+            good,
+            Status::Usage(WordFault::Command),
+        ),
+        (
+            ["", "sim"].as_slice(),
+            good,
+            Status::Usage(WordFault::Command),
+        ),
+        (
+            ["sim", "-p"].as_slice(),
+            good,
+            Status::Usage(WordFault::Form),
+        ),
     ];
     for (words, input, want) in table {
         let (status, written) = answer(rt.alloc(), words, input)?;
