@@ -1,8 +1,8 @@
 -- How the first line and the first word are taken off.
-use Rattle.std.proofs.Common.{◌≡◌, ◌==◌, ℕ, zero, suc, ◌+◌, ◌-◌, ◌<◌, ◌≤◌, Bool, true, false, not, cond, List, [], ◌∷◌, length, get_or, take, drop, position, Option, Some, None, filter, refl, sym, ap, ◌∙◌, eqb, arith, length-drop, drop-cons, add-one, add-zero}
+use Rattle.std.proofs.Common.{◌≡◌, ◌==◌, ℕ, zero, suc, ◌+◌, ◌-◌, ◌<◌, ◌≤◌, Bool, true, false, not, cond, List, [], ◌∷◌, length, get_or, take, drop, position, Some, None, filter, refl, sym, ap, ◌∙◌, eqb, arith, length-drop, drop-cons, add-one, add-zero}
 use Rattle.std.specs.List.{slice_split, position_or_len, All}
 use Rattle.std.specs.Str.Lines.{lines, lines_of_parts, strip_carriage_return}
-use Rattle.std.proofs.lemmas.Bool.{ltb-true, ltb-false, ne_eqb, eqb-false}
+use Rattle.std.proofs.lemmas.Bool.{ltb-false, ne_eqb, eqb-false}
 use Rattle.std.proofs.lemmas.List.{get_or-drop, take_all, drop_all, length-take-le}
 use Rattle.std.proofs.lemmas.List.Quantifiers.{position-Some}
 use Rattle.std.proofs.lemmas.List.Sums.{position_or_len_is, fails_before_first}

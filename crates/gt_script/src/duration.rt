@@ -1,9 +1,9 @@
 //! Durations.
 
-ghost use Rattle.std.specs.Prelude.{◌≡◌, ◌+◌, ◌-◌, ◌*◌, ◌^◌, ◌<◌, ℕ, min, not, IsTrue, length, position};
+ghost use Rattle.std.specs.Prelude.{◌≡◌, ◌-◌, ◌^◌, min, not, IsTrue, position};
 ghost use Rattle.std.specs.List.{All};
 ghost use Rattle.gt_model.specs.Good.{is_digit};
-ghost use Rattle.gt_script.specs.Duration.{value_of, capped, milliseconds, duration_of};
+ghost use Rattle.gt_script.specs.Duration.{value_of, milliseconds, duration_of};
 
 use crate::lines::is_text;
 use gt_model::CAP;

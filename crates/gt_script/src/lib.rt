@@ -12,3 +12,6 @@ mod stage;
 
 pub use fault::{ScriptFault, Why};
 pub use read::read_script;
+
+#[cfg(test)]
+mod tests;

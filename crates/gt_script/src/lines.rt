@@ -1,10 +1,10 @@
 //! The lines of a text, and the words of a line.
 
-ghost use Rattle.std.specs.Prelude.{◌≡◌, ◌==◌, ◌+◌, ◌<◌, ◌≤◌, List, ℕ, [], ◌∷◌, length, position, not, IfSome, MatchOption};
+ghost use Rattle.std.specs.Prelude.{◌≡◌, ◌==◌, ◌<◌, ◌≤◌, [], ◌∷◌, length, position, not, IfSome, MatchOption};
 ghost use Rattle.std.specs.Option.{option_copied};
 ghost use Rattle.std.specs.Str.{bytes_eq};
 ghost use Rattle.std.specs.Str.Lines.{lines, strip_carriage_return};
-ghost use Rattle.gt_script.specs.Words.{is_blank, words_of, is_comment, is_significant, significant_lines, only_word};
+ghost use Rattle.gt_script.specs.Words.{is_blank, words_of, is_comment, significant_lines, only_word};
 
 /// A line that counts: one with words that is no comment.
 #[derive(Clone, Copy)]

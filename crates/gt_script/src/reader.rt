@@ -134,7 +134,6 @@ pub(crate) struct Reader {
 }
 
 impl Reader {
-    ghost use Rattle.std.specs.Prelude.{[], IfErr};
     ghost use Rattle.gt_script.specs.declared.fault.Why.{Why};
     ghost use Rattle.gt_script.specs.declared.stage.Stage.{Stage};
     ghost use Rattle.gt_script.specs.Reading.{Reads, Refuses, script_left};

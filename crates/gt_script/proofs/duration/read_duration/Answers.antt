@@ -1,4 +1,4 @@
-use Rattle.std.proofs.Common.{◌≡◌, ◌<◌, ℕ, length, get_or, sym, arith}
+use Rattle.std.proofs.Common.{sym}
 use Rattle.gt_script.proofs.DurationLemmas.{digits-front}
 use Rattle.gt_script.proofs.duration.read_duration.Goals as goal
 

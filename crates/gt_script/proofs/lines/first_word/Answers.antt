@@ -1,7 +1,4 @@
-use Rattle.std.proofs.Common.{◌≡◌, ◌<◌, ◌∷◌, List, ℕ, Bool, not, length, drop, take, position, Option, Some, None, sym, ◌∙◌, arith}
-use Rattle.std.proofs.lemmas.List.{drop_all}
-use Rattle.std.proofs.lemmas.List.Quantifiers.{position-Some}
-use Rattle.gt_script.specs.Words.{is_blank, words_of}
+use Rattle.std.proofs.Common.{sym}
 use Rattle.gt_script.proofs.LineLemmas.{first-is_last, first-is_cut, words_of-None}
 use Rattle.gt_script.proofs.lines.first_word.Goals as goal
 

@@ -1,4 +1,4 @@
-use Rattle.std.proofs.Common.{◌≤◌, ◌<◌, length}
+use Rattle.std.proofs.Common.{◌≤◌, ◌<◌}
 use Rattle.gt_script.proofs.read.line_at.Given as goal
 
 abbrev pub invariant-loop-i : goal.invariant-loop-i

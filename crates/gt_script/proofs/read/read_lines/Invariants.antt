@@ -1,4 +1,4 @@
-use Rattle.std.proofs.Common.{◌≡◌, ◌≤◌, ◌<◌, length}
+use Rattle.std.proofs.Common.{◌≡◌, ◌<◌, length}
 use Rattle.gt_script.specs.Words.{significant_lines}
 use Rattle.gt_script.specs.Grammar.{script_of_lines}
 use Rattle.gt_script.specs.Reading.{script_left}

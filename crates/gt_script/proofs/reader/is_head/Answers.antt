@@ -1,4 +1,4 @@
-use Rattle.std.proofs.Common.{◌≡◌, sym, ◌∙◌, arith}
+use Rattle.std.proofs.Common.{sym, arith}
 use Rattle.std.proofs.lemmas.Grind.{common_steps}
 use Rattle.gt_script.proofs.ReadingLemmas.{is_head-words}
 use Rattle.gt_script.proofs.reader.is_head.Goals as goal

@@ -1,4 +1,4 @@
-use Rattle.std.proofs.Common.{◌≡◌, ◌∷◌, Some, sym, ap, ◌∙◌}
+use Rattle.std.proofs.Common.{◌∷◌, Some, sym, ap, ◌∙◌}
 use Rattle.gt_script.specs.Words.{words_of}
 use Rattle.gt_script.proofs.ReadingLemmas.{added-taken, added-refused}
 use Rattle.gt_script.proofs.reader.Reader.take_inside.Goals as goal
