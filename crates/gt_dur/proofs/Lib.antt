@@ -1,0 +1,5 @@
+pub mod Runs
+pub mod Sums
+pub mod Progress
+pub mod Reading
+pub mod Splitting

@@ -1,0 +1,11 @@
+//! Duration texts, such as `1h30m` or `250ms`.
+#![tactic(auto)]
+
+mod fault;
+mod pairs;
+mod read;
+#[cfg(test)]
+mod tests;
+
+pub use fault::DurFault;
+pub use read::read_dur;

@@ -1,0 +1,6 @@
+pub mod Members
+pub mod Rings
+pub mod Paths
+pub mod Waiting
+pub mod Changes
+pub mod Callers
