@@ -1,0 +1,26 @@
+//! Why the program counted nothing.
+
+ghost use Rattle.std.specs.Prelude.{◌≡◌};
+ghost use Rattle.gt_heap_bench.specs.Exit.{exit_of};
+
+/// Why nothing was counted.
+#[derive(Clone, Copy)]
+pub enum Fault {
+    /// The words mean no task.
+    Usage,
+    /// No memory was left.
+    NoMemory,
+    /// The length was not printed.
+    Write,
+}
+
+/// The exit status of a fault.
+pub fn exit_status(fault: Fault) -> u8
+    ensures { result ≡ exit_of fault }
+{
+    match fault {
+        Fault::Usage => 64,
+        Fault::NoMemory => 71,
+        Fault::Write => 74,
+    }
+}
