@@ -1,3 +1,13 @@
 pub mod Words
 pub mod Sleeps
 pub mod Ends
+pub mod Stops
+pub mod Receives
+pub mod Resets
+pub mod Caps
+pub mod Fires
+pub mod Panics
+pub mod PanicsTwice
+pub mod Deadlocks
+pub mod Starts
+pub mod Limited

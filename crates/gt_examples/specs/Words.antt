@@ -1,11 +1,10 @@
 -- Short words for the scripts of worked examples.
 use Rattle.std.specs.Prelude.{ℕ, List, [], ◌∷◌, codes}
 use Rattle.gt_model.specs.declared.script.Script.{Script}
-use Rattle.gt_model.specs.declared.script.Decl.{Decl}
-use Rattle.gt_model.specs.declared.script.Func.{Func}
 use Rattle.gt_model.specs.declared.script.What.{What}
 use Rattle.gt_model.specs.declared.script.Instr.{Instr}
 use Rattle.gt_model.specs.declared.entry.Limits.{Limits}
+use Rattle.gt_model.specs.declared.entry.Party.{Party}
 
 -- a script whose only function is main, with this code
 abbrev pub main_alone : List Instr → Script
@@ -14,6 +13,10 @@ main_alone code = record {
   funcs = (record { decl = 0; code = code }) ∷ [];
   main = 0;
 }
+
+-- a goroutine at a plain instruction
+abbrev pub plainly : ℕ → Party
+plainly g = record { g = g; case_no = 0 }
 
 abbrev pub default_limits : Limits
 default_limits = record { entries = 10000 }

@@ -9,6 +9,16 @@ ghost use Rattle.gt_model.specs.declared.entry.Verdict.{Verdict};
 ghost use Rattle.gt_examples.specs.Words.{default_limits};
 ghost use Rattle.gt_examples.specs.Sleeps as sleeps;
 ghost use Rattle.gt_examples.specs.Ends as ends;
+ghost use Rattle.gt_examples.specs.Stops as stops;
+ghost use Rattle.gt_examples.specs.Receives as receives;
+ghost use Rattle.gt_examples.specs.Resets as resets;
+ghost use Rattle.gt_examples.specs.Caps as caps;
+ghost use Rattle.gt_examples.specs.Fires as fires;
+ghost use Rattle.gt_examples.specs.Panics as panics;
+ghost use Rattle.gt_examples.specs.PanicsTwice as panics_twice;
+ghost use Rattle.gt_examples.specs.Deadlocks as deadlocks;
+ghost use Rattle.gt_examples.specs.Starts as starts;
+ghost use Rattle.gt_examples.specs.Limited as limited;
 
 /// main sleeps for 5 ms and looks at the clock.
 pub fn sleeps_and_looks()
@@ -39,4 +49,104 @@ pub fn looks_wrongly()
 /// Each entry is legal, and the end of the run is missing.
 pub fn without_end()
     ensures { IsVerdict sleeps.script default_limits sleeps.cut_short Verdict.Unfinished }
+{}
+
+/// A timer that is due and of which nobody has received is stopped: it was set.
+pub fn stops()
+    ensures history { History stops.script default_limits stops.history Outcome.Exit }
+    ensures jumps { AllJump stops.script 0 (first_state stops.script) stops.history }
+{}
+
+/// A receive waits for its timer; after it the timer is not set.
+pub fn receives()
+    ensures history { History receives.script default_limits receives.history Outcome.Exit }
+    ensures jumps { AllJump receives.script 0 (first_state receives.script) receives.history }
+{}
+
+/// A reset ends the setting before it: its value is not received.
+pub fn resets()
+    ensures history { History resets.script default_limits resets.history Outcome.Exit }
+    ensures jumps { AllJump resets.script 0 (first_state resets.script) resets.history }
+{}
+
+/// A due time past the greatest time stands at it.
+pub fn caps()
+    ensures history { History caps.script default_limits caps.history Outcome.Exit }
+    ensures jumps { AllJump caps.script 0 (first_state caps.script) caps.history }
+{}
+
+/// An AfterFunc timer starts its function.
+pub fn fires()
+    ensures history { History fires.script default_limits fires.history Outcome.Exit }
+    ensures jumps { AllJump fires.script 0 (first_state fires.script) fires.history }
+{}
+
+/// A timer that was not made is stopped.
+pub fn panics()
+    ensures history { History panics.script default_limits panics.history Outcome.Panic }
+    ensures jumps { AllJump panics.script 0 (first_state panics.script) panics.history }
+{}
+
+/// A timer is made twice.
+pub fn panics_twice()
+    ensures history { History panics_twice.script default_limits panics_twice.history Outcome.Panic }
+    ensures jumps { AllJump panics_twice.script 0 (first_state panics_twice.script) panics_twice.history }
+{}
+
+/// A receive from a timer that was stopped waits for ever.
+pub fn deadlocks()
+    ensures history { History deadlocks.script default_limits deadlocks.history Outcome.Deadlock }
+    ensures jumps { AllJump deadlocks.script 0 (first_state deadlocks.script) deadlocks.history }
+{}
+
+/// A goroutine is started, and runs while main sleeps.
+pub fn starts()
+    ensures history { History starts.script default_limits starts.history Outcome.Exit }
+    ensures jumps { AllJump starts.script 0 (first_state starts.script) starts.history }
+{}
+
+/// Stop answers that a timer that is set is not.
+pub fn stop_answers_wrongly()
+    ensures { IsVerdict stops.script default_limits stops.denies (Verdict.Illegal 5) }
+{}
+
+/// A receive before its timer is due.
+pub fn receives_early()
+    ensures { IsVerdict receives.script default_limits receives.early (Verdict.Illegal 2) }
+{}
+
+/// A reset that keeps the due time of the setting before it.
+pub fn reset_keeps_the_old_time()
+    ensures { IsVerdict resets.script default_limits resets.keeps_the_old_time (Verdict.Illegal 5) }
+{}
+
+/// A deadlock while a sleep and an AfterFunc timer are still to come.
+pub fn deadlock_while_set()
+    ensures { IsVerdict fires.script default_limits fires.deadlock_while_set (Verdict.Illegal 3) }
+{}
+
+/// Stop answers for a timer that was not made.
+pub fn answers_for_an_unmade_timer()
+    ensures { IsVerdict panics.script default_limits panics.answers (Verdict.Illegal 1) }
+{}
+
+/// A new goroutine that takes another number than the next.
+pub fn skips_a_number()
+    ensures { IsVerdict starts.script default_limits starts.skips_a_number (Verdict.Illegal 1) }
+{}
+
+/// A run ends where it has as many entries as its limit.
+pub fn reaches_its_limit()
+    ensures history { History limited.script limited.limits limited.history Outcome.Limit }
+    ensures jumps { AllJump limited.script 0 (first_state limited.script) limited.history }
+{}
+
+/// The limit with one entry too few.
+pub fn limit_comes_early()
+    ensures { IsVerdict limited.script limited.limits limited.early (Verdict.Illegal 2) }
+{}
+
+/// An entry where the limit has been reached.
+pub fn passes_its_limit()
+    ensures { IsVerdict limited.script limited.limits limited.late (Verdict.Illegal 3) }
 {}

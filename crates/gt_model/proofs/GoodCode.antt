@@ -29,8 +29,8 @@ pub record HasMain (script : Script) : Type 0 where
   pub func : Func
   pub there : slice_get script.funcs script.main ≡ Some func
   pub is : code_of script script.main ≡ func.code
-  pub good : IsGoodCode func.code
-  pub short : length func.code ≤ 1001
+  pub good : IsGoodCode script func.code
+  pub short : length func.code ≤ 100001
 
 pub main_code : (script : Script) → IsGood script → HasMain script
 main_code script good =
@@ -39,11 +39,11 @@ main_code script good =
     let at : get_or script.funcs script.main found.item ≡ found.item = get_or_from_slice_get script.funcs script.main found.item found.item found.there in
     let part : size (get_or script.funcs script.main found.item) ≤ instruction_count script = get_or-le-sum_by size script.funcs script.main found.item good.main in
     let here : size found.item ≤ instruction_count script = rw at at part in
-    let most : instruction_count script ≤ 1000 = good.instructions in
+    let most : instruction_count script ≤ 100000 = good.few_instructions in
     record {
       func = found.item;
       there = found.there;
       is = rw (found.there, code_of) refl;
-      good = all_at (λ (f : Func). IsGoodCode f.code) script.funcs script.main found.item good.code found.there;
+      good = all_at (λ (f : Func). IsGoodCode script f.code) script.funcs script.main found.item good.code found.there;
       short = omega arith;
     }

@@ -1,4 +1,8 @@
 pub mod Tables
 pub mod Histories
-pub mod Idle
 pub mod GoodCode
+pub mod Lookups
+pub mod Quiet
+pub mod Formed
+pub mod Named
+pub mod Changes

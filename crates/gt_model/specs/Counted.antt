@@ -1,16 +1,37 @@
 -- The times that will unblock a goroutine.
-use Rattle.std.specs.Prelude.{ℕ, ◌==◌, if◌then◌else◌, List}
-use Rattle.std.specs.List.{filter_map}
+use Rattle.std.specs.Prelude.{ℕ, ◌==◌, cond, if◌then◌else◌, Bool, false, ◌&&◌, ◌||◌, List, ◌++◌}
+use Rattle.std.specs.List.{filter_map, list_any, enumerate_from}
 use Rattle.std.specs.declared.option.Option.{Option}
-use Rattle.std.specs.declared.option.Option.TheVariants.{None}
+use Rattle.std.specs.declared.option.Option.TheVariants.{None, Some}
 use Rattle.gt_model.specs.declared.script.Script.{Script}
+use Rattle.gt_model.specs.declared.script.Instr.{Instr}
 use Rattle.gt_model.specs.declared.state.Goroutine.{Goroutine}
-use Rattle.gt_model.specs.State.{State, until_of}
+use Rattle.gt_model.specs.declared.state.Timer.{Timer}
+use Rattle.gt_model.specs.State.{State, until_of, stands, is_func}
 
 -- the time until which a goroutine of world w sleeps
 abbrev pub sleep_of : ℕ → Goroutine → Option ℕ
 sleep_of w r = if r.world == w then until_of r.mode else None
 
--- the counted times of world w: the end of each sleep
+-- whether an instruction is a receive from this timer
+abbrev pub receives : ℕ → Instr → Bool
+receives t (Instr.Recv o) = o == t
+receives t _ = false
+
+-- whether a goroutine of world w stands at a receive from this timer
+abbrev pub awaits : Script → ℕ → ℕ → Goroutine → Bool
+awaits script w t r = r.world == w && elim (stands script r) [ None ↦ false | Some i ↦ receives t i ]
+
+abbrev pub is_awaited : Script → State → ℕ → ℕ → Bool
+is_awaited script s w t = list_any (awaits script w t) s.goroutines
+
+-- the due time of a timer of world w, if it counts: that of an AfterFunc timer where it is set, that of a channel timer where it is awaited too
+abbrev pub counted_timer : Script → State → ℕ → ℕ × Option Timer → Option ℕ
+counted_timer script s w e = elim e.1 [
+  | None ↦ None
+  | Some r ↦ cond (r.world == w && (is_func script e.0 || is_awaited script s w e.0)) r.due None
+]
+
+-- the counted times of world w: the ends of its sleeps, and the due times of its timers that count
 abbrev pub counted : Script → State → ℕ → List ℕ
-counted script s w = filter_map (sleep_of w) s.goroutines
+counted script s w = filter_map (sleep_of w) s.goroutines ++ filter_map (counted_timer script s w) (enumerate_from 0 s.timers)

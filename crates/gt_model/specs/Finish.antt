@@ -1,12 +1,13 @@
 -- How a run ends, and where the program waits for its clock.
-use Rattle.std.specs.Prelude.{ℕ, zero, ◌+◌, ◌<◌, ◌≡◌, min, IsSomeAnd}
+use Rattle.std.specs.Prelude.{ℕ, zero, ◌+◌, ◌<◌, ◌≡◌, min, [], IsSomeAnd}
 use Rattle.gt_model.specs.declared.script.Script.{Script}
 use Rattle.gt_model.specs.declared.entry.Entry.{Entry}
 use Rattle.gt_model.specs.declared.entry.Limits.{Limits}
 use Rattle.gt_model.specs.declared.entry.Outcome.{Outcome}
 use Rattle.gt_model.specs.declared.time.TheConstants.{CAP}
 use Rattle.gt_model.specs.Tables.{least}
-use Rattle.gt_model.specs.State.{State, Ending}
+use Rattle.gt_model.specs.declared.state.Ending.{Ending}
+use Rattle.gt_model.specs.State.{State}
 use Rattle.gt_model.specs.Counted.{counted}
 use Rattle.gt_model.specs.Legal.{May}
 
@@ -23,14 +24,17 @@ pub record IsJump (script : Script) (s : State) (slip to : ℕ) : Type 0 where
   pub idle : IsIdle script s
   pub to_least : IsSomeAnd (least (counted script s 0)) (λ t. to ≡ min (t + slip) CAP)
 
--- the run may have this outcome next
-abbrev pub Finishes : Script → Limits → State → Outcome → Type 0
-Finishes script limits s Outcome.Exit = s.ending ≡ Ending.MainEnded
-
 -- the run goes on: it has not ended, and its limit is not reached
 pub record IsRunning (limits : Limits) (s : State) : Type 0 where
   pub ending : s.ending ≡ Ending.Running
   pub room : s.entries < limits.entries
+
+-- the run may have this outcome next
+abbrev pub Finishes : Script → Limits → State → Outcome → Type 0
+Finishes script limits s Outcome.Exit = s.ending ≡ Ending.MainEnded
+Finishes script limits s Outcome.Panic = s.ending ≡ Ending.Panicked
+Finishes script limits s Outcome.Limit = (s.ending ≡ Ending.Running) × (s.entries ≡ limits.entries)
+Finishes script limits s Outcome.Deadlock = IsRunning limits s × IsIdle script s × (counted script s 0 ≡ [])
 
 -- the entry is legal
 abbrev pub Legal : Script → Limits → State → Entry → Type 0

@@ -1,5 +1,5 @@
 -- What a script keeps to that the reader accepts.
-use Rattle.std.specs.Prelude.{ℕ, ◌+◌, ◌-◌, ◌<◌, ◌≤◌, ◌≡◌, ◌==◌, nat_le, Bool, false, ◌&&◌, ◌||◌, IsTrue, List, [], ◌∷◌, length, slice_get, sum_by}
+use Rattle.std.specs.Prelude.{ℕ, ◌+◌, ◌-◌, ◌<◌, ◌≤◌, ◌≡◌, ◌==◌, nat_le, Bool, true, false, ◌&&◌, ◌||◌, IsTrue, List, [], ◌∷◌, length, slice_get, sum_by}
 use Rattle.std.specs.List.{All, list_all}
 use Rattle.std.specs.declared.option.Option.TheVariants.{Some}
 use Rattle.gt_model.specs.declared.script.Script.{Script}
@@ -8,7 +8,12 @@ use Rattle.gt_model.specs.declared.script.Func.{Func}
 use Rattle.gt_model.specs.declared.script.What.{What}
 use Rattle.gt_model.specs.declared.script.Instr.{Instr}
 use Rattle.gt_model.specs.declared.time.TheConstants.{CAP}
-use Rattle.gt_model.specs.State.{what_at}
+use Rattle.gt_model.specs.declared.entry.Limits.{Limits}
+use Rattle.gt_model.specs.State.{what_at, is_timer, is_func}
+
+-- a timer that is set and stopped: a channel timer or an AfterFunc timer
+abbrev pub is_setting : Script → ℕ → Bool
+is_setting script t = is_timer script t || is_func script t
 
 abbrev pub is_letter : ℕ → Bool
 is_letter b = (nat_le 97 b && nat_le b 122) || (nat_le 65 b && nat_le b 90)
@@ -25,15 +30,51 @@ abbrev pub is_name : List ℕ → Bool
 is_name [] = false
 is_name (b ∷ bs) = is_letter b && list_all is_name_byte bs && nat_le (length bs) 31
 
--- an instruction at place i of a code of n instructions: `Finish` is the last one, and no other is
-abbrev pub IsGoodInstr : ℕ → ℕ → Instr → Type 0
-IsGoodInstr n i Instr.Finish = i + 1 ≡ n
-IsGoodInstr n i (Instr.Sleep d) = (d ≤ CAP) × (i + 1 < n)
-IsGoodInstr n i Instr.Now = i + 1 < n
+-- What an instruction names is declared as such, and its times are at most the greatest. A channel timer alone is received from
+abbrev pub NamesRightly : Script → Instr → Type 0
+NamesRightly script (Instr.Say n) = Unit {0}
+NamesRightly script Instr.Now = Unit {0}
+NamesRightly script (Instr.Sleep d) = d ≤ CAP
+NamesRightly script (Instr.Go f) = f < length script.funcs
+NamesRightly script (Instr.New t d) = IsTrue (is_setting script t) × (d ≤ CAP)
+NamesRightly script (Instr.Stop t) = IsTrue (is_setting script t)
+NamesRightly script (Instr.Reset t d) = IsTrue (is_setting script t) × (d ≤ CAP)
+NamesRightly script (Instr.Recv o) = IsTrue (is_timer script o)
+NamesRightly script Instr.Finish = Unit {0}
 
-pub record IsGoodCode (code : List Instr) : Type 0 where
+-- whether an instruction is the end of a function
+abbrev pub is_finish : Instr → Bool
+is_finish Instr.Finish = true
+is_finish _ = false
+
+-- An instruction at place i of a code of n instructions: `Finish` is the last one, and no other is
+pub record IsGoodInstr (script : Script) (n i : ℕ) (instr : Instr) : Type 0 where
+  pub names : NamesRightly script instr
+  pub last : is_finish instr ≡ i + 1 == n
+
+pub record IsGoodCode (script : Script) (code : List Instr) : Type 0 where
   pub some : 0 < length code
-  pub each : (i : ℕ) (x : Instr) → slice_get code i ≡ Some x → IsGoodInstr (length code) i x
+  pub each : (i : ℕ) (x : Instr) → slice_get code i ≡ Some x → IsGoodInstr script (length code) i x
+
+-- a declaration names what it starts
+abbrev pub StartsRightly : Script → What → Type 0
+StartsRightly script What.Timer = Unit {0}
+StartsRightly script (What.AfterFunc func) = func < length script.funcs
+StartsRightly script What.Function = Unit {0}
+
+-- the greatest numbers of names, of functions among them, and of instructions that a script may have
+abbrev pub most_names : ℕ
+most_names = 4096
+
+abbrev pub most_functions : ℕ
+most_functions = 256
+
+abbrev pub most_instructions : ℕ
+most_instructions = 100000
+
+-- the greatest limit of a run
+abbrev pub most_entries : ℕ
+most_entries = 200000
 
 -- how many instructions a script has: `Finish` stands for no line with an instruction
 abbrev pub instruction_count : Script → ℕ
@@ -42,6 +83,14 @@ instruction_count script = sum_by (λ (f : Func). length f.code - 1) script.func
 pub record IsGood (script : Script) : Type 0 where
   pub main : script.main < length script.funcs
   pub names : All (λ (d : Decl). IsTrue (is_name d.name)) script.decls
+  pub starts : All (λ (d : Decl). StartsRightly script d.what) script.decls
   pub kinds : All (λ (f : Func). what_at script f.decl ≡ Some What.Function) script.funcs
-  pub code : All (λ (f : Func). IsGoodCode f.code) script.funcs
-  pub instructions : instruction_count script ≤ 1000
+  pub code : All (λ (f : Func). IsGoodCode script f.code) script.funcs
+  pub few_names : length script.decls ≤ most_names
+  pub few_functions : length script.funcs ≤ most_functions
+  pub few_instructions : instruction_count script ≤ most_instructions
+
+-- the limits that a run may have
+pub record AreLimits (limits : Limits) : Type 0 where
+  pub some : 1 ≤ limits.entries
+  pub most : limits.entries ≤ most_entries

@@ -1,12 +1,17 @@
 -- Which entry may come next.
-use Rattle.std.specs.Prelude.{ℕ, zero, suc, ◌+◌, ◌<◌, ◌≤◌, ◌≡◌, min, IsSomeAnd}
+use Rattle.std.specs.Prelude.{ℕ, zero, suc, ◌+◌, ◌<◌, ◌≤◌, ◌≡◌, min, Bool, IsTrue, IsSomeAnd, is_some}
 use Rattle.std.specs.declared.option.Option.{Option}
 use Rattle.std.specs.declared.option.Option.TheVariants.{None, Some}
 use Rattle.gt_model.specs.declared.script.Script.{Script}
 use Rattle.gt_model.specs.declared.script.Instr.{Instr}
 use Rattle.gt_model.specs.declared.entry.Entry.{Entry}
 use Rattle.gt_model.specs.declared.time.TheConstants.{CAP}
-use Rattle.gt_model.specs.State.{State, stands_at, clock, clock_of, sleeps_until}
+use Rattle.gt_model.specs.declared.entry.Party.{Party}
+use Rattle.gt_model.specs.declared.entry.Reason.{Reason}
+use Rattle.gt_model.specs.declared.state.Timer.{Timer}
+use Rattle.gt_model.specs.State.{State, stands_at, clock, clock_of, sleeps_until, next_number, timer_at, due_of, is_timer, is_func}
+use Rattle.gt_model.specs.Panics.{panic_at}
+use Rattle.gt_model.specs.Ready.{is_due}
 
 -- the due time of a setting made at a clock: never past the greatest time
 abbrev pub due_at : ℕ → ℕ → ℕ
@@ -17,9 +22,35 @@ abbrev pub sleep_end : ℕ → ℕ → Option ℕ
 sleep_end now zero = None
 sleep_end now (suc d) = Some (due_at now (suc d))
 
--- g stands at this instruction
+-- g stands at this instruction, and makes no panic
 pub record Does (script : Script) (s : State) (g : ℕ) (i : Instr) : Type 0 where
   pub stands : stands_at script s g ≡ Some i
+  pub calm : panic_at script s g ≡ None
+
+-- the operation at which an instruction stands under a case number: 0 is a plain one
+abbrev pub operation : Instr → ℕ → Option ℕ
+operation (Instr.Recv o) zero = Some o
+operation _ _ = None
+
+abbrev pub operation_at : Script → State → Party → Option ℕ
+operation_at script s p = elim (stands_at script s p.g) [ None ↦ None | Some i ↦ operation i p.case_no ]
+
+-- p stands at a receive from this object, and makes no panic
+pub record Receives (script : Script) (s : State) (p : Party) (o : ℕ) : Type 0 where
+  pub stands : operation_at script s p ≡ Some o
+  pub calm : panic_at script s p.g ≡ None
+
+-- what `stop` and `reset` answer: whether the timer is set
+abbrev pub was_set : Script → State → ℕ → Option Bool
+was_set script s t = Some (is_some (due_of s t))
+
+-- the due time after a receive of v: a timer that ticks once has none
+abbrev pub LeavesDue : Script → State → ℕ → ℕ → ℕ → Option ℕ → Type 0
+LeavesDue script s now t v next = next ≡ None
+
+-- the misuse of p's goroutine where it stands, with its case number
+abbrev pub MayPanic : Script → State → Party → Reason → Type 0
+MayPanic script s p reason = panic_at script s p.g ≡ Some (p.case_no, reason)
 
 -- where the clock of a world may move, and to which time
 abbrev pub MovesClock : State → ℕ → ℕ → Type 0
@@ -28,9 +59,20 @@ MovesClock s (suc world) to = ⊥
 
 -- which entry may come next while the run goes on. The end of the run has rows of its own, in Finish
 abbrev pub May : Script → State → Entry → Type 0
+May script s (Entry.Say g n) = Does script s g (Instr.Say n)
 May script s (Entry.Now g at) = Does script s g Instr.Now × (at ≡ clock_of s g)
+May script s (Entry.Go g child f) = Does script s g (Instr.Go f) × (child ≡ next_number s)
 May script s (Entry.End g) = Does script s g Instr.Finish
 May script s (Entry.Sleep g until) = (d : ℕ) × Does script s g (Instr.Sleep d) × (until ≡ sleep_end (clock_of s g) d)
 May script s (Entry.Wake g) = IsSomeAnd (sleeps_until s g) (λ until. until ≤ clock_of s g)
+May script s (Entry.New g t due) = (d : ℕ) × Does script s g (Instr.New t d) × (due ≡ due_at (clock_of s g) d)
+May script s (Entry.Stop g t was) = Does script s g (Instr.Stop t) × (was ≡ was_set script s t)
+May script s (Entry.Reset g t was due) =
+    (d : ℕ) × Does script s g (Instr.Reset t d) × (was ≡ was_set script s t) × (due ≡ due_at (clock_of s g) d)
+May script s (Entry.TRecv p t due next) =
+    Receives script s p t × IsTrue (is_timer script t) × (due_of s t ≡ Some due) × (due ≤ clock_of s p.g) × LeavesDue script s (clock_of s p.g) t due next
+May script s (Entry.FireFunc t child) =
+    IsTrue (is_func script t) × IsSomeAnd (timer_at s t) (λ (r : Timer). IsTrue (is_due r.due (clock s r.world))) × (child ≡ next_number s)
 May script s (Entry.Clock world to) = MovesClock s world to
+May script s (Entry.Panic p reason) = MayPanic script s p reason
 May script s (Entry.Finish outcome) = ⊥

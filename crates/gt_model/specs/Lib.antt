@@ -2,6 +2,7 @@ pub mod Tables
 pub mod State
 pub mod Places
 pub mod Good
+pub mod Panics
 pub mod Ready
 pub mod Counted
 pub mod After
@@ -9,3 +10,6 @@ pub mod Legal
 pub mod Finish
 pub mod History
 pub mod Verdict
+pub mod Named
+pub mod Quiet
+pub mod Formed

@@ -1,5 +1,5 @@
 -- The state of the one-thread timer machine, and what is looked up in it and in a script.
-use Rattle.std.specs.Prelude.{ℕ, List, [], slice_get, slice_index}
+use Rattle.std.specs.Prelude.{ℕ, ◌+◌, Bool, true, false, List, [], length, slice_get, slice_index}
 use Rattle.std.specs.Option.{option_map}
 use Rattle.std.specs.declared.option.Option.{Option}
 use Rattle.std.specs.declared.option.Option.TheVariants.{None, Some}
@@ -10,19 +10,15 @@ use Rattle.gt_model.specs.declared.script.Instr.{Instr}
 use Rattle.gt_model.specs.declared.script.Place.{Place}
 use Rattle.gt_model.specs.declared.state.Goroutine.{Goroutine}
 use Rattle.gt_model.specs.declared.state.Mode.{Mode}
-use Rattle.gt_model.specs.declared.entry.Outcome.{Outcome}
-use Rattle.gt_model.specs.Tables.{numbered}
-
--- how far the run is
-pub data Ending : Type 0 where
-  Running : Ending
-  MainEnded : Ending
-  Finished : Outcome → Ending
+use Rattle.gt_model.specs.declared.state.Timer.{Timer}
+use Rattle.gt_model.specs.declared.state.Ending.{Ending}
+use Rattle.gt_model.specs.Tables.{numbered, at}
 
 pub record State : Type 0 where
   pub clocks : List ℕ  -- by world: the program is world 0
   pub entries : ℕ  -- how many came before, the end of the run not counted
   pub goroutines : List Goroutine  -- by number, from 1
+  pub timers : List (Option Timer)  -- by declaration; none is unmade
   pub ending : Ending
 
 -- what the script declares at a place
@@ -68,3 +64,32 @@ until_of _ = None
 
 abbrev pub sleeps_until : State → ℕ → Option ℕ
 sleeps_until s g = elim (mode_of s g) [ None ↦ None | Some mode ↦ until_of mode ]
+
+-- the number of the next goroutine
+abbrev pub next_number : State → ℕ
+next_number s = length s.goroutines + 1
+
+abbrev pub timer_at : State → ℕ → Option Timer
+timer_at s t = at s.timers t
+
+abbrev pub due_of : State → ℕ → Option ℕ
+due_of s t = elim (timer_at s t) [ None ↦ None | Some r ↦ r.due ]
+
+-- a channel timer; an AfterFunc timer
+abbrev pub names_timer : Option What → Bool
+names_timer (Some What.Timer) = true
+names_timer _ = false
+
+abbrev pub names_func : Option What → Bool
+names_func (Some (What.AfterFunc func)) = true
+names_func _ = false
+
+abbrev pub is_timer : Script → ℕ → Bool
+is_timer script t = names_timer (what_at script t)
+
+abbrev pub is_func : Script → ℕ → Bool
+is_func script t = names_func (what_at script t)
+
+-- the function that an AfterFunc timer starts
+abbrev pub func_of : Script → ℕ → ℕ
+func_of script t = elim (what_at script t) [ None ↦ 0 | Some what ↦ elim what [ What.AfterFunc f ↦ f | _ ↦ 0 ] ]

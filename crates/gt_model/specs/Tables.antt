@@ -19,6 +19,14 @@ abbrev pub change_numbered : {X : Type 0} → List X → ℕ → (X → X) → L
 change_numbered xs zero f = xs
 change_numbered xs (suc i) f = change xs i f
 
+-- the value at a place of a list of optional values
+abbrev pub flatten : {X : Type 0} → Option (Option X) → Option X
+flatten None = None
+flatten (Some o) = o
+
+abbrev pub at : {X : Type 0} → List (Option X) → ℕ → Option X
+at xs i = flatten (slice_get xs i)
+
 -- the least number of a list
 abbrev pub least : List ℕ → Option ℕ
 least [] = None

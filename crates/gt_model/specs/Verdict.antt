@@ -4,7 +4,8 @@ use Rattle.gt_model.specs.declared.script.Script.{Script}
 use Rattle.gt_model.specs.declared.entry.Entry.{Entry}
 use Rattle.gt_model.specs.declared.entry.Limits.{Limits}
 use Rattle.gt_model.specs.declared.entry.Verdict.{Verdict}
-use Rattle.gt_model.specs.State.{State, Ending}
+use Rattle.gt_model.specs.declared.state.Ending.{Ending}
+use Rattle.gt_model.specs.State.{State}
 use Rattle.gt_model.specs.After.{after, first_state}
 use Rattle.gt_model.specs.Finish.{Legal}
 

@@ -1,21 +1,90 @@
 //! The entries of a history, and what a history is judged to be.
 
+/// A goroutine at its plain instruction (case 0), or at a case of its select, from 1.
+#[derive(Clone, Copy, Debug, PartialEq, Eq)]
+pub struct Party {
+    pub g: u32,
+    pub case_no: u32,
+}
+
 /// What happened: one call of a goroutine with its answer, or one move of a clock. Goroutines are numbered from 1 in the
 /// order in which they are made; times are in nanoseconds.
 #[derive(Clone, Copy, Debug, PartialEq, Eq)]
 pub enum Entry {
+    /// A goroutine said a number.
+    Say {
+        g: u32,
+        n: u32,
+    },
     /// A goroutine looked at its clock.
-    Now { g: u32, at: u64 },
+    Now {
+        g: u32,
+        at: u64,
+    },
+    /// A goroutine started another one at a function.
+    Go {
+        g: u32,
+        child: u32,
+        f: u32,
+    },
     /// The function of a goroutine ended.
-    End { g: u32 },
+    End {
+        g: u32,
+    },
     /// A goroutine fell asleep until a time, or slept for 0 and went on at once.
-    Sleep { g: u32, until: Option<u64> },
+    Sleep {
+        g: u32,
+        until: Option<u64>,
+    },
     /// The sleep of a goroutine ended.
-    Wake { g: u32 },
+    Wake {
+        g: u32,
+    },
+    /// A goroutine made a timer that is due at a time.
+    New {
+        g: u32,
+        t: u32,
+        due: u64,
+    },
+    /// A goroutine stopped a timer; whether it was set.
+    Stop {
+        g: u32,
+        t: u32,
+        was: Option<bool>,
+    },
+    /// A goroutine set a timer anew; whether it was set, and when it is due now.
+    Reset {
+        g: u32,
+        t: u32,
+        was: Option<bool>,
+        due: u64,
+    },
+    /// A goroutine received the tick of a timer that was due at a time; when the timer is due next, if ever.
+    TRecv {
+        p: Party,
+        t: u32,
+        due: u64,
+        next: Option<u64>,
+    },
+    /// An AfterFunc timer started its function in a goroutine of its own.
+    FireFunc {
+        t: u32,
+        child: u32,
+    },
     /// The clock of a world moved to a time. The program is world 0.
-    Clock { world: u32, at: u64 },
+    Clock {
+        world: u32,
+        at: u64,
+    },
+    /// A goroutine misused an object, and the run ends.
+    Panic {
+        p: Party,
+        reason: Reason,
+    },
     /// The run ended.
-    Finish { outcome: Outcome },
+    Finish {
+        outcome: Outcome,
+    },
 }
 
 /// How a run ends.
@@ -23,12 +92,30 @@ pub enum Entry {
 pub enum Outcome {
     /// The function of the first goroutine, `main`, ended.
     Exit,
+    /// Nothing can happen any more.
+    Deadlock,
+    /// A goroutine misused an object.
+    Panic,
+    /// As many entries as the limit were made.
+    Limit,
 }
+
+/// Why a goroutine panics.
+#[derive(Clone, Copy, Debug, PartialEq, Eq)]
+pub enum Reason {
+    /// The object was not made yet.
+    Unmade,
+    /// The object was made before.
+    Twice,
+}
+
+/// The most entries that a run may have, its end not counted.
+pub const MOST_ENTRIES: u64 = 200_000;
 
 /// The bounds of a run.
 #[derive(Clone, Copy, Debug, PartialEq, Eq)]
 pub struct Limits {
-    /// How many entries a run may have, its end not counted.
+    /// How many entries a run may have, its end not counted: 1 to [`MOST_ENTRIES`].
     pub entries: u64,
 }
 

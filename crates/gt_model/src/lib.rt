@@ -7,10 +7,10 @@ mod script;
 mod state;
 mod time;
 
-pub use entry::{Entry, Limits, Outcome, Verdict};
+pub use entry::{Entry, Limits, MOST_ENTRIES, Outcome, Party, Reason, Verdict};
 pub use lists::{Code, Decls, Funcs, Text};
 pub use script::{Decl, Func, Instr, Place, Script, What};
-pub use state::{Goroutine, Mode};
+pub use state::{Ending, Goroutine, Mode, Timer};
 pub use time::{CAP, due_after};
 
 /// Memory ran out.

@@ -1,5 +1,8 @@
 //! A script: its declarations, and the code of its functions.
 
+ghost use Rattle.std.specs.Prelude.{◌≡◌, IfOk};
+
+use crate::NoMemory;
 use crate::lists::{Code, Decls, Funcs, Text};
 
 /// A script as the reader makes it. Declarations and functions are in the order of their lines, counted from 0.
@@ -12,6 +15,21 @@ pub struct Script {
     pub main: u32,
 }
 
+impl Script {
+    /// An equal script, or no memory.
+    pub fn copy(&self) -> Result<Script, NoMemory>
+        ensures { IfOk result (λ copy. copy ≡ self.now) }
+    {
+        let decls = self.decls.copy()?;
+        let funcs = self.funcs.copy()?;
+        Ok(Script {
+            decls,
+            funcs,
+            main: self.main,
+        })
+    }
+}
+
 /// A declared name.
 #[derive(Drop)]
 pub struct Decl {
@@ -20,9 +38,25 @@ pub struct Decl {
     pub what: What,
 }
 
+impl Decl {
+    /// An equal declaration, or no memory.
+    pub fn copy(&self) -> Result<Decl, NoMemory>
+        ensures { IfOk result (λ copy. copy ≡ self.now) }
+    {
+        Ok(Decl {
+            name: self.name.copy()?,
+            what: self.what,
+        })
+    }
+}
+
 /// What a name is declared as.
 #[derive(Clone, Copy, Debug, PartialEq, Eq)]
 pub enum What {
+    /// A one-shot channel timer.
+    Timer,
+    /// An AfterFunc timer, which starts the function at this place in the script's `funcs`.
+    AfterFunc { func: u32 },
     Function,
 }
 
@@ -35,13 +69,37 @@ pub struct Func {
     pub code: Code,
 }
 
+impl Func {
+    /// An equal function, or no memory.
+    pub fn copy(&self) -> Result<Func, NoMemory>
+        ensures { IfOk result (λ copy. copy ≡ self.now) }
+    {
+        Ok(Func {
+            decl: self.decl,
+            code: self.code.copy()?,
+        })
+    }
+}
+
 /// An instruction of a goroutine.
 #[derive(Clone, Copy, Debug, PartialEq, Eq)]
 pub enum Instr {
+    /// Say a number.
+    Say { n: u32 },
     /// Look at the clock.
     Now,
     /// Sleep for `d` nanoseconds.
     Sleep { d: u64 },
+    /// Start a goroutine at the function at this place.
+    Go { f: u32 },
+    /// Make a timer that is due after `d` nanoseconds.
+    New { t: u32, d: u64 },
+    /// Stop a timer.
+    Stop { t: u32 },
+    /// Set a timer anew, due after `d` nanoseconds.
+    Reset { t: u32, d: u64 },
+    /// Receive from a timer.
+    Recv { o: u32 },
     /// The end of the function.
     Finish,
 }

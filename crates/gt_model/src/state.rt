@@ -1,5 +1,6 @@
 //! What a goroutine of the machine does, and where.
 
+use crate::entry::Outcome;
 use crate::script::Place;
 
 /// What a goroutine does.
@@ -20,4 +21,27 @@ pub struct Goroutine {
     pub world: u32,
     pub place: Place,
     pub mode: Mode,
+}
+
+/// A timer that was made.
+#[derive(Clone, Copy, Debug, PartialEq, Eq)]
+pub struct Timer {
+    /// The world in which it was made, whose clock it has.
+    pub world: u32,
+    /// When it is due, in nanoseconds; none where it is not set.
+    pub due: Option<u64>,
+    /// The time between two ticks, in nanoseconds; 0 for a timer that ticks once.
+    pub period: u64,
+}
+
+/// How far a run is.
+#[derive(Clone, Copy, Debug, PartialEq, Eq)]
+pub enum Ending {
+    Running,
+    /// The function of goroutine 1 has ended.
+    MainEnded,
+    /// A goroutine has misused an object.
+    Panicked,
+    /// The run has ended with this outcome.
+    Finished(Outcome),
 }

@@ -2,4 +2,4 @@ use Rattle.std.proofs.Common.{refl, lit<}
 use Rattle.gt_examples.proofs.ends_at_once.Goals as goal
 
 pub returns : goal.returns
-returns c = record { legal = ((record { ending = refl; room = lit< tt }, record { stands = refl }), (refl, tt)); over = refl }
+returns c = record { legal = ((record { ending = refl; room = lit< tt }, record { stands = refl; calm = refl }), (refl, tt)); over = refl }

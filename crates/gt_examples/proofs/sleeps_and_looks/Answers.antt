@@ -1,15 +1,15 @@
 use Rattle.std.proofs.Common.{refl, lit<, lit≤}
-use Rattle.gt_model.proofs.Idle.{is_idle-IsIdle}
+use Rattle.gt_examples.proofs.Idle.{idle-computed}
 use Rattle.gt_examples.proofs.sleeps_and_looks.Goals as goal
 
 pub returns-clause-history : goal.returns-clause-history
 returns-clause-history c = record {
   legal = (
-    (record { ending = refl; room = lit< tt }, (5000000, record { stands = refl }, refl)),
-    ((record { ending = refl; room = lit< tt }, (lit< tt, lit≤ tt)), ((record { ending = refl; room = lit< tt }, lit≤ tt), ((record { ending = refl; room = lit< tt }, (record { stands = refl }, refl)), ((record { ending = refl; room = lit< tt }, record { stands = refl }), (refl, tt))))),
+    (record { ending = refl; room = lit< tt }, (5000000, record { stands = refl; calm = refl }, refl)),
+    ((record { ending = refl; room = lit< tt }, (lit< tt, lit≤ tt)), ((record { ending = refl; room = lit< tt }, lit≤ tt), ((record { ending = refl; room = lit< tt }, (record { stands = refl; calm = refl }, refl)), ((record { ending = refl; room = lit< tt }, record { stands = refl; calm = refl }), (refl, tt))))),
   );
   over = refl;
 }
 
 pub returns-clause-jumps : goal.returns-clause-jumps
-returns-clause-jumps c = (tt, (record { idle = is_idle-IsIdle _ _ refl; to_least = refl }, (tt, (tt, (tt, (tt, tt))))))
+returns-clause-jumps c = (tt, (record { idle = idle-computed _ _ refl refl refl; to_least = refl }, (tt, (tt, (tt, (tt, tt))))))

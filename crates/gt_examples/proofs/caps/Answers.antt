@@ -1,0 +1,12 @@
+use Rattle.std.proofs.Common.{refl, lit<, lit≤}
+use Rattle.gt_examples.proofs.Idle.{idle-computed}
+use Rattle.gt_examples.proofs.caps.Goals as goal
+
+pub returns-clause-history : goal.returns-clause-history
+returns-clause-history c = record {
+  legal = ((record { ending = refl; room = lit< tt }, (5000000, record { stands = refl; calm = refl }, refl)), ((record { ending = refl; room = lit< tt }, (lit< tt, lit≤ tt)), ((record { ending = refl; room = lit< tt }, lit≤ tt), ((record { ending = refl; room = lit< tt }, (9223372036854775807, record { stands = refl; calm = refl }, refl)), ((record { ending = refl; room = lit< tt }, (record { stands = refl; calm = refl }, refl)), ((record { ending = refl; room = lit< tt }, record { stands = refl; calm = refl }), (refl, tt)))))));
+  over = refl;
+}
+
+pub returns-clause-jumps : goal.returns-clause-jumps
+returns-clause-jumps c = (tt, (record { idle = idle-computed _ _ refl refl refl; to_least = refl }, (tt, (tt, (tt, (tt, (tt, tt)))))))

@@ -1,0 +1,22 @@
+-- timer t / func main / new t 1ms / stop t / recv t / end
+use Rattle.std.specs.Prelude.{◌∷◌, [], List, true, codes}
+use Rattle.std.specs.declared.option.Option.TheVariants.{Some}
+use Rattle.gt_model.specs.declared.script.Script.{Script}
+use Rattle.gt_model.specs.declared.script.Instr.{Instr}
+use Rattle.gt_model.specs.declared.script.What.{What}
+use Rattle.gt_model.specs.declared.entry.Entry.{Entry}
+use Rattle.gt_model.specs.declared.entry.Outcome.{Outcome}
+
+abbrev pub script : Script
+script = record {
+  decls = (record { name = codes "t"; what = What.Timer }) ∷ (record { name = codes "main"; what = What.Function }) ∷ [];
+  funcs = (record { decl = 1; code = Instr.New 0 1000000 ∷ Instr.Stop 0 ∷ Instr.Recv 0 ∷ Instr.Finish ∷ [] }) ∷ [];
+  main = 0;
+}
+
+abbrev pub history : List Entry
+history =
+    Entry.New 1 0 1000000
+    ∷ Entry.Stop 1 0 (Some true)
+    ∷ Entry.Finish Outcome.Deadlock
+    ∷ []

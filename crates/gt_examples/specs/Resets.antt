@@ -1,0 +1,41 @@
+-- timer t / func main / new t 1ms / sleep 5ms / reset t 10ms / recv t / end
+use Rattle.std.specs.Prelude.{◌∷◌, [], List, true, codes}
+use Rattle.std.specs.declared.option.Option.TheVariants.{None, Some}
+use Rattle.gt_model.specs.declared.script.Script.{Script}
+use Rattle.gt_model.specs.declared.script.Instr.{Instr}
+use Rattle.gt_model.specs.declared.script.What.{What}
+use Rattle.gt_model.specs.declared.entry.Entry.{Entry}
+use Rattle.gt_model.specs.declared.entry.Outcome.{Outcome}
+use Rattle.gt_examples.specs.Words.{plainly}
+
+abbrev pub script : Script
+script = record {
+  decls = (record { name = codes "t"; what = What.Timer }) ∷ (record { name = codes "main"; what = What.Function }) ∷ [];
+  funcs = (record { decl = 1; code = Instr.New 0 1000000 ∷ Instr.Sleep 5000000 ∷ Instr.Reset 0 10000000 ∷ Instr.Recv 0 ∷ Instr.Finish ∷ [] }) ∷ [];
+  main = 0;
+}
+
+abbrev pub history : List Entry
+history =
+    Entry.New 1 0 1000000
+    ∷ Entry.Sleep 1 (Some 5000000)
+    ∷ Entry.Clock 0 5000000
+    ∷ Entry.Wake 1
+    ∷ Entry.Reset 1 0 (Some true) 15000000
+    ∷ Entry.Clock 0 15000000
+    ∷ Entry.TRecv (plainly 1) 0 15000000 None
+    ∷ Entry.End 1
+    ∷ Entry.Finish Outcome.Exit
+    ∷ []
+
+abbrev pub keeps_the_old_time : List Entry
+keeps_the_old_time =
+    Entry.New 1 0 1000000
+    ∷ Entry.Sleep 1 (Some 5000000)
+    ∷ Entry.Clock 0 5000000
+    ∷ Entry.Wake 1
+    ∷ Entry.Reset 1 0 (Some true) 1000000
+    ∷ Entry.TRecv (plainly 1) 0 1000000 None
+    ∷ Entry.End 1
+    ∷ Entry.Finish Outcome.Exit
+    ∷ []

@@ -1,0 +1,32 @@
+-- What the states keep that a run reaches.
+use Rattle.std.specs.Prelude.{ℕ, ◌+◌, ◌<◌, ◌≤◌, ◌≡◌, IfSome, [], ◌∷◌, length}
+use Rattle.std.specs.declared.option.Option.TheVariants.{Some}
+use Rattle.gt_model.specs.declared.script.Script.{Script}
+use Rattle.gt_model.specs.declared.state.Goroutine.{Goroutine}
+use Rattle.gt_model.specs.declared.state.Timer.{Timer}
+use Rattle.gt_model.specs.declared.state.Mode.{Mode}
+use Rattle.gt_model.specs.declared.time.TheConstants.{CAP}
+use Rattle.gt_model.specs.State.{State, code_of, clock, goroutine_at, timer_at, until_of}
+use Rattle.gt_model.specs.Quiet.{IsOneWorld}
+
+-- a place in a code of n instructions: a sleeper goes on behind it
+abbrev pub IsPlacedIn : ℕ → ℕ → Mode → Type 0
+IsPlacedIn n at (Mode.Sleeping until) = at + 1 < n
+IsPlacedIn n at _ = at < n
+
+abbrev pub IsPlaced : Script → Goroutine → Type 0
+IsPlaced script r = IsPlacedIn (length (code_of script r.place.func)) r.place.at r.mode
+
+pub record IsFormed (script : Script) (s : State) : Type 0 where
+  pub world : IsOneWorld s
+  -- the program's clock is the only one, and is a time
+  pub one_clock : s.clocks ≡ clock s 0 ∷ []
+  pub time : clock s 0 ≤ CAP
+  -- each goroutine stands in its code, and sleeps until a time
+  pub placed : (g : ℕ) (r : Goroutine) → goroutine_at s g ≡ Some r → IsPlaced script r
+  pub untils : (g : ℕ) (r : Goroutine) → goroutine_at s g ≡ Some r → IfSome (until_of r.mode) (λ until. until ≤ CAP)
+  -- an entry makes one goroutine at most
+  pub few : length s.goroutines ≤ s.entries + 1
+  -- there is a timer or none for each declaration, and it is due at a time
+  pub timers : length s.timers ≡ length script.decls
+  pub dues : (t : ℕ) (r : Timer) → timer_at s t ≡ Some r → IfSome r.due (λ due. due ≤ CAP)

@@ -1,0 +1,33 @@
+-- What ends a run: the misuse of an object.
+use Rattle.std.specs.Prelude.{ℕ, Bool, true, false, is_some, is_none}
+use Rattle.std.specs.declared.option.Option.{Option}
+use Rattle.std.specs.declared.option.Option.TheVariants.{None, Some}
+use Rattle.gt_model.specs.declared.script.Script.{Script}
+use Rattle.gt_model.specs.declared.script.Instr.{Instr}
+use Rattle.gt_model.specs.declared.entry.Reason.{Reason}
+use Rattle.gt_model.specs.declared.state.Goroutine.{Goroutine}
+use Rattle.gt_model.specs.State.{State, stands, goroutine_at, timer_at}
+
+-- the reason, if the test says so
+abbrev pub when : Bool → Reason → Option Reason
+when true reason = Some reason
+when false reason = None
+
+-- the first misuse, of a plain instruction
+abbrev pub fault : Script → State → Instr → Option Reason
+fault script s (Instr.New t d) = when (is_some (timer_at s t)) Reason.Twice
+fault script s (Instr.Stop t) = when (is_none (timer_at s t)) Reason.Unmade
+fault script s (Instr.Reset t d) = when (is_none (timer_at s t)) Reason.Unmade
+fault script s (Instr.Recv o) = when (is_none (timer_at s o)) Reason.Unmade
+fault script s _ = None
+
+-- the same with its case number, which is 0 for a plain instruction
+abbrev pub fault_at : Script → State → Instr → Option (ℕ × Reason)
+fault_at script s i = elim (fault script s i) [ None ↦ None | Some reason ↦ Some (0, reason) ]
+
+-- the panic of a goroutine where it stands, if there is one
+abbrev pub panic_of : Script → State → Goroutine → Option (ℕ × Reason)
+panic_of script s r = elim (stands script r) [ None ↦ None | Some i ↦ fault_at script s i ]
+
+abbrev pub panic_at : Script → State → ℕ → Option (ℕ × Reason)
+panic_at script s g = elim (goroutine_at s g) [ None ↦ None | Some r ↦ panic_of script s r ]

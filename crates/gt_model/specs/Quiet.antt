@@ -1,0 +1,28 @@
+-- Where a program of one world is quiet: nobody could go on, and no time has come.
+use Rattle.std.specs.Prelude.{ℕ, nat_lt, ◌≡◌, Bool, true, not}
+use Rattle.std.specs.List.{list_all}
+use Rattle.std.specs.declared.option.Option.TheVariants.{Some}
+use Rattle.gt_model.specs.declared.script.Script.{Script}
+use Rattle.gt_model.specs.declared.state.Goroutine.{Goroutine}
+use Rattle.gt_model.specs.declared.state.Timer.{Timer}
+use Rattle.gt_model.specs.State.{State, clock, goroutine_at, timer_at}
+use Rattle.gt_model.specs.Ready.{is_firm}
+use Rattle.gt_model.specs.Counted.{counted}
+
+-- everything belongs to the program
+pub record IsOneWorld (s : State) : Type 0 where
+  pub goroutines : (g : ℕ) (r : Goroutine) → goroutine_at s g ≡ Some r → r.world ≡ 0
+  pub timers : (t : ℕ) (r : Timer) → timer_at s t ≡ Some r → r.world ≡ 0
+
+-- no goroutine is firmly ready
+abbrev pub none_firm : Script → State → Bool
+none_firm script s = list_all (λ (r : Goroutine). not (is_firm script s r)) s.goroutines
+
+-- no counted time of the program is at or below its clock
+abbrev pub none_due : Script → State → Bool
+none_due script s = list_all (nat_lt (clock s 0)) (counted script s 0)
+
+pub record IsQuiet (script : Script) (s : State) : Type 0 where
+  pub world : IsOneWorld s
+  pub none_firm : none_firm script s ≡ true
+  pub none_due : none_due script s ≡ true
