@@ -3,7 +3,9 @@
 
 mod entries;
 mod line;
+mod names;
 mod print;
+mod timers;
 
 pub use print::{write_line, write_trace};
 

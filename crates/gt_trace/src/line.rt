@@ -1,9 +1,10 @@
 // A line as it is built, a word after another.
 ghost use Rattle.std.specs.Prelude.{◌≡◌, ◌+◌, ◌≤◌, ◌∷◌, ◌++◌, length, decimal};
 ghost use Rattle.arrayvec.specs.ArrayVec.{array_vec_len};
-ghost use Rattle.gt_trace.specs.Text.{space, goroutine_word, time_word};
+ghost use Rattle.gt_trace.specs.Text.{space, goroutine_word, party_word, time_word, flag_word};
 
 use arrayvec::ArrayVec;
+use gt_model::Party;
 use itoa::Buffer;
 
 /// The room of a line, in bytes. A number has at most 20 digits and a name at most 32 bytes, so each line fits.
@@ -48,6 +49,19 @@ pub fn push_goroutine(line: &mut Line, g: u32)
     push_bytes(line, Buffer::new().format(g).as_bytes());
 }
 
+/// Appends a space and a party: its goroutine, and behind it the case of its select where it stands at one.
+pub fn push_party(line: &mut Line, p: Party)
+    requires { array_vec_len line.old + 23 ≤ LINE_ROOM }
+    ensures appended { line.new.items ≡ line.old.items ++ space ∷ party_word p }
+    ensures short { array_vec_len line.new ≤ array_vec_len line.old + 23 }
+{
+    push_goroutine(line, p.g);
+    if p.case_no > 0 {
+        push_bytes(line, b"/");
+        push_bytes(line, Buffer::new().format(p.case_no).as_bytes());
+    }
+}
+
 /// Appends a space and a time, or `-` where there is none.
 pub fn push_time(line: &mut Line, time: Option<u64>)
     requires { array_vec_len line.old + 21 ≤ LINE_ROOM }
@@ -56,6 +70,19 @@ pub fn push_time(line: &mut Line, time: Option<u64>)
 {
     match time {
         Some(time) => push_number(line, time),
+        None => push_word(line, b"-"),
+    }
+}
+
+/// Appends a space and whether a timer was set, or `-` where that is not told.
+pub fn push_flag(line: &mut Line, flag: Option<bool>)
+    requires { array_vec_len line.old + 6 ≤ LINE_ROOM }
+    ensures appended { line.new.items ≡ line.old.items ++ space ∷ flag_word flag }
+    ensures short { array_vec_len line.new ≤ array_vec_len line.old + 6 }
+{
+    match flag {
+        Some(true) => push_word(line, b"true"),
+        Some(false) => push_word(line, b"false"),
         None => push_word(line, b"-"),
     }
 }
