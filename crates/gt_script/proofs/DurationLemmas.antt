@@ -1,16 +1,11 @@
--- Digits in front of a unit.
-use Rattle.std.proofs.Common.{◌≡◌, ◌<◌, ℕ, Bool, true, false, not, IsTrue, List, take, position, Some, refl, arith}
-use Rattle.std.specs.List.{All}
-use Rattle.std.proofs.lemmas.List.{length-take-le, get_or-take}
-use Rattle.std.proofs.lemmas.List.Quantifiers.{position-Some}
-use Rattle.gt_model.specs.Good.{is_digit}
+-- A word that is a text, or is none.
+use Rattle.std.proofs.Common.{◌≡◌, ℕ, Bool, true, false, List, refl}
+use Rattle.std.specs.Str.{IsUtf8, is_utf8}
+use Rattle.std.proofs.lemmas.Str.{IsUtf8-from_is_utf8}
 
-is_true : (b : Bool) → not b ≡ false → IsTrue b
-is_true true h = refl
-is_true false h = cc
+false-by : (b : Bool) → (b ≡ true → ⊥) → b ≡ false
+false-by true h = absurd (h refl)
+false-by false h = refl
 
-pub digits-front : (word : List ℕ) (at : ℕ) → position (λ b. not (is_digit b)) word ≡ Some at → All (λ b. IsTrue (is_digit b)) (take at word)
-digits-front word at h = λ k d k_in.
-    let found = position-Some (λ b. not (is_digit b)) word at d h in
-    let below : k < at = omega (arith, k_in, length-take-le at word (omega (arith, found.0))) in
-    is_true _ (rw (get_or-take at word k d below) (found.2 k below))
+pub is_utf8-false : (word : List ℕ) → ¬ (IsUtf8 word) → is_utf8 word ≡ false
+is_utf8-false word h = false-by (is_utf8 word) (λ e. h (IsUtf8-from_is_utf8 word e))

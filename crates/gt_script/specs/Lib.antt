@@ -1,4 +1,10 @@
 pub mod Words
 pub mod Duration
+pub mod Number
+pub mod Keywords
+pub mod Names
+pub mod Statements
+pub mod Faults
 pub mod Grammar
 pub mod Reading
+pub mod Known

@@ -1,42 +1,62 @@
--- What the lines that are left spell, from where a reader stands.
-use Rattle.std.specs.Prelude.{◌≡◌, ℕ, Bool, true, false, if◌then◌else◌, List, [], ◌∷◌, ◌++◌}
-use Rattle.std.specs.Option.{option_map, option_and_then}
+-- What is left to read, from where a reader stands.
+use Rattle.std.specs.Prelude.{◌≡◌, ℕ, Bool, if◌then◌else◌, List, [], ◌∷◌, ◌++◌, codes}
 use Rattle.std.specs.declared.option.Option.{Option}
 use Rattle.std.specs.declared.option.Option.TheVariants.{None, Some}
-use Rattle.gt_model.specs.declared.script.Script.{Script}
+use Rattle.gt_model.specs.declared.script.Decl.{Decl}
+use Rattle.gt_model.specs.declared.script.Func.{Func}
 use Rattle.gt_model.specs.declared.script.Instr.{Instr}
-use Rattle.gt_script.specs.declared.stage.Stage.{Stage}
-use Rattle.gt_script.specs.declared.stage.Step.{Step}
-use Rattle.gt_script.specs.Words.{Line}
-use Rattle.gt_script.specs.Duration.{duration_of}
-use Rattle.gt_script.specs.Grammar.{is_head, opens_main, closes, instruction_of, body_of, ended, within_limit}
+use Rattle.gt_model.specs.declared.script.Script.{Script}
+use Rattle.gt_model.specs.declared.script.What.{What}
+use Rattle.gt_script.specs.declared.statement.Step.{Step}
+use Rattle.gt_script.specs.declared.lines.Line.{Line}
+use Rattle.gt_script.specs.Words.{NumberedLine, words_of, lines_from, next}
+use Rattle.gt_script.specs.Names.{Names}
+use Rattle.gt_script.specs.Statements.{code_of, decls_of, func_place, funcs_of}
 
-abbrev pub is_empty : Line → Bool
-is_empty [] = true
-is_empty (word ∷ words) = false
+-- the line that a reader stands at
+abbrev pub line_at : Line → NumberedLine
+line_at line = record { number = line.number; words = line.word.now ∷ words_of line.rest.now }
 
--- a sleep, with the words behind `sleep`
-abbrev pub sleep_step : Line → Option Step
-sleep_step (word ∷ []) = option_map (λ (d : ℕ). Step.Do (Instr.Sleep d)) (duration_of word)
-sleep_step _ = None
+-- the lines from there on
+abbrev pub lines_at : Option Line → List NumberedLine
+lines_at None = []
+lines_at (Some line) = line_at line ∷ lines_from (next line.number) line.after.now
 
--- what a line says inside a function
-abbrev pub step_of : Line → Option Step
-step_of line = if closes line then Some Step.Close else option_map (λ (i : Instr). Step.Do i) (instruction_of line)
+-- what is made of the lines so far: the declarations, the functions that are closed, and the one that is open
+pub record Built : Type 0 where
+  pub decls : List Decl
+  pub funcs : List Func
+  pub open_decl : ℕ
+  pub code : List Instr
 
--- with the instructions read so far, what the lines that are left make of them
-abbrev pub script_left : Stage → List Instr → List Line → Option Script
-script_left Stage.Start code [] = None
-script_left Stage.Start code (head ∷ lines) = if is_head head then script_left Stage.Outside code lines else None
-script_left Stage.Outside code [] = None
-script_left Stage.Outside code (opening ∷ lines) = if opens_main opening then script_left Stage.Main code lines else None
-script_left Stage.Main code lines = option_and_then (λ more. within_limit (code ++ more)) (body_of lines)
-script_left Stage.Over code lines = option_and_then (λ more. within_limit (code ++ more)) (ended lines)
+abbrev pub built : List Decl → List Func → ℕ → List Instr → Built
+built decls funcs open_decl code = record { decls = decls; funcs = funcs; open_decl = open_decl; code = code }
 
--- a line takes a reader from one stage and code to others: what is left then is what was left
-abbrev pub Reads : Stage → List Instr → Line → Stage → List Instr → Type 0
-Reads stage code line stage' code' = (lines : List Line) → script_left stage' code' lines ≡ script_left stage code (line ∷ lines)
+abbrev pub nothing_built : Built
+nothing_built = built [] [] 0 []
 
--- no script goes on with this line
-abbrev pub Refuses : Stage → List Instr → Line → Type 0
-Refuses stage code line = (lines : List Line) → script_left stage code (line ∷ lines) ≡ None
+-- what is made of one line more
+abbrev pub built_after : Built → List ℕ → Step → Built
+built_after b name (Step.Declare what) = record b { decls = b.decls ++ record { name = name; what = what } ∷ [] }
+built_after b name (Step.Open decl) =
+    record b { decls = b.decls ++ record { name = name; what = What.Function } ∷ []; open_decl = decl; code = [] }
+built_after b name (Step.Do instr) = record b { code = b.code ++ instr ∷ [] }
+built_after b name Step.Close =
+    record b { funcs = b.funcs ++ record { decl = b.open_decl; code = b.code ++ Instr.Finish ∷ [] } ∷ []; code = [] }
+
+-- the functions of a script, where these lines are left
+abbrev pub funcs_left : Names → Bool → Built → List NumberedLine → List Func
+funcs_left names inside b lines =
+    b.funcs ++ (if inside then record { decl = b.open_decl; code = b.code ++ code_of names lines } ∷ funcs_of names lines else funcs_of names lines)
+
+-- the script, where these lines are left
+abbrev pub script_left : Names → Bool → Built → List NumberedLine → Script
+script_left names inside b lines = record {
+  decls = b.decls ++ decls_of names lines;
+  funcs = funcs_left names inside b lines;
+  main = func_place (names (codes "main"));
+}
+
+-- behind a line the same script is left as in front of it
+abbrev pub Goes : Names → Bool → Built → NumberedLine → Bool → Built → Type 0
+Goes names inside b line inside' b' = (lines : List NumberedLine) → script_left names inside' b' lines ≡ script_left names inside b (line ∷ lines)

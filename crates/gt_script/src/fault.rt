@@ -9,14 +9,14 @@ pub struct ScriptFault {
 }
 
 impl ScriptFault {
-    ghost use Rattle.std.specs.Prelude.{◌≡◌, ◌<◌, ◌↔◌};
+    ghost use Rattle.std.specs.Prelude.{◌≡◌, ◌≢◌};
     ghost use Rattle.gt_script.specs.declared.fault.Why.{Why};
 
     /// This cause on this line.
     pub(crate) fn new(line: u32, why: Why) -> ScriptFault
-        requires { 0 < line }
         ensures why { result.why ≡ why }
-        ensures line { (result.line ≡ 0) ↔ (why ≡ Why.NoMemory) }
+        ensures line { why ≢ Why.NoMemory → result.line ≡ line }
+        ensures no_memory { why ≡ Why.NoMemory → result.line ≡ 0 }
     {
         match why {
             Why::NoMemory => ScriptFault { line: 0, why },
@@ -34,17 +34,17 @@ pub enum Why {
     Head,
     /// The first word is unknown or cannot stand here, or the number of words is wrong.
     Word,
-    /// A name is spelled wrongly.
+    /// A name is spelled wrongly, is undeclared, or is of the wrong kind.
     Name,
     /// The name was declared on an earlier line.
     Twice,
     /// The script ends inside a function.
     Missing,
-    /// A duration is spelled wrongly or out of range.
+    /// A number or a duration is spelled wrongly or out of range.
     Number,
     /// An `end` without its function.
     Nest,
-    /// The line brings the instructions above 1,000.
+    /// The line brings the declared names above 4,096, the functions above 256, or the instructions above 100,000.
     Many,
     /// There is no function `main`.
     NoMain,

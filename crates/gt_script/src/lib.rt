@@ -6,12 +6,15 @@ mod fault;
 mod keyword;
 mod lines;
 mod name;
+mod names;
+mod number;
+mod progress;
 mod read;
 mod reader;
-mod stage;
-
-pub use fault::{ScriptFault, Why};
-pub use read::read_script;
-
+mod statement;
 #[cfg(test)]
 mod tests;
+
+pub use fault::{ScriptFault, Why};
+pub use number::read_number;
+pub use read::read_script;

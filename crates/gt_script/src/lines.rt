@@ -1,10 +1,10 @@
 //! The lines of a text, and the words of a line.
 
-ghost use Rattle.std.specs.Prelude.{◌≡◌, ◌==◌, ◌<◌, ◌≤◌, [], ◌∷◌, length, position, not, IfSome, MatchOption};
-ghost use Rattle.std.specs.Option.{option_copied};
+ghost use Rattle.std.specs.Prelude.{◌≡◌, ◌==◌, ◌<◌, [], ◌∷◌, length, position, not, IfSome, MatchOption};
 ghost use Rattle.std.specs.Str.{bytes_eq};
 ghost use Rattle.std.specs.Str.Lines.{lines, strip_carriage_return};
-ghost use Rattle.gt_script.specs.Words.{is_blank, words_of, is_comment, significant_lines, only_word};
+ghost use Rattle.gt_script.specs.Words.{is_blank, words_of, is_comment, lines_from};
+ghost use Rattle.gt_script.specs.Reading.{lines_at};
 
 /// A line that counts: one with words that is no comment.
 #[derive(Clone, Copy)]
@@ -78,17 +78,6 @@ pub(crate) fn first_word(line: &[u8]) -> Option<(&[u8], &[u8])>
     }
 }
 
-/// The word of a line that has no other.
-pub(crate) fn only_word(line: &[u8]) -> Option<&[u8]>
-    ensures { option_copied result ≡ only_word (words_of line.now) }
-{
-    let (word, rest) = first_word(line)?;
-    match first_word(rest) {
-        None => Some(word),
-        Some(_) => None,
-    }
-}
-
 /// Whether a word is this text.
 pub(crate) fn is_text(word: &[u8], text: &[u8]) -> bool
     ensures { result ≡ bytes_eq word.now text.now }
@@ -104,10 +93,8 @@ fn is_comment(word: &[u8]) -> bool
 
 /// The next line of a text that counts; `None` where there is none. The first line of the text has this number.
 pub(crate) fn next_line(text: &[u8], number: u32) -> Option<Line<'_>>
-    ensures next { MatchOption result (significant_lines text.now ≡ [])
-        (λ line. significant_lines text.now ≡ (line.word.now ∷ words_of line.rest.now) ∷ significant_lines line.after.now) }
+    ensures next { lines_at result ≡ lines_from number text.now }
     ensures shorter { IfSome result (λ line. length line.after.now < length text.now) }
-    ensures later { IfSome result (λ line. number ≤ line.number) }
 {
     let mut left = text;
     let mut at = number;

@@ -1,9 +1,9 @@
 //! Names.
 
-ghost use Rattle.std.specs.Prelude.{◌≡◌, ◌&&◌, codes, not};
+ghost use Rattle.std.specs.Prelude.{◌≡◌};
 ghost use Rattle.std.specs.List.{list_all};
-ghost use Rattle.std.specs.Str.{bytes_eq};
 ghost use Rattle.gt_model.specs.Good.{is_letter, is_name_byte, is_name};
+ghost use Rattle.gt_script.specs.Names.{is_free_name};
 
 use crate::lines::is_text;
 
@@ -34,9 +34,9 @@ fn is_spelled(word: &[u8]) -> bool
     }
 }
 
-/// Whether a word is spelled as a name: a letter, then letters, digits and `_`, at most 32 bytes. `root` is no name.
-pub(crate) fn is_name(word: &[u8]) -> bool
-    ensures { result ≡ (is_name word.now && not (bytes_eq word.now (codes "root"))) }
+/// Whether a word may be declared: a letter, then letters, digits and `_`, at most 32 bytes. `root` is no name.
+pub(crate) fn is_free_name(word: &[u8]) -> bool
+    ensures { result ≡ is_free_name word.now }
 {
     is_spelled(word) && !is_text(word, b"root")
 }

@@ -1,253 +1,176 @@
 //! The reader: what it makes of one line after the other.
 
-ghost use Rattle.std.specs.Prelude.{◌≡◌, ◌≢◌, ◌<◌, ◌≤◌, ◌↔◌, ◌&&◌, ◌∷◌, ◌++◌, [], IfErr, IfOk, OnErr, OnOk, codes, is_ok, length, not, vec_len};
-ghost use Rattle.std.specs.Result.{result_ok};
-ghost use Rattle.std.specs.Str.{bytes_eq};
-ghost use Rattle.gt_script.specs.Words.{words_of};
-ghost use Rattle.gt_script.specs.Grammar.{is_head, opens_main, script_with};
-ghost use Rattle.gt_script.specs.Reading.{is_empty, sleep_step, step_of};
+ghost use Rattle.std.specs.Prelude.{◌≡◌, codes};
+ghost use Rattle.gt_script.specs.Faults.{lacks_main};
+ghost use Rattle.gt_script.specs.Known.{known};
+ghost use Rattle.gt_script.specs.Statements.{func_place};
 
-use crate::duration::read_duration;
-use crate::fault::{ScriptFault, Why};
-use crate::keyword::{Keyword, read_keyword};
-use crate::lines::{Line, first_word, is_text, only_word};
-use crate::name::is_name;
-use crate::stage::{Stage, Step};
+use crate::fault::Why;
+use crate::lines::Line;
+use crate::names::NameTable;
+use crate::progress::{Progress, is_function};
+use crate::statement::{Statement, Step, read_command};
 use gt_model::{Code, Decl, Decls, Func, Funcs, Instr, Script, Text, What};
 use std::alloc::{AllocError, Global};
+use std::mem;
 
-/// How many instruction lines a script may have.
-const MOST_INSTRUCTIONS: usize = 1000;
-
-fn is_head(word: &[u8], rest: &[u8]) -> bool
-    ensures { result ≡ is_head (word.now ∷ words_of rest.now) }
-{
-    let Some((kind, rest)) = first_word(rest) else {
-        return false;
-    };
-    let Some(version) = only_word(rest) else {
-        return false;
-    };
-    is_text(word, b"gotime") && is_text(kind, b"script") && is_text(version, b"1")
-}
-
-fn declare(name: &[u8], is_declared: bool) -> Result<(), Why>
-    ensures { is_ok result ≡ (not is_declared && bytes_eq name.now (codes "main")) }
-{
-    if !is_text(name, b"main") {
-        return Err(if is_name(name) { Why::Word } else { Why::Name });
-    }
-    if is_declared { Err(Why::Twice) } else { Ok(()) }
-}
-
-fn nothing_more(rest: &[u8]) -> Result<(), Why>
-    ensures { is_ok result ≡ is_empty (words_of rest.now) }
-{
-    match first_word(rest) {
-        None => Ok(()),
-        Some(_) => Err(Why::Word),
-    }
-}
-
-// A line outside functions, where only `func main` may stand, and only once.
-fn open_function(word: &[u8], rest: &[u8], is_declared: bool) -> Result<(), Why>
-    ensures { is_ok result ≡ (not is_declared && opens_main (word.now ∷ words_of rest.now)) }
-{
-    match read_keyword(word) {
-        Some(Keyword::Func) => match only_word(rest) {
-            None => Err(Why::Word),
-            Some(name) => declare(name, is_declared),
-        },
-        Some(Keyword::End) => match nothing_more(rest) {
-            Ok(()) => Err(Why::Nest),
-            Err(why) => Err(why),
-        },
-        Some(Keyword::Now | Keyword::Sleep) | None => Err(Why::Word),
-    }
-}
-
-fn sleep(rest: &[u8]) -> Result<Step, Why>
-    ensures { result_ok result ≡ sleep_step (words_of rest.now) }
-{
-    let Some(word) = only_word(rest) else {
-        return Err(Why::Word);
-    };
-    match read_duration(word) {
-        None => Err(Why::Number),
-        Some(d) => Ok(Step::Do {
-            instr: Instr::Sleep { d },
-        }),
-    }
-}
-
-// A line inside a function.
-fn next_step(word: &[u8], rest: &[u8]) -> Result<Step, Why>
-    ensures { result_ok result ≡ step_of (word.now ∷ words_of rest.now) }
-{
-    match read_keyword(word) {
-        Some(Keyword::Now) => {
-            nothing_more(rest)?;
-            Ok(Step::Do { instr: Instr::Now })
-        }
-        Some(Keyword::Sleep) => sleep(rest),
-        Some(Keyword::End) => {
-            nothing_more(rest)?;
-            Ok(Step::Close)
-        }
-        Some(Keyword::Func) | None => Err(Why::Word),
-    }
-}
-
-// The script whose one function `main` has these instructions.
-fn make_script(alloc: Global, instructions: Vec<Instr>) -> Result<Script, AllocError>
-    ensures { IfOk result (λ script. script ≡ script_with instructions.items) }
-{
-    let mut code = instructions;
-    code.push(Instr::Finish)?;
-    let mut funcs = Vec::new(alloc);
-    funcs.push(Func {
-        decl: 0,
-        code: Code::of(code),
-    })?;
-    let name = Text::of(Vec::from_slice(alloc, b"main")?);
-    let mut decls = Vec::new(alloc);
-    decls.push(Decl {
-        name,
-        what: What::Function,
-    })?;
-    Ok(Script {
-        decls: Decls::of(decls),
-        funcs: Funcs::of(funcs),
-        main: 0,
-    })
-}
-
-/// How far a script is read, and the instructions of `main` so far.
+/// What is made of the lines so far.
 #[derive(Drop)]
 pub(crate) struct Reader {
-    pub(crate) stage: Stage,
+    alloc: Global,
+    pub(crate) progress: Progress,
+    pub(crate) decls: Vec<Decl>,
+    /// The functions that are closed.
+    pub(crate) funcs: Vec<Func>,
+    /// The place of the function that is open among the declarations.
+    pub(crate) open_decl: u32,
+    /// The instructions of the function that is open.
     pub(crate) code: Vec<Instr>,
-    /// The number of the last line that counted, at first 1.
-    last: u32,
-    ghost few: { vec_len code ≤ 1000 },
-    ghost counted: { 0 < last },
+}
+
+/// Whether the script ends here without a function `main`.
+pub(crate) fn lacks_main(names: &NameTable, is_last: bool) -> bool
+    ensures { result ≡ lacks_main (known names.now) is_last }
+{
+    is_last && !is_function(names.find(b"main"))
+}
+
+fn main_place(names: &NameTable) -> u32
+    ensures { result ≡ func_place (known names.now (codes "main")) }
+{
+    match names.find(b"main") {
+        None => 0,
+        Some(main) => main.func,
+    }
 }
 
 impl Reader {
+    ghost use Rattle.std.specs.Prelude.{◌≡◌, ◌≢◌, ◌∷◌, ◌++◌, [], None, Some, OnOk, IfErr, IfSome, IsSome, false};
     ghost use Rattle.gt_script.specs.declared.fault.Why.{Why};
-    ghost use Rattle.gt_script.specs.declared.stage.Stage.{Stage};
-    ghost use Rattle.gt_script.specs.Reading.{Reads, Refuses, script_left};
+    ghost use Rattle.gt_script.specs.Faults.{brings_too_many, cause_at, progress_after, progress_with, no_progress};
+    ghost use Rattle.gt_script.specs.Known.{known};
+    ghost use Rattle.gt_script.specs.Statements.{step_of};
+    ghost use Rattle.gt_script.specs.Reading.{Goes, line_at, built, built_after, nothing_built, script_left};
 
     pub(crate) fn new(alloc: Global) -> Reader
-        ensures stage { result.stage ≡ Stage.Start }
-        ensures code { result.code.items ≡ [] }
+        ensures progress { result.progress ≡ no_progress }
+        ensures built { built result.decls.items result.funcs.items result.open_decl result.code.items ≡ nothing_built }
     {
         Reader {
-            stage: Stage::Start,
+            alloc,
+            progress: Progress::new(),
+            decls: Vec::new(alloc),
+            funcs: Vec::new(alloc),
+            open_decl: 0,
             code: Vec::new(alloc),
-            last: 1,
         }
     }
 
-    fn take_head(&mut self, word: &[u8], rest: &[u8]) -> Result<(), Why>
-        requires { self.old.stage ≡ Stage.Start }
-        ensures taken { OnOk result
-            (Reads Stage.Start self.old.code.items (word.now ∷ words_of rest.now) self.new.stage self.new.code.items) }
-        ensures refused { OnErr result (Refuses Stage.Start self.old.code.items (word.now ∷ words_of rest.now)) }
+    fn declare(&mut self, name: &[u8], what: What) -> Result<(), AllocError>
+        ensures decls { OnOk result
+            (self.new.decls.items ≡ self.old.decls.items ++ record { name = name.now; what = what } ∷ []) }
+        ensures funcs { self.new.funcs.items ≡ self.old.funcs.items }
+        ensures open_decl { self.new.open_decl ≡ self.old.open_decl }
+        ensures code { self.new.code.items ≡ self.old.code.items }
+        ensures progress { self.new.progress ≡ self.old.progress }
     {
-        if !is_head(word, rest) {
-            return Err(Why::Head);
-        }
-        self.stage = Stage::Outside;
+        let name = Text::of(Vec::from_slice(self.alloc, name)?);
+        self.decls.push(Decl { name, what })?;
         Ok(())
     }
 
-    fn take_outside(&mut self, word: &[u8], rest: &[u8]) -> Result<(), Why>
-        requires { self.old.stage ≡ Stage.Outside }
-        ensures taken { OnOk result
-            (Reads Stage.Outside self.old.code.items (word.now ∷ words_of rest.now) self.new.stage self.new.code.items) }
-        ensures refused { OnErr result (Refuses Stage.Outside self.old.code.items (word.now ∷ words_of rest.now)) }
+    fn close(&mut self) -> Result<(), AllocError>
+        ensures decls { self.new.decls.items ≡ self.old.decls.items }
+        ensures funcs { OnOk result (self.new.funcs.items ≡ self.old.funcs.items
+            ++ record { decl = self.old.open_decl; code = self.old.code.items ++ Instr.Finish ∷ [] } ∷ []) }
+        ensures open_decl { self.new.open_decl ≡ self.old.open_decl }
+        ensures code { OnOk result (self.new.code.items ≡ []) }
+        ensures progress { self.new.progress ≡ self.old.progress }
     {
-        open_function(word, rest, false)?;
-        self.stage = Stage::Main;
+        self.code.push(Instr::Finish)?;
+        let code = mem::replace(&mut self.code, Vec::new(self.alloc));
+        self.funcs.push(Func {
+            decl: self.open_decl,
+            code: Code::of(code),
+        })?;
         Ok(())
     }
 
-    fn add(&mut self, instr: Instr) -> Result<(), Why>
-        ensures ok { OnOk result (self.new.code.items ≡ self.old.code.items ++ instr ∷ []) }
-        ensures stage { self.new.stage ≡ self.old.stage }
-        ensures many { IfErr result (λ why. why ≢ Why.NoMemory → length self.old.code.items ≡ 1000) }
+    // Does what a statement does, whose first word may be a name.
+    fn take(&mut self, name: &[u8], step: Step) -> Result<(), AllocError>
+        ensures built { OnOk result (built self.new.decls.items self.new.funcs.items self.new.open_decl self.new.code.items
+            ≡ built_after (built self.old.decls.items self.old.funcs.items self.old.open_decl self.old.code.items) name.now step) }
+        ensures progress { self.new.progress ≡ self.old.progress }
     {
-        if self.code.len() >= MOST_INSTRUCTIONS {
-            return Err(Why::Many);
-        }
-        match self.code.push(instr) {
-            Ok(()) => Ok(()),
-            Err(_) => Err(Why::NoMemory),
-        }
-    }
-
-    fn take_inside(&mut self, word: &[u8], rest: &[u8]) -> Result<(), Why>
-        requires { self.old.stage ≡ Stage.Main }
-        ensures taken { OnOk result
-            (Reads Stage.Main self.old.code.items (word.now ∷ words_of rest.now) self.new.stage self.new.code.items) }
-        ensures refused { IfErr result
-            (λ why. why ≢ Why.NoMemory → Refuses Stage.Main self.old.code.items (word.now ∷ words_of rest.now)) }
-    {
-        match next_step(word, rest) {
-            Err(why) => Err(why),
-            Ok(Step::Close) => {
-                self.stage = Stage::Over;
+        match step {
+            Step::Declare { what } => self.declare(name, what),
+            Step::Open { decl } => {
+                self.open_decl = decl;
+                self.code = Vec::new(self.alloc);
+                self.declare(name, What::Function)
+            }
+            Step::Do { instr } => {
+                self.code.push(instr)?;
                 Ok(())
             }
-            Ok(Step::Do { instr }) => self.add(instr),
+            Step::Close => self.close(),
+        }
+    }
+    // Goes on behind a statement with nothing wrong, whose first word may be a name.
+    fn go_on(&mut self, name: &[u8], statement: &Statement) -> Result<(), AllocError>
+        requires room { brings_too_many self.old.progress statement.now ≡ false }
+        requires known { IsSome (step_of statement.now) }
+        ensures progress { OnOk result (self.new.progress ≡ progress_with self.old.progress statement.now.keyword) }
+        ensures built { OnOk result (IfSome (step_of statement.now) (λ step.
+            built self.new.decls.items self.new.funcs.items self.new.open_decl self.new.code.items
+            ≡ built_after (built self.old.decls.items self.old.funcs.items self.old.open_decl self.old.code.items) name.now step)) }
+    {
+        self.progress = self.progress.after(statement);
+        match statement.step() {
+            Some(step) => self.take(name, step),
+            None => unreachable!(),
         }
     }
 
-    // A line that counts: its first word, and what stands behind that.
-    fn take(&mut self, word: &[u8], rest: &[u8]) -> Result<(), Why>
-        ensures taken { OnOk result
-            (Reads self.old.stage self.old.code.items (word.now ∷ words_of rest.now) self.new.stage self.new.code.items) }
-        ensures refused { IfErr result
-            (λ why. why ≢ Why.NoMemory → Refuses self.old.stage self.old.code.items (word.now ∷ words_of rest.now)) }
+    /// Reads the next line behind the first one.
+    pub(crate) fn read<'a>(
+        &mut self,
+        names: &NameTable<'a>,
+        line: &Line<'a>,
+        is_last: bool,
+    ) -> Result<(), Why>
+        ensures fault { IfErr result (λ why. why ≢ Why.NoMemory
+            → cause_at (known names.now) is_last self.old.progress (line_at line.now) ≡ Some why) }
+        ensures faultless { OnOk result (cause_at (known names.now) is_last self.old.progress (line_at line.now) ≡ None) }
+        ensures progress { OnOk result (self.new.progress ≡ progress_after self.old.progress (line_at line.now)) }
+        ensures built { OnOk result (Goes (known names.now)
+            self.old.progress.inside (built self.old.decls.items self.old.funcs.items self.old.open_decl self.old.code.items)
+            (line_at line.now)
+            self.new.progress.inside (built self.new.decls.items self.new.funcs.items self.new.open_decl self.new.code.items)) }
     {
-        match self.stage {
-            Stage::Start => self.take_head(word, rest),
-            Stage::Outside => self.take_outside(word, rest),
-            Stage::Main => self.take_inside(word, rest),
-            Stage::Over => open_function(word, rest, true),
+        let Some(command) = read_command(line.word, line.rest) else {
+            return Err(Why::Word);
+        };
+        let statement = command.read(names);
+        let lacks_main = lacks_main(names, is_last);
+        match self.progress.cause(&statement, is_last, lacks_main) {
+            Some(why) => Err(why),
+            None => match self.go_on(command.first, &statement) {
+                Ok(()) => Ok(()),
+                Err(_) => Err(Why::NoMemory),
+            },
         }
-    }
-
-    /// Reads the next line that counts.
-    pub(crate) fn read(&mut self, line: &Line) -> Result<(), Why>
-        requires { 0 < line.now.number }
-        ensures taken { OnOk result
-            (Reads self.old.stage self.old.code.items (line.now.word.now ∷ words_of line.now.rest.now)
-            self.new.stage self.new.code.items) }
-        ensures refused { IfErr result
-            (λ why. why ≢ Why.NoMemory →
-            Refuses self.old.stage self.old.code.items (line.now.word.now ∷ words_of line.now.rest.now)) }
-    {
-        self.last = line.number;
-        self.take(line.word, line.rest)
     }
 
     /// The script, where no line is left.
-    pub(crate) fn finish(self, alloc: Global) -> Result<Script, ScriptFault>
-        ensures read { IfOk result (λ script. script_left self.stage self.code.items [] ≡ Some script) }
-        ensures refused { IfErr result
-            (λ fault. fault.why ≢ Why.NoMemory → script_left self.stage self.code.items [] ≡ None) }
-        ensures line { IfErr result (λ fault. (fault.line ≡ 0) ↔ (fault.why ≡ Why.NoMemory)) }
+    pub(crate) fn finish(self, names: &NameTable) -> Script
+        ensures { result
+            ≡ script_left (known names.now) false (built self.decls.items self.funcs.items self.open_decl self.code.items) [] }
     {
-        match self.stage {
-            Stage::Start => Err(ScriptFault::new(self.last, Why::Head)),
-            Stage::Outside => Err(ScriptFault::new(self.last, Why::NoMain)),
-            Stage::Main => Err(ScriptFault::new(self.last, Why::Missing)),
-            Stage::Over => match make_script(alloc, self.code) {
-                Ok(script) => Ok(script),
-                Err(_) => Err(ScriptFault::new(self.last, Why::NoMemory)),
-            },
+        Script {
+            decls: Decls::of(self.decls),
+            funcs: Funcs::of(self.funcs),
+            main: main_place(names),
         }
     }
 }

@@ -1,278 +1,184 @@
-use super::*;
-use gt_model::{Instr, Script};
-use std::alloc::{AllocError, Global};
+//! Texts, and what they spell or why they are refused.
+
+use crate::{Why, read_script};
+use gt_model::{Instr, Script, What};
 use std::test::Fail;
 
-fn code_of(script: &Script) -> Option<&[Instr]> {
-    let func = script.funcs.as_slice().first()?;
-    Some(func.code.as_slice())
+fn is_refused(alloc: std::alloc::Global, text: &[u8], line: u32, why: Why) -> bool {
+    match read_script(alloc, text) {
+        Ok(_) => false,
+        Err(fault) => fault.line == line && fault.why == why,
+    }
+}
+
+fn is_read(alloc: std::alloc::Global, text: &[u8]) -> bool {
+    read_script(alloc, text).is_ok()
 }
 
 #[test]
-fn accepts(rt: HostRuntime) {
-    let rows = [
-        (
-            "gotime script 1\nfunc main\nend\n",
-            [Instr::Finish].as_slice(),
-        ),
-        (
-            "gotime script 1\nfunc main\nnow\nend",
-            [Instr::Now, Instr::Finish].as_slice(),
-        ),
-        (
-            "gotime script 1\r\nfunc main\r\nsleep 0\r\nend\r\n",
-            [Instr::Sleep { d: 0 }, Instr::Finish].as_slice(),
-        ),
-        (
-            "# \u{e9}\n\ngotime  script\t1\n \tfunc main\n#end\nnow\n\t\nsleep 007ms\n end \n#",
-            [Instr::Now, Instr::Sleep { d: 7_000_000 }, Instr::Finish].as_slice(),
-        ),
-        (
-            "gotime script 1\nfunc main\nsleep 9223372036854ms\nsleep 0ms\nend",
-            [
-                Instr::Sleep {
-                    d: 9_223_372_036_854_000_000,
-                },
-                Instr::Sleep { d: 0 },
-                Instr::Finish,
-            ]
-            .as_slice(),
-        ),
-        (
-            "gotime script 1\nfunc main\nsleep 00000000000000000000000000000001ms\nend",
-            [Instr::Sleep { d: 1_000_000 }, Instr::Finish].as_slice(),
-        ),
+fn refuses_heads_and_ends(rt: HostRuntime) {
+    let cases: [(&[u8], u32, Why); 14] = [
+        (b"", 1, Why::Head),
+        (b"# only this\n\n", 1, Why::Head),
+        (b"\n\ntimer t\n", 3, Why::Head),
+        (b"gotime script 01\nfunc main\nend\n", 1, Why::Head),
+        (b"gotime script 1\n", 1, Why::NoMain),
+        (b"gotime script 1\nfunc f\nend\n", 3, Why::NoMain),
+        (b"gotime script 1\ntimer main\n", 2, Why::NoMain),
+        (b"gotime script 1\nfunc main\nnow\n", 3, Why::Missing),
+        (b"gotime script 1\nfunc main\nsleep x", 3, Why::Missing),
+        (b"gotime script 1\nfunc main\nstop x", 3, Why::Name),
+        (b"gotime script 1\nfunc f", 2, Why::Missing),
+        (b"gotime script 1\nend\nfunc main\nend\n", 2, Why::Nest),
+        (b"gotime script 1\nend x\nfunc main\nend\n", 2, Why::Word),
+        (b"gotime script 1\nfunc main\nend\r", 3, Why::Word),
     ];
-    for (text, code) in rows {
-        match read_script(rt.alloc(), text.as_bytes()) {
-            Ok(script) => assert_eq!(rt; code_of(&script), Some(code), "in {text:?}"),
-            Err(fault) => assert_eq!(rt; Some(fault), None, "in {text:?}"),
-        }
+    for (text, line, why) in cases {
+        assert!(rt; is_refused(rt.alloc(), text, line, why), "{text:?}");
     }
 }
 
 #[test]
-fn names_the_first_fault(rt: HostRuntime) {
-    for (text, line, why) in ROWS {
-        let fault = read_script(rt.alloc(), text.as_bytes()).err();
-        assert_eq!(rt; fault, Some(ScriptFault { line, why }), "in {text:?}");
-    }
-}
-
-const ROWS: [(&str, u32, Why); 53] = [
-    ("", 1, Why::Head),
-    ("\n# only\n \t\n", 1, Why::Head),
-    ("gotime script 01\n", 1, Why::Head),
-    ("gotime script\n", 1, Why::Head),
-    ("gotime script 1 1\n", 1, Why::Head),
-    ("gotime script 1\r\r\n", 1, Why::Head),
-    ("# first\nfunc main\nend\n", 2, Why::Head),
-    ("gotime script 1", 1, Why::NoMain),
-    ("\n gotime script 1\n# end\n", 2, Why::NoMain),
-    ("gotime script 1\nnow\n", 2, Why::Word),
-    ("gotime script 1\nsleep x\n", 2, Why::Word),
-    ("gotime script 1\ntimer t\n", 2, Why::Word),
-    ("gotime script 1\ngotime script 1\n", 2, Why::Word),
-    ("gotime script 1\nfunc\n", 2, Why::Word),
-    ("gotime script 1\nfunc main main\n", 2, Why::Word),
-    ("gotime script 1\nfunc worker\nend\n", 2, Why::Word),
-    (
-        "gotime script 1\nfunc abcdefghijklmnopqrstuvwxyz_12345\n",
-        2,
-        Why::Word,
-    ),
-    (
-        "gotime script 1\nfunc abcdefghijklmnopqrstuvwxyz_123456\n",
-        2,
-        Why::Name,
-    ),
-    ("gotime script 1\nfunc 1st\n", 2, Why::Name),
-    ("gotime script 1\nfunc a-b\n", 2, Why::Name),
-    ("gotime script 1\nfunc root\n", 2, Why::Name),
-    ("gotime script 1\nfunc main\rx\nend\n", 2, Why::Name),
-    ("gotime script 1\nend\n", 2, Why::Nest),
-    ("gotime script 1\nend end\n", 2, Why::Word),
-    ("gotime script 1\nfunc main\n", 2, Why::Missing),
-    ("gotime script 1\nfunc main\nnow", 3, Why::Missing),
-    (
-        "gotime script 1\nfunc main\nsleep 5ms\n# end\n\n",
-        3,
-        Why::Missing,
-    ),
-    (
-        "gotime script 1\nfunc main\nsleep 5x\n \n#",
-        3,
-        Why::Missing,
-    ),
-    ("gotime script 1\nfunc main\nsleep\n", 3, Why::Word),
-    (
-        "gotime script 1\nfunc main\nsleep 1ms 2ms\nend\n",
-        3,
-        Why::Word,
-    ),
-    (
-        "gotime script 1\nfunc main\nsleep 1x 2 3 4 5 6\nend\n",
-        3,
-        Why::Word,
-    ),
-    ("gotime script 1\nfunc main\nnow 1\nend\n", 3, Why::Word),
-    ("gotime script 1\nfunc main\nend 1\n", 3, Why::Word),
-    ("gotime script 1\nfunc main\nsay 1\nend\n", 3, Why::Word),
-    ("gotime script 1\nfunc main\nfunc main\nend\n", 3, Why::Word),
-    ("gotime script 1\nfunc main\nend\r", 3, Why::Word),
-    (
-        "gotime script 1\nfunc main\nsleep 1.5s\nend\n",
-        3,
-        Why::Number,
-    ),
-    (
-        "gotime script 1\nfunc main\nsleep 5s\nend\n",
-        3,
-        Why::Number,
-    ),
-    ("gotime script 1\nfunc main\nsleep 5\nend\n", 3, Why::Number),
-    (
-        "gotime script 1\nfunc main\nsleep 00\nend\n",
-        3,
-        Why::Number,
-    ),
-    (
-        "gotime script 1\nfunc main\nsleep ms\nend\n",
-        3,
-        Why::Number,
-    ),
-    (
-        "gotime script 1\nfunc main\nsleep +5ms\nend\n",
-        3,
-        Why::Number,
-    ),
-    (
-        "gotime script 1\nfunc main\nsleep 5msx\nend\n",
-        3,
-        Why::Number,
-    ),
-    (
-        "gotime script 1\nfunc main\nsleep 1ms2ms\nend\n",
-        3,
-        Why::Number,
-    ),
-    (
-        "gotime script 1\nfunc main\nsleep 9223372036855ms\nend\n",
-        3,
-        Why::Number,
-    ),
-    (
-        "gotime script 1\nfunc main\nsleep 18446744073709ms\nend\n",
-        3,
-        Why::Number,
-    ),
-    (
-        "gotime script 1\nfunc main\nsleep 18446744073709551617ms\nend\n",
-        3,
-        Why::Number,
-    ),
-    ("gotime script 1\nfunc main\nend\nend\n", 4, Why::Nest),
-    ("gotime script 1\nfunc main\nend\nnow\n", 4, Why::Word),
-    (
-        "gotime script 1\nfunc main\nend\n\nfunc main\nend\n",
-        5,
-        Why::Twice,
-    ),
-    (
-        "gotime script 1\nfunc main\nend\nfunc worker\nend\n",
-        4,
-        Why::Word,
-    ),
-    (
-        "gotime script 1\nfunc main\nend\nfunc -\nend\n",
-        4,
-        Why::Name,
-    ),
-    ("gotime script 1\nfunc main\nend\n---\n", 4, Why::Word),
-];
-
-#[test]
-fn names_the_line_that_is_no_utf8(rt: HostRuntime) {
-    let rows = [
-        (b"\xff".as_slice(), 1, Why::Utf8),
+fn refuses_words_names_and_numbers(rt: HostRuntime) {
+    let cases: [(&[u8], u32, Why); 19] = [
+        (b"gotime script 1\nnow\n", 2, Why::Word),
+        (b"gotime script 1\nticker k\n", 2, Why::Word),
+        (b"gotime script 1\nfunc main\nloop 2\n", 3, Why::Word),
+        (b"gotime script 1\nfunc main\nend\n---\n", 4, Why::Word),
         (
-            b"gotime script 1\n# \xff\nfunc main\nend\n".as_slice(),
-            2,
-            Why::Utf8,
+            b"gotime script 1\nfunc main\nfunc f\nend\nend\n",
+            3,
+            Why::Word,
         ),
-        (b"gotime script 1\nnow\xc3\n".as_slice(), 2, Why::Utf8),
         (
-            b"gotime script 1\nfunc main\nend\n\xc3".as_slice(),
+            b"gotime script 1\ntimer t\nfunc main\nnew t\nend\n",
             4,
-            Why::Utf8,
+            Why::Word,
         ),
-        (b"gotime script 2\n# \xff\n".as_slice(), 1, Why::Head),
         (
-            b"gotime script 1\nfunc main\nsleep 5x\n\xff\n".as_slice(),
+            b"gotime script 1\nfunc main\nstop t\nend\ntimer t t\n",
+            5,
+            Why::Word,
+        ),
+        (b"gotime script 1\nfunc main\nstop x\nend\n", 3, Why::Name),
+        (b"gotime script 1\ntimer root\n", 2, Why::Name),
+        (b"gotime script 1\ntimer 2x\n", 2, Why::Name),
+        (b"gotime script 1\nafterfunc f t\ntimer t\n", 2, Why::Name),
+        (
+            b"gotime script 1\nafterfunc f main\nfunc main\nrecv f\nend\n",
+            4,
+            Why::Name,
+        ),
+        (
+            b"gotime script 1\ntimer t\nfunc main\ngo t\nend\n",
+            4,
+            Why::Name,
+        ),
+        (b"gotime script 1\ntimer t\nfunc t\nend\n", 3, Why::Twice),
+        (
+            b"gotime script 1\nfunc main\nsleep 1.5s\nend\n",
             3,
             Why::Number,
         ),
         (
-            b"gotime script 1\nfunc main\nsleep 5x\n#\xff\n".as_slice(),
+            b"gotime script 1\nfunc main\nsay 4294967296\nend\n",
             3,
-            Why::Missing,
+            Why::Number,
+        ),
+        (b"gotime script 1\nfunc main\nsay -1\nend\n", 3, Why::Number),
+        (b"gotime script 1\nfunc main\n# \xff\nend\n", 3, Why::Utf8),
+        (
+            b"gotime script 1\nfunc main\nstop t\nend\n# \xff\ntimer t\n",
+            5,
+            Why::Utf8,
         ),
     ];
-    for (text, line, why) in rows {
-        let fault = read_script(rt.alloc(), text).err();
-        assert_eq!(rt; fault, Some(ScriptFault { line, why }), "in {text:?}");
+    for (text, line, why) in cases {
+        assert!(rt; is_refused(rt.alloc(), text, line, why), "{text:?}");
     }
-}
-
-fn text_with(alloc: Global, instructions: u32, behind: &[u8]) -> Result<Vec<u8>, AllocError> {
-    let mut text = Vec::from_slice(alloc, b"gotime script 1\nfunc main\n")?;
-    for _ in 0..instructions {
-        text.extend_from_slice(b"now\n")?;
-    }
-    text.extend_from_slice(behind)?;
-    Ok(text)
 }
 
 #[test]
-fn takes_a_thousand_instructions(rt: HostRuntime) -> Result<(), Fail> {
-    let rows = [
-        (1000, b"end\n".as_slice(), None),
-        (
-            1001,
-            b"end\n".as_slice(),
-            Some(ScriptFault {
-                line: 1003,
-                why: Why::Many,
-            }),
-        ),
-        (
-            1001,
-            b"\n".as_slice(),
-            Some(ScriptFault {
-                line: 1003,
-                why: Why::Missing,
-            }),
-        ),
-        (
-            1000,
-            b"sleep 1\nend\n".as_slice(),
-            Some(ScriptFault {
-                line: 1003,
-                why: Why::Number,
-            }),
-        ),
-        (
-            1000,
-            b"now 1\nend\n".as_slice(),
-            Some(ScriptFault {
-                line: 1003,
-                why: Why::Word,
-            }),
-        ),
-    ];
-    for (instructions, behind, fault) in rows {
-        let text = text_with(rt.alloc(), instructions, behind)?;
-        assert_eq!(rt; read_script(rt.alloc(), text.as_slice()).err(), fault);
+fn refuses_above_its_limits(rt: HostRuntime) -> Result<(), Fail> {
+    let mut names = String::from_str(rt.alloc(), "gotime script 1\n")?;
+    let mut functions = String::from_str(rt.alloc(), "gotime script 1\nfunc main\nend\n")?;
+    let mut instructions = String::from_str(rt.alloc(), "gotime script 1\nfunc main\n")?;
+    for i in 0..4097 {
+        names.push_str(format!(in rt.alloc(); "timer t{i}\n")?.as_str())?;
     }
+    for i in 0..256 {
+        functions.push_str(format!(in rt.alloc(); "func f{i}\nend\n")?.as_str())?;
+    }
+    for _ in 0..100001 {
+        instructions.push_str("now\n")?;
+    }
+    assert!(rt; is_refused(rt.alloc(), names.as_bytes(), 4098, Why::Many));
+    assert!(rt; is_refused(rt.alloc(), functions.as_bytes(), 514, Why::Many));
+    instructions.push_str("end\n")?;
+    assert!(rt; is_refused(rt.alloc(), instructions.as_bytes(), 100003, Why::Many));
     Ok(())
+}
+
+const WORKED: &[u8] =
+    b"gotime  script\t1\r\n# c\r\nafterfunc f tick\ntimer t\nfunc main\n\tgo later\nnew t 10ms\nnew f 5ms\nstop t\nreset f 0\nrecv t\nsay 007\nnow\nsleep 3ms\nend\n\nfunc tick\nend\nfunc later\nend\n";
+
+fn has_kinds(script: &Script) -> bool {
+    match script.decls.as_slice() {
+        [f, t, main, tick, later] => {
+            f.what == What::AfterFunc { func: 1 }
+                && f.name.as_slice() == b"f".as_slice()
+                && t.what == What::Timer
+                && main.what == What::Function
+                && tick.what == What::Function
+                && later.name.as_slice() == b"later".as_slice()
+        }
+        _ => false,
+    }
+}
+
+fn has_code(script: &Script) -> bool {
+    let code = [
+        Instr::Go { f: 2 },
+        Instr::New {
+            t: 1,
+            d: 10_000_000,
+        },
+        Instr::New { t: 0, d: 5_000_000 },
+        Instr::Stop { t: 1 },
+        Instr::Reset { t: 0, d: 0 },
+        Instr::Recv { o: 1 },
+        Instr::Say { n: 7 },
+        Instr::Now,
+        Instr::Sleep { d: 3_000_000 },
+        Instr::Finish,
+    ];
+    match script.funcs.as_slice() {
+        [main, tick, later] => {
+            main.decl == 2
+                && main.code.as_slice() == code.as_slice()
+                && tick.decl == 3
+                && later.code.as_slice() == [Instr::Finish].as_slice()
+        }
+        _ => false,
+    }
+}
+
+#[test]
+fn reads_what_scripts_spell(rt: HostRuntime) {
+    match read_script(rt.alloc(), WORKED) {
+        Ok(script) => assert!(rt; has_kinds(&script) && has_code(&script) && script.main == 0),
+        Err(fault) => assert!(rt; false, "{fault:?}"),
+    }
+    assert!(rt;
+        is_read(
+            rt.alloc(),
+            b"gotime script 1\nfunc main\nsay 4294967295\nend"
+        )
+    );
+    assert!(rt;
+        is_read(
+            rt.alloc(),
+            b"gotime script 1\nfunc main\ngo main\nend\ntimer a2345678901234567890123456789012"
+        )
+    );
 }

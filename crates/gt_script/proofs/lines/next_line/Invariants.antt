@@ -1,12 +1,11 @@
 use Rattle.std.proofs.Common.{◌≡◌, ◌≤◌, length}
-use Rattle.gt_script.specs.Words.{significant_lines}
+use Rattle.gt_script.specs.Words.{lines_from}
 use Rattle.gt_script.proofs.lines.next_line.Given as goal
 
 abbrev pub invariant-loop-line : goal.invariant-loop-line
 invariant-loop-line l = record {
-  lines : significant_lines l.left ≡ significant_lines l.text;
-  shorter : length l.left ≤ length l.text;
-  later : l.number ≤ l.at;
+  left : lines_from l.at l.left ≡ lines_from l.number l.text;
+  short : length l.left ≤ length l.text;
 }
 
 abbrev pub decreases-loop-line : goal.decreases-loop-line

@@ -1,7 +1,7 @@
 use Rattle.std.proofs.Common.{sym, arith}
 use Rattle.std.proofs.lemmas.Grind.{common_steps}
 use Rattle.gt_script.proofs.ReadingLemmas.{is_head-words}
-use Rattle.gt_script.proofs.reader.is_head.Goals as goal
+use Rattle.gt_script.proofs.read.is_head.Goals as goal
 
 pub returns-then-is_text-2 : goal.returns-then-is_text-2
 returns-then-is_text-2 c =

@@ -1,0 +1,16 @@
+use Rattle.std.proofs.Common.{◌≡◌, true, false}
+use Rattle.gt_script.specs.Known.{known}
+use Rattle.gt_script.specs.Faults.{fault_from, is_end, no_progress}
+use Rattle.gt_script.specs.Reading.{built, nothing_built, lines_at, script_left}
+use Rattle.gt_script.proofs.ReadingLemmas.{bytes_left}
+use Rattle.gt_script.proofs.read.read_body.Given as goal
+
+abbrev pub invariant-loop-ahead : goal.invariant-loop-ahead
+invariant-loop-ahead l = record {
+  fault : fault_from (known l.names) l.reader.progress (lines_at l.ahead) ≡ fault_from (known l.names) no_progress (lines_at l.first);
+  script : script_left (known l.names) l.reader.progress.inside (built l.reader.decls.items l.reader.funcs.items l.reader.open_decl l.reader.code.items) (lines_at l.ahead) ≡ script_left (known l.names) false nothing_built (lines_at l.first);
+  outside : is_end (lines_at l.ahead) ≡ true → l.reader.progress.inside ≡ false;
+}
+
+abbrev pub decreases-loop-ahead : goal.decreases-loop-ahead
+decreases-loop-ahead l = bytes_left l.ahead

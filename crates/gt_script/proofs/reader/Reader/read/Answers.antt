@@ -1,0 +1,29 @@
+use Rattle.std.proofs.Common.{sym, ap}
+use Rattle.gt_script.specs.declared.progress.Progress.{Progress}
+use Rattle.gt_script.specs.Known.{known}
+use Rattle.gt_script.specs.Statements.{command}
+use Rattle.gt_script.specs.Reading.{line_at, built}
+use Rattle.gt_script.proofs.ReadingLemmas.{is_right, goes, step-IsSome}
+use Rattle.gt_script.proofs.reader.Reader.read.Goals as goal
+
+pub go_on-requires-clause-room : goal.go_on-requires-clause-room
+go_on-requires-clause-room c = (is_right _ _ c.args.self.now.progress c.read-statement.result (sym c.in-None.ensures)).room
+
+pub go_on-requires-clause-known : goal.go_on-requires-clause-known
+go_on-requires-clause-known c =
+    let right = is_right _ _ c.args.self.now.progress c.read-statement.result (sym c.in-None.ensures) in
+    step-IsSome c.read-statement.result right.names right.counts
+
+pub returns-in-Ok-clause-built : goal.returns-in-Ok-clause-built
+returns-in-Ok-clause-built c =
+    let old = c.args.self.now in
+    let new = c.go_on.new.self in
+    goes (known c.args.names.now) old.progress
+    (built old.decls.items old.funcs.items old.open_decl old.code.items)
+    (built new.decls.items new.funcs.items new.open_decl new.code.items)
+    (line_at c.args.line.now)
+    (command c.in-Some.command.keyword c.in-Some.command.first.now c.in-Some.command.second.now)
+    c.read-statement.result new.progress.inside _ _
+    c.in-Some.ensures c.read-statement.ensures
+    (is_right _ _ old.progress c.read-statement.result (sym c.in-None.ensures))
+    (ap (λ (p : Progress). p.inside) c.in-Ok.ensures.progress) c.in-Ok.ensures.built
