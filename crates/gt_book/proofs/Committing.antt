@@ -1,0 +1,245 @@
+-- What an operation needs that is committed while the run goes on.
+use Rattle.std.proofs.Common.{◌≡◌, ℕ, zero, suc, ◌+◌, ◌<◌, ◌≤◌, min, length, refl, sym, ap, subst, ◌∙◌, arith, slice_get, Option, None, Some, Bool, true, false, not, ◌&&◌, ◌||◌, IsTrue, IsSomeAnd, is_some, is_none, drop, inl, inr, ◌⊎◌}
+use Rattle.std.proofs.lemmas.Bool.{le-leb, eqb-true}
+use Rattle.gt_model.specs.declared.time.TheConstants.{CAP}
+use Rattle.gt_model.specs.declared.script.Script.{Script}
+use Rattle.gt_model.specs.declared.script.Instr.{Instr}
+use Rattle.gt_model.specs.declared.entry.Entry.{Entry}
+use Rattle.gt_model.specs.declared.entry.Outcome.{Outcome}
+use Rattle.gt_model.specs.declared.entry.Reason.{Reason}
+use Rattle.gt_model.specs.declared.state.Timer.{Timer}
+use Rattle.gt_model.specs.State.{State, goroutine_at, timer_at, stands, stands_at, clock, clock_of, sleeps_until, due_of, is_timer, is_func}
+use Rattle.gt_model.specs.Panics.{fault, fault_at, panic_of, panic_at, when}
+use Rattle.gt_model.specs.Ready.{is_due}
+use Rattle.gt_model.specs.Legal.{May, Does, Receives, operation, due_at, sleep_end}
+use Rattle.gt_model.specs.Counted.{receives}
+use Rattle.gt_queue.specs.Contents.{waiting_in}
+use Rattle.gt_book.specs.declared.status.RunStatus.{RunStatus}
+use Rattle.gt_book.specs.declared.step.Step.{Step}
+use Rattle.gt_book.specs.declared.answers.Op.{Op}
+use Rattle.gt_book.specs.declared.answers.TimerOp.{TimerOp}
+use Rattle.gt_book.specs.declared.answers.Whose.{Whose}
+use Rattle.gt_book.specs.Schedule.{Schedule, status_of, queue_at}
+use Rattle.gt_book.specs.Steps.{step_of, step_or_panic, step_of_instr, plainly, is_late, is_gone, MayCommit}
+use Rattle.gt_book.specs.Least.{IsTimeOf}
+use Rattle.gt_book.specs.View.{BookView, IsLawful, Fits, outcome_of, is_parked, is_parked_at, is_at_receive}
+use Rattle.gt_book.specs.Queues.{as_number, times}
+use Rattle.gt_book.proofs.Machines.{world_of-zero, timer_within}
+use Rattle.gt_book.proofs.Lists.{times-first_same}
+use Rattle.gt_book.proofs.Going.{IsStep, step-is}
+
+-- an operation that is not late for its goroutine is not gone while the run goes on
+not_gone : (b : BookView) (op : Op) → outcome_of b ≡ None → is_late b op ≡ false → is_gone b op ≡ false
+not_gone b op running on_time = ap (λ (o : Option Outcome). is_some o || is_late b op) running ∙ on_time
+
+-- everybody has the program's clock
+one_clock : (b : BookView) (g : ℕ) → IsLawful b → clock_of b.state g ≡ clock b.state 0
+one_clock b g lawful = ap (clock b.state) (world_of-zero b.script b.state g lawful.formed)
+
+-- ---- what time brings
+
+pub may-wake : (b : BookView) (g at : ℕ) → IsLawful b → outcome_of b ≡ None → sleeps_until b.state g ≡ Some at → at ≤ clock b.state 0
+    → MayCommit b (Op.Wake g) × (is_gone b (Op.Wake g) ≡ false)
+may-wake b g at lawful running sleeps due =
+    let here : at ≤ clock_of b.state g = subst (λ now. at ≤ now) (sym (one_clock b g lawful)) due in
+    let may : May b.script b.state (Entry.Wake g) = subst (λ (o : Option ℕ). IsSomeAnd o (λ until. until ≤ clock_of b.state g)) (sym sleeps) here in
+    ((may, tt, tt), not_gone b (Op.Wake g) running (ap (λ (o : Option ℕ). not (is_some o)) sleeps))
+
+due-timer : (s : State) (t at : ℕ) → ((r : Timer) → timer_at s t ≡ Some r → r.world ≡ 0) → due_of s t ≡ Some at → at ≤ clock s 0
+    → IsSomeAnd (timer_at s t) (λ (r : Timer). IsTrue (is_due r.due (clock s r.world)))
+due-timer s t at world e due =
+    elim (timer_at s t) as (λ o. timer_at s t ≡ o → (elim o [ None ↦ None | Some r ↦ r.due ]) ≡ Some at
+    → IsSomeAnd o (λ (r : Timer). IsTrue (is_due r.due (clock s r.world)))) [
+      | None ↦ λ q h. cc
+      | Some r ↦ λ q h.
+          let come : IsTrue (is_due (Some at) (clock s 0)) = le-leb at (clock s 0) due in
+          subst (λ (w : ℕ). IsTrue (is_due r.due (clock s w))) (sym (world r q)) (subst (λ (o : Option ℕ). IsTrue (is_due o (clock s 0))) (sym h) come)
+    ] refl e
+
+pub may-fire : (b : BookView) (t at : ℕ) → IsLawful b → outcome_of b ≡ None → IsTrue (is_func b.script t) → due_of b.state t ≡ Some at → at ≤ clock b.state 0
+    → MayCommit b (Op.Fire t) × (is_gone b (Op.Fire t) ≡ false)
+may-fire b t at lawful running func e due =
+    let timer : IsSomeAnd (timer_at b.state t) (λ (r : Timer). IsTrue (is_due r.due (clock b.state r.world))) =
+    due-timer b.state t at (lawful.formed.world.timers t) e due in
+    (((func, timer, refl), tt, tt), not_gone b (Op.Fire t) running refl)
+
+-- who stands at an instruction without a fault makes no panic
+calm-standing : (script : Script) (s : State) (g : ℕ) (i : Instr) → stands_at script s g ≡ Some i → fault script s i ≡ None → panic_at script s g ≡ None
+calm-standing script s g i e faultless =
+    elim (goroutine_at s g) as (λ o. (elim o [ None ↦ None | Some r ↦ stands script r ]) ≡ Some i → (elim o [ None ↦ None | Some r ↦ panic_of script s r ]) ≡ None) [
+      | None ↦ λ h. refl
+      | Some r ↦ λ h.
+          let here : panic_of script s r ≡ fault_at script s i = ap (λ (o : Option Instr). elim o [ None ↦ None | Some i ↦ fault_at script s i ]) h in
+          here ∙ ap (λ (o : Option Reason). elim o [ None ↦ None | Some reason ↦ Some (0, reason) ]) faultless
+    ] e
+
+-- a timer that is set was made
+set-made : (s : State) (t at : ℕ) → due_of s t ≡ Some at → is_none (timer_at s t) ≡ false
+set-made s t at e =
+    elim (timer_at s t) as (λ o. (elim o [ None ↦ None | Some r ↦ r.due ]) ≡ Some at → is_none o ≡ false) [
+      | None ↦ λ h. cc
+      | Some r ↦ λ h. refl
+    ] e
+
+receives-recv : (t : ℕ) (i : Instr) → receives t i ≡ true → i ≡ Instr.Recv t
+receives-recv t (Instr.Recv o) h = ap Instr.Recv (eqb-true o t h)
+receives-recv t _ h = cc
+
+at_receive-stands : (script : Script) (s : State) (g t : ℕ) → is_at_receive script s g t ≡ true → stands_at script s g ≡ Some (Instr.Recv t)
+at_receive-stands script s g t h =
+    elim (stands_at script s g) as (λ o. (elim o [ None ↦ false | Some i ↦ receives t i ]) ≡ true → o ≡ Some (Instr.Recv t)) [
+      | None ↦ λ k. cc
+      | Some i ↦ λ k. ap Some (receives-recv t i k)
+    ] h
+
+left-true : (a b : Bool) → (a && b) ≡ true → a ≡ true
+left-true true b h = refl
+left-true false b h = cc
+
+right-true : (a b : Bool) → (a && b) ≡ true → b ≡ true
+right-true true b h = h
+right-true false b h = cc
+
+some-true : (b : Bool) (n : ℕ) → n + 1 ≡ as_number b → b ≡ true
+some-true true n e = refl
+some-true false n e = absurd (omega arith)
+
+-- who waits first at t is parked there
+first-parked : (script : Script) (s : State) (m : Schedule) (g t : ℕ) → Fits script s m → t < length script.decls
+    → slice_get (waiting_in m.queues (queue_at t)) 0 ≡ Some g → is_parked_at script s m g t ≡ true
+first-parked script s m g t fits declared e =
+    some-true (is_parked_at script s m g t) (times g (drop 1 (waiting_in m.queues (queue_at t))))
+    (sym (times-first_same g (waiting_in m.queues (queue_at t)) e) ∙ fits.waiting t g declared)
+
+pub may-receive : (b : BookView) (t at g : ℕ) → IsLawful b → outcome_of b ≡ None → IsTimeOf b at (Whose.Timer t) → at ≤ clock b.state 0
+    → slice_get (waiting_in b.schedule.queues (queue_at t)) 0 ≡ Some g
+    → MayCommit b (Op.TRecv (plainly g) t at None) × (is_gone b (Op.TRecv (plainly g) t at None) ≡ false)
+may-receive b t at g lawful running time due first =
+    let timer : IsTrue (is_timer b.script t) = time.0 in
+    let set : due_of b.state t ≡ Some at = time.1 in
+    let below : t < length b.state.timers = timer_within b.script b.state t lawful.formed timer in
+    let declared : t < length b.script.decls = subst (λ (n : ℕ). t < n) lawful.formed.timers below in
+    let parked : is_parked_at b.script b.state b.schedule g t ≡ true = first-parked b.script b.state b.schedule g t lawful.fits declared first in
+    let waits : is_parked (status_of b.schedule g) ≡ true = left-true (is_parked (status_of b.schedule g)) (is_at_receive b.script b.state g t) parked in
+    let there : is_at_receive b.script b.state g t ≡ true = right-true (is_parked (status_of b.schedule g)) (is_at_receive b.script b.state g t) parked in
+    let stands : stands_at b.script b.state g ≡ Some (Instr.Recv t) = at_receive-stands b.script b.state g t there in
+    let faultless : fault b.script b.state (Instr.Recv t) ≡ None = ap (λ o. when o Reason.Unmade) (set-made b.state t at set) in
+    let receives : Receives b.script b.state (plainly g) t = record {
+      stands = ap (λ (o : Option Instr). elim o [ None ↦ None | Some i ↦ operation i 0 ]) stands;
+      calm = calm-standing b.script b.state g (Instr.Recv t) stands faultless;
+    } in
+    let come : at ≤ clock_of b.state g = subst (λ now. at ≤ now) (sym (one_clock b g lawful)) due in
+    (((receives, timer, set, come, refl), waits, tt), not_gone b (Op.TRecv (plainly g) t at None) running (ap not parked))
+
+-- ---- what a goroutine asks for
+
+-- the instruction without a panic of a step that asks for a timer operation
+record Asks (script : Script) (s : State) (g : ℕ) (op : TimerOp) : Type 0 where
+  instr : Instr
+  does : Does script s g instr
+  is : step_of_instr s g instr ≡ Step.Needs op
+
+needs-asks : (script : Script) (s : State) (g : ℕ) (op : TimerOp) → step_of script s g ≡ Some (Step.Needs op) → Asks script s g op
+needs-asks script s g op h =
+    let step : IsStep script s g (Step.Needs op) = step-is script s g (Step.Needs op) h in
+    elim (fault script s step.instr) as (λ o. fault script s step.instr ≡ o → step_or_panic s g step.instr o ≡ Step.Needs op → Asks script s g op) [
+      | None ↦ λ q k. record {
+        instr = step.instr;
+        does = record { stands = step.stands; calm = calm-standing script s g step.instr step.stands q };
+        is = k;
+      }
+      | Some reason ↦ λ q k. cc
+    ] refl step.is
+
+-- a sleep of some time
+record Sleeps (d : ℕ) (i : Instr) : Type 0 where
+  is : i ≡ Instr.Sleep d
+  ends : (now : ℕ) → sleep_end now d ≡ Some (due_at now d)
+
+instr-sleeps : (s : State) (g d : ℕ) (i : Instr) → step_of_instr s g i ≡ Step.Needs (TimerOp.Sleep d) → Sleeps d i
+instr-sleeps s g d (Instr.Say n) h = cc
+instr-sleeps s g d Instr.Now h = cc
+instr-sleeps s g d (Instr.Sleep zero) h = cc
+instr-sleeps s g d (Instr.Sleep (suc e)) h =
+    let same : suc e ≡ d = cc in
+    record { is = ap Instr.Sleep same; ends = λ now. subst (λ d. sleep_end now d ≡ Some (due_at now d)) same refl }
+instr-sleeps s g d (Instr.Go f) h = cc
+instr-sleeps s g d (Instr.New o e) h = cc
+instr-sleeps s g d (Instr.Stop o) h = cc
+instr-sleeps s g d (Instr.Reset o e) h = cc
+instr-sleeps s g d (Instr.Recv o) h = cc
+instr-sleeps s g d Instr.Finish h = cc
+
+pub may-sleep : (b : BookView) (g d until : ℕ) → IsLawful b → outcome_of b ≡ None → step_of b.script b.state g ≡ Some (Step.Needs (TimerOp.Sleep d))
+    → status_of b.schedule g ≡ Some RunStatus.InHand → until ≡ min (clock b.state 0 + d) CAP
+    → MayCommit b (Op.Sleep g until) × (is_gone b (Op.Sleep g until) ≡ false)
+may-sleep b g d until lawful running step in_hand e =
+    let asks : Asks b.script b.state g (TimerOp.Sleep d) = needs-asks b.script b.state g (TimerOp.Sleep d) step in
+    let sleeps : Sleeps d asks.instr = instr-sleeps b.state g d asks.instr asks.is in
+    let does : Does b.script b.state g (Instr.Sleep d) = subst (Does b.script b.state g) sleeps.is asks.does in
+    let is : until ≡ due_at (clock_of b.state g) d = e ∙ ap (λ now. due_at now d) (sym (one_clock b g lawful)) in
+    (((d, does, ap Some is ∙ sym (sleeps.ends (clock_of b.state g))), in_hand, tt), not_gone b (Op.Sleep g until) running refl)
+
+instr-stops : (s : State) (g t : ℕ) (i : Instr) → step_of_instr s g i ≡ Step.Needs (TimerOp.Stop t) → i ≡ Instr.Stop t
+instr-stops s g t (Instr.Say n) h = cc
+instr-stops s g t Instr.Now h = cc
+instr-stops s g t (Instr.Sleep zero) h = cc
+instr-stops s g t (Instr.Sleep (suc d)) h = cc
+instr-stops s g t (Instr.Go f) h = cc
+instr-stops s g t (Instr.New o d) h = cc
+instr-stops s g t (Instr.Stop o) h = cc
+instr-stops s g t (Instr.Reset o d) h = cc
+instr-stops s g t (Instr.Recv o) h = cc
+instr-stops s g t Instr.Finish h = cc
+
+pub may-stop : (b : BookView) (g t : ℕ) (was : Bool) → IsLawful b → outcome_of b ≡ None → step_of b.script b.state g ≡ Some (Step.Needs (TimerOp.Stop t))
+    → status_of b.schedule g ≡ Some RunStatus.InHand → was ≡ is_some (due_of b.state t)
+    → MayCommit b (Op.Stop g t was) × (is_gone b (Op.Stop g t was) ≡ false)
+may-stop b g t was lawful running step in_hand e =
+    let asks : Asks b.script b.state g (TimerOp.Stop t) = needs-asks b.script b.state g (TimerOp.Stop t) step in
+    let does : Does b.script b.state g (Instr.Stop t) = subst (Does b.script b.state g) (instr-stops b.state g t asks.instr asks.is) asks.does in
+    (((does, ap Some e), in_hand, tt), not_gone b (Op.Stop g t was) running refl)
+
+-- an instruction that sets t
+abbrev Sets : ℕ → Instr → Type 0
+Sets t i = ((d : ℕ) × (i ≡ Instr.New t d)) ⊎ ((d : ℕ) × (i ≡ Instr.Reset t d))
+
+instr-sets : (s : State) (g t : ℕ) (i : Instr) → step_of_instr s g i ≡ Step.Needs (TimerOp.Set t) → Sets t i
+instr-sets s g t (Instr.Say n) h = cc
+instr-sets s g t Instr.Now h = cc
+instr-sets s g t (Instr.Sleep zero) h = cc
+instr-sets s g t (Instr.Sleep (suc d)) h = cc
+instr-sets s g t (Instr.Go f) h = cc
+instr-sets s g t (Instr.New o d) h = let same : o ≡ t = cc in inl (d, ap (λ o. Instr.New o d) same)
+instr-sets s g t (Instr.Stop o) h = cc
+instr-sets s g t (Instr.Reset o d) h = let same : o ≡ t = cc in inr (d, ap (λ o. Instr.Reset o d) same)
+instr-sets s g t (Instr.Recv o) h = cc
+instr-sets s g t Instr.Finish h = cc
+
+pub set-stands : (script : Script) (s : State) (g t : ℕ) → step_of script s g ≡ Some (Step.Needs (TimerOp.Set t))
+    → ((d : ℕ) × (stands_at script s g ≡ Some (Instr.New t d))) ⊎ ((d : ℕ) × (stands_at script s g ≡ Some (Instr.Reset t d)))
+set-stands script s g t step =
+    let asks : Asks script s g (TimerOp.Set t) = needs-asks script s g (TimerOp.Set t) step in
+    elim (instr-sets s g t asks.instr asks.is) [
+      | inl new ↦ inl (new.0, asks.does.stands ∙ ap Some new.1)
+      | inr reset ↦ inr (reset.0, asks.does.stands ∙ ap Some reset.1)
+    ]
+
+pub may-new : (b : BookView) (g t d due : ℕ) → IsLawful b → outcome_of b ≡ None → step_of b.script b.state g ≡ Some (Step.Needs (TimerOp.Set t))
+    → stands_at b.script b.state g ≡ Some (Instr.New t d) → status_of b.schedule g ≡ Some RunStatus.InHand → due ≡ min (clock b.state 0 + d) CAP
+    → MayCommit b (Op.New g t due 0) × (is_gone b (Op.New g t due 0) ≡ false)
+may-new b g t d due lawful running step stands in_hand e =
+    let asks : Asks b.script b.state g (TimerOp.Set t) = needs-asks b.script b.state g (TimerOp.Set t) step in
+    let does : Does b.script b.state g (Instr.New t d) = record { stands = stands; calm = asks.does.calm } in
+    let is : due ≡ due_at (clock_of b.state g) d = e ∙ ap (λ now. due_at now d) (sym (one_clock b g lawful)) in
+    (((d, does, is), in_hand, refl), not_gone b (Op.New g t due 0) running refl)
+
+pub may-reset : (b : BookView) (g t d due : ℕ) (was : Bool) → IsLawful b → outcome_of b ≡ None → step_of b.script b.state g ≡ Some (Step.Needs (TimerOp.Set t))
+    → stands_at b.script b.state g ≡ Some (Instr.Reset t d) → status_of b.schedule g ≡ Some RunStatus.InHand
+    → was ≡ is_some (due_of b.state t) → due ≡ min (clock b.state 0 + d) CAP
+    → MayCommit b (Op.Reset g t was due 0) × (is_gone b (Op.Reset g t was due 0) ≡ false)
+may-reset b g t d due was lawful running step stands in_hand was_set e =
+    let asks : Asks b.script b.state g (TimerOp.Set t) = needs-asks b.script b.state g (TimerOp.Set t) step in
+    let does : Does b.script b.state g (Instr.Reset t d) = record { stands = stands; calm = asks.does.calm } in
+    let is : due ≡ due_at (clock_of b.state g) d = e ∙ ap (λ now. due_at now d) (sym (one_clock b g lawful)) in
+    (((d, does, ap Some was_set, is), in_hand, refl), not_gone b (Op.Reset g t was due 0) running refl)

@@ -1,0 +1,217 @@
+-- A book whose schedule changes, and one that ends, keep what a book keeps; what a goroutine in hand does may come.
+use Rattle.std.proofs.Common.{◌≡◌, ℕ, ◌+◌, ◌<◌, List, [], ◌∷◌, refl, sym, ap, subst, ◌∙◌, arith, Option, None, Some, IfSome, IfNone, length, is_some, is_none, IsSome, slice_get, Bool, true, false, zero, suc}
+use Rattle.gt_model.specs.declared.script.Script.{Script}
+use Rattle.gt_model.specs.declared.script.Instr.{Instr}
+use Rattle.gt_model.specs.declared.entry.Entry.{Entry}
+use Rattle.gt_model.specs.declared.entry.Outcome.{Outcome}
+use Rattle.gt_model.specs.declared.entry.Reason.{Reason}
+use Rattle.gt_model.specs.declared.state.Goroutine.{Goroutine}
+use Rattle.gt_model.specs.declared.state.Mode.{Mode}
+use Rattle.gt_model.specs.State.{State, goroutine_at, timer_at, instr_at, stands, stands_at, clock_of, code_of}
+use Rattle.gt_model.specs.Panics.{fault, when, fault_at, panic_of, panic_at}
+use Rattle.gt_model.specs.Legal.{May, Does}
+use Rattle.gt_model.specs.Finish.{IsIdle}
+use Rattle.gt_model.specs.Counted.{counted}
+use Rattle.gt_model.specs.Good.{IsGood, NamesRightly}
+use Rattle.gt_model.specs.Formed.{IsFormed, IsPlacedIn}
+use Rattle.gt_model.proofs.Formed.{formed-finish}
+use Rattle.gt_model.proofs.Named.{names-Does}
+use Rattle.gt_queue.specs.Contents.{waiting_in}
+use Rattle.gt_book.specs.declared.book.Book.TheInside.{Inside}
+use Rattle.gt_book.specs.declared.machine.Machine.{Machine}
+use Rattle.gt_book.specs.declared.scheduler.Scheduler.{Scheduler}
+use Rattle.gt_book.specs.declared.status.RunStatus.{RunStatus}
+use Rattle.gt_book.specs.declared.step.Step.{Step}
+use Rattle.gt_book.specs.Machine.{state_of}
+use Rattle.gt_book.specs.Schedule.{Schedule, run_queue, status_of, taken}
+use Rattle.gt_book.specs.Scheduler.{schedule_of, IsScheduler}
+use Rattle.gt_book.specs.Steps.{step_of, step_or_panic, step_of_instr, plainly}
+use Rattle.gt_book.specs.View.{BookView, IsLawful, Fits, Agrees, with_entries, with_schedule, outcome_of}
+use Rattle.gt_book.specs.Book.{seen, IsKept}
+use Rattle.gt_book.proofs.Entering.{running-none, sound-more, sound-lawful, lawful-sound, fits-finish}
+use Rattle.gt_room.specs.Contents.{Contents}
+use Rattle.gt_book.proofs.Books.{Finished, seen-is, finished-rooms}
+use Rattle.gt_book.proofs.Fitting.{Known, known, fits-taken}
+use Rattle.gt_book.proofs.Machines.{timer_within}
+
+-- ---- another schedule
+
+lawful-scheduled : (v : BookView) (m : Schedule) → IsLawful v → Fits v.script v.state m → IsLawful (with_schedule v m)
+lawful-scheduled v m lawful fits = record {
+  good = lawful.good;
+  limits = lawful.limits;
+  legal = lawful.legal;
+  reached = lawful.reached;
+  goes = lawful.goes;
+  formed = lawful.formed;
+  fits = fits;
+}
+
+abbrev pub with_scheduler : Inside → Scheduler → Inside
+with_scheduler b m = record { script = b.script; limits = b.limits; history = b.history; machine = b.machine; scheduler = m }
+
+pub kept-scheduled : (b : Inside) (m : Scheduler) (schedule : Schedule) → IsKept b → schedule_of m ≡ schedule → Fits b.script (state_of b.machine) schedule
+    → IsScheduler b.limits.entries m → IsKept (with_scheduler b m)
+kept-scheduled b m schedule kept is fits scheduler = record {
+  lawful = lawful-scheduled (seen b) (schedule_of m) kept.lawful (subst (Fits b.script (state_of b.machine)) (sym is) fits);
+  rooms = record { history = kept.rooms.history; goroutines = kept.rooms.goroutines; scheduler = scheduler; entries = kept.rooms.entries };
+}
+
+-- a goroutine was taken, or none was
+pub kept-taken : (b : Inside) (m : Scheduler) (result : Option ℕ) → IsKept b → result ≡ slice_get (waiting_in b.scheduler.queues.queues run_queue) 0
+    → IfNone result (m ≡ b.scheduler) → IfSome result (λ g. schedule_of m ≡ taken (schedule_of b.scheduler) g)
+    → ((most : ℕ) → IsScheduler most b.scheduler → IsScheduler most m) → IsKept (with_scheduler b m)
+kept-taken b m None kept first unchanged schedule scheduler = subst (λ (m : Scheduler). IsKept (with_scheduler b m)) (sym unchanged) kept
+kept-taken b m (Some g) kept first unchanged schedule scheduler =
+    kept-scheduled b m (taken (schedule_of b.scheduler) g) kept schedule
+    (fits-taken b.script (state_of b.machine) (schedule_of b.scheduler) g kept.lawful.fits (sym first)) (scheduler b.limits.entries kept.rooms.scheduler)
+
+-- ---- the end in a deadlock
+
+pub lawful-deadlock : (v : BookView) → IsLawful v → outcome_of v ≡ None → IsIdle v.script v.state → counted v.script v.state 0 ≡ []
+    → IsLawful (with_entries v (Entry.Finish Outcome.Deadlock ∷ []))
+lawful-deadlock v lawful none idle uncounted =
+    lawful-sound (with_entries v (Entry.Finish Outcome.Deadlock ∷ []))
+    (sound-more v (Entry.Finish Outcome.Deadlock) (sound-lawful v lawful) (running-none v lawful none, idle, uncounted)
+    (formed-finish v.script v.state Outcome.Deadlock lawful.formed) (fits-finish v.script v.state Outcome.Deadlock v.schedule lawful.fits))
+    tt
+
+abbrev pub ended : Inside → Machine → Contents Entry → Inside
+ended b machine history = record { script = b.script; limits = b.limits; history = history; machine = machine; scheduler = b.scheduler }
+
+pub seen-deadlock : (b : Inside) (machine : Machine) (history : Contents Entry) → Finished b.script Outcome.Deadlock b.machine b.history machine history
+    → seen (ended b machine history) ≡ with_entries (seen b) (Entry.Finish Outcome.Deadlock ∷ [])
+seen-deadlock b machine history ends =
+    seen-is (ended b machine history) (with_entries (seen b) (Entry.Finish Outcome.Deadlock ∷ [])) refl refl ends.items ends.state refl
+
+pub kept-deadlock : (b : Inside) (machine : Machine) (history : Contents Entry) → IsKept b → outcome_of (seen b) ≡ None
+    → IsIdle b.script (state_of b.machine) → counted b.script (state_of b.machine) 0 ≡ []
+    → Finished b.script Outcome.Deadlock b.machine b.history machine history → IsKept (ended b machine history)
+kept-deadlock b machine history kept none idle uncounted ends = record {
+  lawful = subst IsLawful (sym (seen-deadlock b machine history ends)) (lawful-deadlock (seen b) kept.lawful none idle uncounted);
+  rooms = finished-rooms b b.scheduler b.machine b.history Outcome.Deadlock machine history kept.rooms none ends;
+}
+
+-- ---- what a goroutine in hand does
+
+-- a place in a code has an instruction
+placed-some : {X : Type 0} (xs : List X) (i : ℕ) → i < length xs → (x : X) × (slice_get xs i ≡ Some x)
+placed-some [] i h = absurd (omega arith)
+placed-some (x ∷ xs) zero h = (x, refl)
+placed-some (x ∷ xs) (suc i) h = placed-some xs i (omega arith)
+
+-- who is in hand stands at its instruction
+agrees-stands : (script : Script) (s : State) (r : Goroutine) (mode : Mode) → r.mode ≡ mode → Agrees script s r mode RunStatus.InHand
+    → IsPlacedIn (length (code_of script r.place.func)) r.place.at mode → (i : Instr) × (stands script r ≡ Some i)
+agrees-stands script s r Mode.At is h placed =
+    let found : (i : Instr) × (instr_at script r.place ≡ Some i) = placed-some (code_of script r.place.func) r.place.at placed in
+    (found.0, ap (λ (mode : Mode). elim mode [ Mode.At ↦ instr_at script r.place | _ ↦ None ]) is ∙ found.1)
+agrees-stands script s r (Mode.Sleeping until) is h placed = absurd h
+agrees-stands script s r Mode.Ended is h placed = absurd h
+
+pub in_hand-stands : (v : BookView) (g : ℕ) → IsLawful v → status_of v.schedule g ≡ Some RunStatus.InHand → (i : Instr) × (stands_at v.script v.state g ≡ Some i)
+in_hand-stands v g lawful e =
+    let k : Known v.script v.state v.schedule g RunStatus.InHand = known v.script v.state v.schedule g RunStatus.InHand lawful.fits e in
+    let found = agrees-stands v.script v.state k.who k.who.mode refl k.agrees (lawful.formed.placed g k.who k.there) in
+    (found.0, ap (λ (o : Option Goroutine). elim o [ None ↦ None | Some r ↦ stands v.script r ]) k.there ∙ found.1)
+
+pub in_hand-steps : (v : BookView) (g : ℕ) → IsLawful v → status_of v.schedule g ≡ Some RunStatus.InHand → IsSome (step_of v.script v.state g)
+in_hand-steps v g lawful e =
+    let found = in_hand-stands v g lawful e in
+    ap (λ (o : Option Instr). is_some (elim o [ None ↦ None | Some i ↦ Some (step_or_panic v.state g i (fault v.script v.state i)) ])) found.1
+
+-- whether g panics, by its instruction
+panic-fault : (script : Script) (s : State) (g : ℕ) (i : Instr) → stands_at script s g ≡ Some i → panic_at script s g ≡ fault_at script s i
+panic-fault script s g i e =
+    elim (goroutine_at s g) as (λ o. goroutine_at s g ≡ o → (elim o [ None ↦ None | Some r ↦ stands script r ]) ≡ Some i
+    → (elim o [ None ↦ None | Some r ↦ panic_of script s r ]) ≡ fault_at script s i) [
+      | None ↦ λ q h. cc
+      | Some r ↦ λ q h. ap (λ (o : Option Instr). elim o [ None ↦ None | Some i ↦ fault_at script s i ]) h
+    ] refl e
+
+-- a step is of the instruction at which g stands
+pub record IsStep (script : Script) (s : State) (g : ℕ) (step : Step) : Type 0 where
+  pub instr : Instr
+  pub stands : stands_at script s g ≡ Some instr
+  pub is : step_or_panic s g instr (fault script s instr) ≡ step
+
+pub step-is : (script : Script) (s : State) (g : ℕ) (step : Step) → step_of script s g ≡ Some step → IsStep script s g step
+step-is script s g step e =
+    elim (stands_at script s g) as (λ o. stands_at script s g ≡ o
+    → (elim o [ None ↦ None | Some i ↦ Some (step_or_panic s g i (fault script s i)) ]) ≡ Some step → IsStep script s g step) [
+      | None ↦ λ q h. cc
+      | Some i ↦ λ q h. record { instr = i; stands = q; is = cc }
+    ] refl e
+
+-- an entry of an instruction without a panic
+calm-may : (script : Script) (s : State) (g : ℕ) (i : Instr) (e : Entry) → Does script s g i → step_of_instr s g i ≡ Step.Makes e → May script s e
+calm-may script s g (Instr.Say n) e does h = let is : Entry.Say g n ≡ e = cc in subst (May script s) is does
+calm-may script s g Instr.Now e does h = let is : Entry.Now g (clock_of s g) ≡ e = cc in subst (May script s) is (does, refl)
+calm-may script s g (Instr.Sleep zero) e does h = let is : Entry.Sleep g None ≡ e = cc in subst (May script s) is (0, does, refl)
+calm-may script s g (Instr.Sleep (suc d)) e does h = cc
+calm-may script s g (Instr.Go f) e does h = let is : Entry.Go g (length s.goroutines + 1) f ≡ e = cc in subst (May script s) is (does, refl)
+calm-may script s g (Instr.New t d) e does h = cc
+calm-may script s g (Instr.Stop t) e does h = cc
+calm-may script s g (Instr.Reset t d) e does h = cc
+calm-may script s g (Instr.Recv o) e does h = cc
+calm-may script s g Instr.Finish e does h = let is : Entry.End g ≡ e = cc in subst (May script s) is does
+
+pub makes-may : (script : Script) (s : State) (g : ℕ) (e : Entry) → step_of script s g ≡ Some (Step.Makes e) → May script s e
+makes-may script s g e h =
+    let step : IsStep script s g (Step.Makes e) = step-is script s g (Step.Makes e) h in
+    let panics : panic_at script s g ≡ fault_at script s step.instr = panic-fault script s g step.instr step.stands in
+    elim (fault script s step.instr) as (λ o. fault script s step.instr ≡ o → step_or_panic s g step.instr o ≡ Step.Makes e → May script s e) [
+      | None ↦ λ q k.
+          let calm : panic_at script s g ≡ None = panics ∙ ap (λ (o : Option Reason). elim o [ None ↦ None | Some reason ↦ Some (0, reason) ]) q in
+          calm-may script s g step.instr e (record { stands = step.stands; calm = calm }) k
+      | Some reason ↦ λ q k.
+          let panics_so : panic_at script s g ≡ Some (0, reason) = panics ∙ ap (λ (o : Option Reason). elim o [ None ↦ None | Some reason ↦ Some (0, reason) ]) q in
+          let is : Entry.Panic (plainly g) reason ≡ e = cc in
+          subst (May script s) is panics_so
+    ] refl step.is
+
+-- who waits at a receive stands there, and its timer was made
+pub record WaitsRightly (script : Script) (s : State) (g t : ℕ) : Type 0 where
+  pub stands : stands_at script s g ≡ Some (Instr.Recv t)
+  pub made : is_some (timer_at s t) ≡ true
+  pub within : t < length script.decls
+
+some-unless : (o : Bool) (reason : Reason) → when o reason ≡ None → o ≡ false
+some-unless true reason h = cc
+some-unless false reason h = refl
+
+is_some-not_none : {X : Type 0} (o : Option X) → is_none o ≡ false → is_some o ≡ true
+is_some-not_none None h = cc
+is_some-not_none (Some x) h = refl
+
+instr-waits : (s : State) (g t : ℕ) (i : Instr) → step_of_instr s g i ≡ Step.Waits t → i ≡ Instr.Recv t
+instr-waits s g t (Instr.Say n) h = cc
+instr-waits s g t Instr.Now h = cc
+instr-waits s g t (Instr.Sleep zero) h = cc
+instr-waits s g t (Instr.Sleep (suc d)) h = cc
+instr-waits s g t (Instr.Go f) h = cc
+instr-waits s g t (Instr.New o d) h = cc
+instr-waits s g t (Instr.Stop o) h = cc
+instr-waits s g t (Instr.Reset o d) h = cc
+instr-waits s g t (Instr.Recv o) h = cc
+instr-waits s g t Instr.Finish h = cc
+
+pub waits-rightly : (script : Script) (s : State) (g t : ℕ) → IsGood script → IsFormed script s → step_of script s g ≡ Some (Step.Waits t) → WaitsRightly script s g t
+waits-rightly script s g t good formed h =
+    let step : IsStep script s g (Step.Waits t) = step-is script s g (Step.Waits t) h in
+    let panics : panic_at script s g ≡ fault_at script s step.instr = panic-fault script s g step.instr step.stands in
+    elim (fault script s step.instr) as (λ o. fault script s step.instr ≡ o → step_or_panic s g step.instr o ≡ Step.Waits t → WaitsRightly script s g t) [
+      | None ↦ λ q k.
+          let is : step.instr ≡ Instr.Recv t = instr-waits s g t step.instr k in
+          let stands : stands_at script s g ≡ Some (Instr.Recv t) = step.stands ∙ ap Some is in
+          let faultless : fault script s (Instr.Recv t) ≡ None = ap (fault script s) (sym is) ∙ q in
+          let calm : panic_at script s g ≡ None = panics ∙ ap (λ (o : Option Reason). elim o [ None ↦ None | Some reason ↦ Some (0, reason) ]) q in
+          let names : NamesRightly script (Instr.Recv t) = names-Does script s g (Instr.Recv t) good (record { stands = stands; calm = calm }) in
+          let below : t < length s.timers = timer_within script s t formed names in
+          record {
+            stands = stands;
+            made = is_some-not_none (timer_at s t) (some-unless (is_none (timer_at s t)) Reason.Unmade faultless);
+            within = subst (λ (n : ℕ). t < n) formed.timers below;
+          }
+      | Some reason ↦ λ q k. cc
+    ] refl step.is

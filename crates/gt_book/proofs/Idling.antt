@@ -1,0 +1,76 @@
+-- Where nobody runs and no time has come, a book is idle; its clock may jump to the least time that counts.
+use Rattle.std.proofs.Common.{◌≡◌, ℕ, ◌+◌, ◌<◌, ◌≤◌, min, List, [], ◌∷◌, refl, sym, ap, subst, arith, Option, None, Some, Bool, true, false, ◌&&◌, nat_lt, IsSomeAnd, IfSome}
+use Rattle.std.specs.List.{list_all}
+use Rattle.std.proofs.lemmas.Bool.{and_parts, ltb-true, lt-ltb}
+use Rattle.gt_model.specs.declared.time.TheConstants.{CAP}
+use Rattle.gt_model.specs.Tables.{least}
+use Rattle.gt_model.specs.State.{clock, goroutine_at, timer_at, until_of}
+use Rattle.gt_model.specs.declared.state.Goroutine.{Goroutine}
+use Rattle.gt_model.specs.declared.state.Timer.{Timer}
+use Rattle.std.specs.Option.{option_map}
+use Rattle.gt_book.specs.declared.answers.Whose.{Whose}
+use Rattle.gt_model.specs.Counted.{counted}
+use Rattle.gt_model.specs.Finish.{IsIdle, IsJump}
+use Rattle.gt_model.specs.Quiet.{none_due}
+use Rattle.gt_model.proofs.Quiet.{quiet-IsIdle}
+use Rattle.gt_book.specs.View.{BookView, IsLawful}
+use Rattle.gt_book.specs.Least.{NobodyRuns, IsTimeOf}
+use Rattle.gt_book.proofs.Fitting.{none-queued, quiet-from_fits}
+
+pub idle-nobody : (b : BookView) → IsLawful b → NobodyRuns b → none_due b.script b.state ≡ true → IsIdle b.script b.state
+idle-nobody b lawful nobody due =
+    quiet-IsIdle b.script b.state (record {
+      world = lawful.formed.world;
+      none_firm = quiet-from_fits b.script b.state b.schedule lawful.fits (none-queued b.script b.state b.schedule lawful.fits nobody.queue) nobody.hands;
+      none_due = due;
+    })
+
+and-both : (a b : Bool) → a ≡ true → b ≡ true → (a && b) ≡ true
+and-both true true p q = refl
+and-both true false p q = cc
+and-both false b p q = cc
+
+below-true : (m n : ℕ) → m < n → nat_lt m n ≡ true
+below-true m n h = lt-ltb m n h
+
+-- what is below the least number of a list is below each
+later-from : (c t x : ℕ) (ys : List ℕ) → least (x ∷ ys) ≡ Some t → c < t → list_all (nat_lt c) (x ∷ ys) ≡ true
+later-from c t x [] e h =
+    let is : x ≡ t = cc in
+    and-both (nat_lt c x) true (below-true c x (omega arith)) refl
+later-from c t x (y ∷ ys) e h =
+    let rest = and_parts (nat_lt c (min x y)) (list_all (nat_lt c) ys) (later-from c t (min x y) ys e h) in
+    let low : c < min x y = ltb-true c (min x y) rest.0 in
+    and-both (nat_lt c x) (nat_lt c y && list_all (nat_lt c) ys) (below-true c x (omega arith))
+    (and-both (nat_lt c y) (list_all (nat_lt c) ys) (below-true c y (omega arith)) rest.1)
+
+pub later-least : (c t : ℕ) (xs : List ℕ) → least xs ≡ Some t → c < t → list_all (nat_lt c) xs ≡ true
+later-least c t [] e h = cc
+later-least c t (x ∷ xs) e h = later-from c t x xs e h
+
+pub idle-least : (b : BookView) (t : ℕ) → IsLawful b → NobodyRuns b → least (counted b.script b.state 0) ≡ Some t → clock b.state 0 < t → IsIdle b.script b.state
+idle-least b t lawful nobody is later = idle-nobody b lawful nobody (later-least (clock b.state 0) t (counted b.script b.state 0) is later)
+
+pub idle-none : (b : BookView) → IsLawful b → NobodyRuns b → counted b.script b.state 0 ≡ [] → IsIdle b.script b.state
+idle-none b lawful nobody none = idle-nobody b lawful nobody (ap (list_all (nat_lt (clock b.state 0))) none)
+
+pub jumps-least : (b : BookView) (t : ℕ) → IsLawful b → NobodyRuns b → least (counted b.script b.state 0) ≡ Some t → clock b.state 0 < t → t ≤ CAP → IsJump b.script b.state 0 t
+jumps-least b t lawful nobody is later time = record {
+  idle = idle-least b t lawful nobody is later;
+  to_least = subst (λ o. IsSomeAnd o (λ u. t ≡ min (u + 0) CAP)) (sym is) (omega arith);
+}
+
+due_within : (o : Option Timer) (at : ℕ) → (elim o as (λ x. Option ℕ) [ None ↦ None | Some r ↦ r.due ]) ≡ Some at → ((r : Timer) → o ≡ Some r → IfSome r.due (λ due. due ≤ CAP)) → at ≤ CAP
+due_within None at e h = cc
+due_within (Some r) at e h = subst (λ (o : Option ℕ). IfSome o (λ due. due ≤ CAP)) e (h r refl)
+
+until_within : (o : Option Goroutine) (at : ℕ) → (elim (option_map (λ (r : Goroutine). r.mode) o) as (λ x. Option ℕ) [ None ↦ None | Some mode ↦ until_of mode ]) ≡ Some at
+    → ((r : Goroutine) → o ≡ Some r → IfSome (until_of r.mode) (λ until. until ≤ CAP)) → at ≤ CAP
+until_within None at e h = cc
+until_within (Some r) at e h = subst (λ (o : Option ℕ). IfSome o (λ until. until ≤ CAP)) e (h r refl)
+
+-- whose-ever a time is, it is at most the greatest
+pub times-least : (b : BookView) (at : ℕ) (whose : Whose) → IsLawful b → IsTimeOf b at whose → at ≤ CAP
+times-least b at (Whose.Sleep g) lawful is = until_within (goroutine_at b.state g) at is (lawful.formed.untils g)
+times-least b at (Whose.Func t) lawful is = due_within (timer_at b.state t) at is.1 (lawful.formed.dues t)
+times-least b at (Whose.Timer t) lawful is = due_within (timer_at b.state t) at is.1 (lawful.formed.dues t)

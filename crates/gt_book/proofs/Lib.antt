@@ -1,0 +1,14 @@
+pub mod Entering
+pub mod Machines
+pub mod SchedulerQueues
+pub mod SchedulerCounts
+pub mod SchedulerNeeds
+pub mod Lists
+pub mod Fitting
+pub mod Books
+pub mod Going
+pub mod Soonest
+pub mod Counting
+pub mod Passing
+pub mod Committing
+pub mod Idling

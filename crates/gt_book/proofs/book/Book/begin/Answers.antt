@@ -1,0 +1,21 @@
+use Rattle.std.proofs.Common.{rules, sym, subst, ◌≡◌, ◌+◌, []}
+use Rattle.gt_model.specs.Good.{IsGood}
+use Rattle.gt_model.specs.After.{first_state}
+use Rattle.gt_book.specs.Machine.{state_of}
+use Rattle.gt_book.specs.Scheduler.{schedule_of, IsScheduler}
+use Rattle.gt_book.specs.View.{first_schedule}
+use Rattle.gt_book.proofs.Books.{begun-kept}
+use Rattle.gt_book.proofs.book.Book.begin.Goals as goal
+
+pub invariant_of-result : goal.invariant_of-result
+invariant_of-result c =
+    let script : c.in_ok-script.script ≡ c.args.script.now = search rules in
+    let good : IsGood c.in_ok-script.script = subst IsGood (sym script) c.requires.good in
+    let empty : c.in_ok-history.history.items ≡ [] = search rules in
+    let spare : c.in_ok-history.history.spare ≡ c.args.limits.entries + 1 = search rules in
+    let state : state_of c.in_ok-machine.machine ≡ first_state c.in_ok-script.script = search rules in
+    let room : c.in_ok-machine.machine.goroutines.spare ≡ c.args.limits.entries = search rules in
+    let schedule : schedule_of c.in_ok-scheduler.scheduler ≡ first_schedule c.in_ok-script.script = search rules in
+    let kept : IsScheduler c.args.limits.entries c.in_ok-scheduler.scheduler = search rules in
+    begun-kept (record { script = c.in_ok-script.script; limits = c.args.limits; history = c.in_ok-history.history; machine = c.in_ok-machine.machine; scheduler = c.in_ok-scheduler.scheduler })
+    good c.requires.limits empty spare state room schedule kept

@@ -1,0 +1,48 @@
+use Rattle.std.proofs.Common.{rules, subst, sym, ◌≡◌, ◌+◌, ◌<◌, Some, length, arith}
+use Rattle.gt_book.specs.declared.status.RunStatus.{RunStatus}
+use Rattle.gt_book.specs.declared.step.Step.{Step}
+use Rattle.gt_book.specs.Machine.{state_of}
+use Rattle.gt_book.specs.Schedule.{status_of, parked_at}
+use Rattle.gt_book.specs.Scheduler.{schedule_of}
+use Rattle.gt_book.specs.Steps.{step_of}
+use Rattle.gt_book.specs.View.{BookView}
+use Rattle.gt_book.specs.Book.{seen}
+use Rattle.gt_book.proofs.Going.{makes-may, WaitsRightly, waits-rightly, kept-scheduled}
+use Rattle.gt_book.proofs.Fitting.{fits-parked_at}
+use Rattle.gt_book.proofs.SchedulerNeeds.{member-status}
+use Rattle.gt_book.proofs.book.Book.step_plain.Goals as goal
+
+pub enter-requires-clause-may : goal.enter-requires-clause-may
+enter-requires-clause-may c =
+    let step : step_of c.args.self.now.script c.args.self.now.state c.args.g ≡ Some (Step.Makes c.in-Makes.entry) = search rules in
+    makes-may c.args.self.now.script c.args.self.now.state c.args.g c.in-Makes.entry step
+
+pub park_at-requires-clause-member : goal.park_at-requires-clause-member
+park_at-requires-clause-member c =
+    let in_hand : status_of (seen c.self.inside).schedule c.args.g ≡ Some RunStatus.InHand =
+    subst (λ (v : BookView). status_of v.schedule c.args.g ≡ Some RunStatus.InHand) (sym c.self.view_is) c.requires in
+    member-status c.self.inside.limits.entries c.self.inside.scheduler c.args.g RunStatus.InHand c.self.invariant.rooms.scheduler in_hand
+
+pub park_at-requires-clause-queue : goal.park_at-requires-clause-queue
+park_at-requires-clause-queue c =
+    let step : step_of c.args.self.now.script c.args.self.now.state c.args.g ≡ Some (Step.Waits c.in-Waits.t) = search rules in
+    let here : step_of c.self.inside.script (state_of c.self.inside.machine) c.args.g ≡ Some (Step.Waits c.in-Waits.t) =
+    subst (λ (v : BookView). step_of v.script v.state c.args.g ≡ Some (Step.Waits c.in-Waits.t)) (sym c.self.view_is) step in
+    let waits : WaitsRightly c.self.inside.script (state_of c.self.inside.machine) c.args.g c.in-Waits.t =
+    waits-rightly c.self.inside.script (state_of c.self.inside.machine) c.args.g c.in-Waits.t c.self.invariant.lawful.good c.self.invariant.lawful.formed here in
+    let within : c.in-Waits.t < length c.self.inside.script.decls = waits.within in
+    let queues : length c.self.inside.scheduler.queues.queues ≡ length c.self.inside.script.decls + 1 = c.self.invariant.lawful.fits.queues in
+    omega arith
+
+pub invariant_of-self : goal.invariant_of-self
+invariant_of-self c =
+    let step : step_of c.args.self.now.script c.args.self.now.state c.args.g ≡ Some (Step.Waits c.in-Waits.t) = search rules in
+    let here : step_of c.self.inside.script (state_of c.self.inside.machine) c.args.g ≡ Some (Step.Waits c.in-Waits.t) =
+    subst (λ (v : BookView). step_of v.script v.state c.args.g ≡ Some (Step.Waits c.in-Waits.t)) (sym c.self.view_is) step in
+    let waits : WaitsRightly c.self.inside.script (state_of c.self.inside.machine) c.args.g c.in-Waits.t =
+    waits-rightly c.self.inside.script (state_of c.self.inside.machine) c.args.g c.in-Waits.t c.self.invariant.lawful.good c.self.invariant.lawful.formed here in
+    let in_hand : status_of (seen c.self.inside).schedule c.args.g ≡ Some RunStatus.InHand =
+    subst (λ (v : BookView). status_of v.schedule c.args.g ≡ Some RunStatus.InHand) (sym c.self.view_is) c.requires in
+    kept-scheduled c.self.inside c.park_at.new.self (parked_at (schedule_of c.self.inside.scheduler) c.args.g c.in-Waits.t) c.self.invariant c.park_at.ensures.schedule
+    (fits-parked_at c.self.inside.script (state_of c.self.inside.machine) (schedule_of c.self.inside.scheduler) c.args.g c.in-Waits.t c.self.invariant.lawful.fits in_hand waits.stands waits.made waits.within)
+    (c.park_at.ensures.kept c.self.inside.limits.entries c.self.invariant.rooms.scheduler)

@@ -1,0 +1,10 @@
+use Rattle.std.proofs.Common.{◌∙◌, sym, ap, set, refl}
+use Rattle.std.proofs.lemmas.Option.{slice_get_read}
+use Rattle.gt_model.specs.After.{set_due}
+use Rattle.gt_model.proofs.Tables.{change-set}
+use Rattle.gt_book.proofs.machine.put_due.Goals as goal
+
+pub returns : goal.returns
+returns c =
+    ap (set c.args.timers.now.items c.args.t) c.with_due-changed.ensures
+    ∙ sym (change-set c.args.timers.now.items c.args.t (set_due c.args.due) c.index.result.now (slice_get_read _ _ _ _ refl c.requires c.index.ensures))

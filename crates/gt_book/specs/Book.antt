@@ -1,0 +1,27 @@
+-- What contracts see of a book, and what it keeps.
+use Rattle.std.specs.Prelude.{◌+◌, ◌≡◌, is_some, length}
+use Rattle.gt_book.specs.declared.book.Book.TheInside.{Inside}
+use Rattle.gt_book.specs.Machine.{state_of}
+use Rattle.gt_book.specs.Scheduler.{schedule_of, IsScheduler}
+use Rattle.gt_book.specs.View.{BookView, outcome_in, IsLawful}
+use Rattle.gt_book.specs.Queues.{as_number}
+
+abbrev pub seen : Inside → BookView
+seen b = record {
+  script = b.script;
+  limits = b.limits;
+  history = b.history.items;
+  state = state_of b.machine;
+  schedule = schedule_of b.scheduler;
+}
+
+-- the rooms of a run were taken when it began: for every entry and the finish, and for a goroutine of every entry
+pub record HasRooms (b : Inside) : Type 0 where
+  pub history : length b.history.items + b.history.spare ≡ b.limits.entries + 1
+  pub goroutines : length b.machine.goroutines.items + b.machine.goroutines.spare ≡ b.limits.entries + 1
+  pub entries : length b.history.items ≡ b.machine.entries + as_number (is_some (outcome_in b.machine.ending))  -- the finish is not counted
+  pub scheduler : IsScheduler b.limits.entries b.scheduler
+
+pub record IsKept (b : Inside) : Type 0 where
+  pub lawful : IsLawful (seen b)
+  pub rooms : HasRooms b

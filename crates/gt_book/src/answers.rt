@@ -1,0 +1,117 @@
+//! What a book answers, and the operations that are committed to it.
+
+use gt_model::{Outcome, Party};
+
+/// Which goroutine is to run next.
+#[derive(Clone, Copy, Debug, PartialEq, Eq)]
+pub enum Pick {
+    /// This one, which is in the caller's hand from now on.
+    Run(u32),
+    /// There is none to take.
+    Nothing {
+        /// How many goroutines are in workers' hands.
+        running: u64,
+    },
+}
+
+/// What a step of a goroutine did.
+#[derive(Clone, Copy, Debug, PartialEq, Eq)]
+pub enum Did {
+    /// Its instruction was entered, and the run goes on.
+    Entered,
+    /// It waits.
+    Parked,
+    /// Nothing yet: its instruction needs a timer's record.
+    Timer(TimerOp),
+    /// The run has this outcome.
+    Over(Outcome),
+}
+
+/// What an instruction wants of a timer's record. Timers go by the places of their declarations, from 0.
+#[derive(Clone, Copy, Debug, PartialEq, Eq)]
+pub enum TimerOp {
+    /// To set this timer.
+    Set(u32),
+    /// To stop this timer.
+    Stop(u32),
+    /// To sleep for so many nanoseconds.
+    Sleep(u64),
+}
+
+/// An operation on a timer's record, with its answer. Goroutines go by their numbers, from 1, and timers by the places of their declarations, from 0;
+/// times are in nanoseconds, and a period of 0 is that of a timer that ticks once.
+#[derive(Clone, Copy, Debug, PartialEq, Eq)]
+pub enum Op {
+    /// Goroutine `g` makes timer `t`, which is due at `due`.
+    New {
+        g: u32,
+        t: u32,
+        due: u64,
+        period: u64,
+    },
+    /// Goroutine `g` stops timer `t`, which was set or not.
+    Stop {
+        g: u32,
+        t: u32,
+        was: bool,
+    },
+    /// Goroutine `g` sets timer `t` anew, which was set or not; it is due at `due` from now on.
+    Reset {
+        g: u32,
+        t: u32,
+        was: bool,
+        due: u64,
+        period: u64,
+    },
+    /// A goroutine that waits there receives the tick of timer `t` that was due at `due`; the timer is due next at `next`, if ever.
+    TRecv {
+        p: Party,
+        t: u32,
+        due: u64,
+        next: Option<u64>,
+    },
+    /// AfterFunc timer `t` starts its function in a goroutine of its own.
+    Fire {
+        t: u32,
+    },
+    /// Goroutine `g` falls asleep until a time.
+    Sleep {
+        g: u32,
+        until: u64,
+    },
+    /// The sleep of goroutine `g` is over.
+    Wake {
+        g: u32,
+    },
+}
+
+/// What a commitment came to.
+#[derive(Clone, Copy, Debug, PartialEq, Eq)]
+pub enum Commit {
+    /// It was entered, and the run goes on.
+    Entered,
+    /// It came too late: the run has its outcome, or the goroutine waits there no more. Nothing changed.
+    Gone,
+    /// The run has this outcome.
+    Over(Outcome),
+}
+
+/// A time that will unblock somebody, and whose it is.
+#[derive(Clone, Copy, Debug, PartialEq, Eq)]
+pub struct Due {
+    /// The time, in nanoseconds.
+    pub at: u64,
+    /// Whom it will unblock.
+    pub whose: Whose,
+}
+
+/// Whose a time is.
+#[derive(Clone, Copy, Debug, PartialEq, Eq)]
+pub enum Whose {
+    /// This goroutine sleeps until then.
+    Sleep(u32),
+    /// This AfterFunc timer is due then.
+    Func(u32),
+    /// This channel timer is due then, and somebody waits at a receive from it.
+    Timer(u32),
+}

@@ -1,0 +1,324 @@
+//! The book.
+
+ghost use Rattle.std.specs.Prelude.{◌≡◌, ◌<◌, ◌≤◌, ◌↔◌, [], ◌∷◌, false, ◌+◌, IfOk, IfSome, IsNone, IsSome, IsTrue, Some, length, min, slice_get};
+ghost use Rattle.std.specs.Option.{option_map};
+ghost use Rattle.gt_model.specs.State as at;
+ghost use Rattle.gt_model.specs.Good.{IsGood, AreLimits};
+ghost use Rattle.gt_model.specs.Legal.{May};
+ghost use Rattle.gt_model.specs.Finish.{IsIdle};
+ghost use Rattle.gt_model.specs.Counted.{counted};
+ghost use Rattle.gt_model.specs.Tables.{least};
+ghost use Rattle.gt_model.specs.declared.entry.Entry.{Entry};
+ghost use Rattle.gt_model.specs.declared.entry.Outcome.{Outcome};
+ghost use Rattle.gt_queue.specs.Contents.{waiting_in};
+ghost use Rattle.gt_book.specs.declared.status.RunStatus.{RunStatus};
+ghost use Rattle.gt_book.specs.Schedule.{queue_at, status_of};
+ghost use Rattle.gt_book.specs.Least.{NobodyRuns, IsTimeOf};
+ghost use Rattle.gt_book.specs.Steps.{Takes, Steps, step_of, Served, MayCommit, Commits, is_gone, entry_of, placed_at, plainly, Clocks};
+ghost use Rattle.gt_book.specs.View.{first_view, outcome_of, with_entries, is_parked_at, Enters, IsLawful, NoneFirm};
+
+use crate::answers::{Commit, Did, Due, Op, Pick, TimerOp};
+use crate::least::{least_sleep, least_timer, sooner};
+use crate::machine::{Machine, PROGRAM};
+use crate::scheduler::Scheduler;
+use crate::status::RunStatus;
+use crate::step::{Step, plainly};
+use gt_model::{CAP, Entry, Instr, Limits, NoMemory, Outcome, Party, Script};
+use gt_room::Room;
+use std::alloc::Global;
+use std::marker::Model;
+
+/// The state of goroutines, timers and clocks, together with the history that led to it.
+#[derive(Drop)]
+pub struct Book {
+    script: Script,
+    limits: Limits,
+    history: Room<Entry>,
+    machine: Machine,
+    scheduler: Scheduler,
+}
+
+impl Model for Book {
+    ghost use Rattle.gt_book.specs.View.{BookView};
+
+    ghost Value = { BookView };
+
+    ghost use Rattle.gt_book.specs.Book.{seen, IsKept};
+
+    ghost view = { seen };
+
+    ghost invariant = { IsKept };
+}
+
+impl Book {
+    /// A run of a script before its first entry, in which goroutine 1 is to be taken. It may have 1 to 200,000 entries. All the memory of the run is taken
+    /// here, or the answer is `NoMemory`; no later call takes any.
+    pub fn begin(alloc: Global, script: &Script, limits: Limits) -> Result<Book, NoMemory>
+        requires good { IsGood script.now }
+        requires limits { AreLimits limits }
+        ensures { IfOk result (λ b. b ≡ first_view script.now limits) }
+    {
+        let script = script.copy()?;
+        let history = Room::with_room(alloc, limits.entries as usize + 1).map_err(|_| NoMemory)?;
+        let machine = Machine::begin(alloc, &script, limits.entries)?;
+        let scheduler = Scheduler::begin(alloc, &script, limits.entries)?;
+        Ok(Book {
+            script,
+            limits,
+            history,
+            machine,
+            scheduler,
+        })
+    }
+
+    /// What each book keeps, for the proofs of its callers. The call does nothing.
+    pub fn lawful(&self)
+        ensures lawful { IsLawful self.now }
+        ensures none_firm { NoneFirm self.now }
+        ensures few { length self.now.history ≤ self.now.limits.entries + 1 }
+        ensures few_goroutines { length self.now.schedule.statuses ≤ self.now.limits.entries + 1 }
+    {
+        let _ = &self.script;
+    }
+
+    /// The script of the run.
+    pub fn script(&self) -> &Script
+        ensures { result.now ≡ self.now.script }
+    {
+        &self.script
+    }
+
+    /// The entries so far, the first one first; the last one is the finish where the run has its outcome.
+    pub fn history(&self) -> &[Entry]
+        ensures { result.now ≡ self.now.history }
+    {
+        self.history.as_slice()
+    }
+
+    /// The outcome of the run, if it has one.
+    pub fn outcome(&self) -> Option<Outcome>
+        ensures { result ≡ outcome_of self.now }
+    {
+        self.machine.outcome()
+    }
+
+    /// The clock of a world, in nanoseconds. The program is world 0, the only one so far.
+    pub fn clock_of(&self, world: u32) -> u64
+        requires { world ≡ 0 }
+        ensures { result ≡ at.clock self.now.state world }
+    {
+        self.machine.clock
+    }
+
+    /// The instruction at the place of a goroutine, whether it stands there, sleeps or has ended.
+    pub fn instr_of(&self, g: u32) -> &Instr
+        requires { IsSome (at.goroutine_at self.now.state g) }
+        ensures { placed_at self.now.script self.now.state g ≡ Some result.now }
+    {
+        let place = self.machine.goroutines.at(g as usize - 1).place;
+        let func = &self.script.funcs.as_slice()[place.func as usize];
+        &func.code.as_slice()[place.at as usize]
+    }
+
+    /// One above the greatest number of a timer's record: the declarations have the first numbers, and the sleeps of goroutines those behind them.
+    pub fn records(&self) -> u32
+        ensures { result ≡ length self.now.script.decls + self.now.limits.entries + 2 }
+    {
+        self.script.decls.as_slice().len() as u32 + self.limits.entries as u32 + 2
+    }
+
+    /// Whether a worker has a goroutine in hand.
+    pub fn in_hand(&self, g: u32) -> bool
+        ensures { IsTrue result ↔ (status_of self.now.schedule g ≡ Some RunStatus.InHand) }
+    {
+        self.scheduler.status_of(g) == Some(RunStatus::InHand)
+    }
+
+    /// When the timer at a place of a declaration is due, in nanoseconds, or None where it is not set or was not made.
+    pub fn due_of(&self, t: u32) -> Option<u64>
+        ensures { result ≡ at.due_of self.now.state t }
+    {
+        self.machine.due_of(t)
+    }
+
+    /// Who has waited longest at a receive from a timer, or None where nobody waits there.
+    pub fn timer_waiter(&self, t: u32) -> Option<Party>
+        requires { t < length self.now.script.decls }
+        ensures { result ≡ option_map plainly (slice_get (waiting_in self.now.schedule.queues (queue_at t)) 0) }
+    {
+        self.scheduler.first_waiting(t).map(plainly)
+    }
+
+    /// The least of the times that will unblock somebody, and whose it is; None where there is none. It looks at each goroutine and each timer once.
+    pub fn least_counted(&self) -> Option<Due>
+        requires { NobodyRuns self.now }
+        ensures none { IsNone result ↔ (counted self.now.script self.now.state 0 ≡ []) }
+        ensures least { IfSome result (λ due. least (counted self.now.script self.now.state 0) ≡ Some due.at) }
+        ensures whose { IfSome result (λ due. IsTimeOf self.now due.at due.whose) }
+    {
+        let sleep = least_sleep(&self.machine);
+        let timer = least_timer(&self.script, &self.machine, &self.scheduler);
+        sooner(sleep, timer)
+    }
+
+    /// Takes the first of the run queue into the caller's hand, or answers how many are in workers' hands where the queue is empty.
+    pub fn take_ready(&mut self) -> Pick
+        ensures { Takes self.old result self.new }
+    {
+        match self.scheduler.take() {
+            Some(g) => Pick::Run(g),
+            None => Pick::Nothing {
+                running: self.scheduler.running(),
+            },
+        }
+    }
+
+    /// One step of a goroutine that is in the caller's hand: its instruction is entered, or it waits, or its instruction needs a timer's record and
+    /// nothing changes yet. Where the run has its outcome nothing changes either.
+    pub fn step_plain(&mut self, g: u32) -> Did
+        requires { status_of self.old.schedule g ≡ Some RunStatus.InHand }
+        ensures { Steps self.old g self.new result }
+    {
+        if let Some(outcome) = self.outcome() {
+            return Did::Over(outcome);
+        }
+        match self.next_step(g) {
+            Step::Makes(entry) => {
+                self.enter(entry);
+                self.outcome().map_or(Did::Entered, Did::Over)
+            }
+            Step::Waits(t) => {
+                self.scheduler.park_at(g, t);
+                Did::Parked
+            }
+            Step::Needs(op) => Did::Timer(op),
+        }
+    }
+
+    /// Enters an operation on a timer's record, unless it comes too late: after the outcome of the run, or where its goroutine waits there no more.
+    pub fn commit(&mut self, op: Op) -> Commit
+        requires { is_gone self.old op ≡ false → MayCommit self.old op }
+        ensures { Commits self.old op (is_gone self.old op) self.new result }
+    {
+        if self.is_gone(&op) {
+            return Commit::Gone;
+        }
+        let entry = self.entry_of(&op);
+        self.enter(entry);
+        self.outcome().map_or(Commit::Entered, Commit::Over)
+    }
+
+    /// Moves the program's clock to a reading, or to the greatest time where the reading is above it, unless the clock is there or later, or the run
+    /// has its outcome.
+    pub fn clock(&mut self, reading: u64)
+        ensures { Clocks self.old (min reading CAP) self.new }
+    {
+        let to = reading.min(CAP);
+        if self.outcome().is_none() && self.machine.clock < to {
+            self.enter(Entry::Clock {
+                world: PROGRAM,
+                at: to,
+            });
+        }
+    }
+
+    /// Moves the program's clock to a later time, in nanoseconds, while the run goes on.
+    pub fn jump(&mut self, to: u64)
+        requires running { outcome_of self.old ≡ None }
+        requires later { at.clock self.old.state 0 < to }
+        requires time { to ≤ CAP }
+        ensures { Enters self.old (Entry.Clock 0 to) self.new }
+    {
+        self.enter(Entry::Clock {
+            world: PROGRAM,
+            at: to,
+        });
+    }
+
+    /// Ends a run in which nothing can go on: nothing may come next but a move of the clock, and no time will unblock anybody.
+    pub fn finish_deadlock(&mut self)
+        requires running { outcome_of self.old ≡ None }
+        requires idle { IsIdle self.old.script self.old.state }
+        requires none_counted { counted self.old.script self.old.state 0 ≡ [] }
+        ensures { self.new ≡ with_entries self.old (Entry.Finish Outcome.Deadlock ∷ []) }
+    {
+        self.machine.finish(Outcome::Deadlock);
+        self.history.put(Entry::Finish {
+            outcome: Outcome::Deadlock,
+        });
+    }
+
+    /// What a goroutine in hand does next.
+    fn next_step(&self, g: u32) -> Step
+        requires { status_of self.now.schedule g ≡ Some RunStatus.InHand }
+        ensures { step_of self.now.script self.now.state g ≡ Some result }
+    {
+        self.machine.next_step(&self.script, g).unwrap()
+    }
+
+    /// Whether an operation comes too late.
+    fn is_gone(&self, op: &Op) -> bool
+        ensures { result ≡ is_gone self.now op.now }
+    {
+        self.outcome().is_some()
+            || match *op {
+                Op::TRecv { p, t, .. } => !self.waits_at(p.g, t),
+                Op::Wake { g } => self.machine.until(g).is_none(),
+                _ => false,
+            }
+    }
+
+    /// Whether a goroutine waits at a receive from a timer.
+    fn waits_at(&self, g: u32, t: u32) -> bool
+        ensures { result ≡ is_parked_at self.now.script self.now.state self.now.schedule g t }
+    {
+        self.scheduler.is_parked(g)
+            && matches!(self.machine.stands_at(&self.script, g), Some(Instr::Recv { o }) if o == t)
+    }
+
+    /// The entry of an operation.
+    fn entry_of(&self, op: &Op) -> Entry
+        ensures { result ≡ entry_of self.now.state op.now }
+    {
+        match *op {
+            Op::New { g, t, due, .. } => Entry::New { g, t, due },
+            Op::Stop { g, t, was } => Entry::Stop {
+                g,
+                t,
+                was: Some(was),
+            },
+            Op::Reset { g, t, was, due, .. } => Entry::Reset {
+                g,
+                t,
+                was: Some(was),
+                due,
+            },
+            Op::TRecv { p, t, due, next } => Entry::TRecv { p, t, due, next },
+            Op::Fire { t } => Entry::FireFunc {
+                t,
+                child: self.machine.goroutine_count() + 1,
+            },
+            Op::Sleep { g, until } => Entry::Sleep {
+                g,
+                until: Some(until),
+            },
+            Op::Wake { g } => Entry::Wake { g },
+        }
+    }
+
+    /// Makes an entry, and the finish of the run where one is due then.
+    fn enter(&mut self, entry: Entry)
+        requires running { outcome_of self.old ≡ None }
+        requires may { May self.old.script self.old.state entry }
+        requires served { Served self.old.script self.old.state self.old.schedule entry }
+        ensures { Enters self.old entry self.new }
+    {
+        self.machine.apply(&self.script, &entry);
+        self.scheduler.apply(&entry);
+        self.history.put(entry);
+        if let Some(outcome) = self.machine.due_outcome(self.limits) {
+            self.machine.finish(outcome);
+            self.history.put(Entry::Finish { outcome });
+        }
+    }
+}

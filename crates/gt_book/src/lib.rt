@@ -1,0 +1,17 @@
+//! The book: the state of goroutines, timers and clocks, together with the history that led to it.
+#![tactic(auto)]
+
+mod answers;
+mod book;
+mod least;
+mod machine;
+mod scheduler;
+mod status;
+mod step;
+#[cfg(test)]
+mod tests;
+mod timers;
+
+pub use answers::{Commit, Did, Due, Op, Pick, TimerOp, Whose};
+pub use book::Book;
+pub use status::RunStatus;

@@ -1,0 +1,70 @@
+//! What a goroutine does next, by the state of the machine.
+
+ghost use Rattle.std.specs.Prelude.{◌≡◌, ◌<◌, ◌-◌, ◌^◌, length};
+ghost use Rattle.gt_model.specs.State as at;
+ghost use Rattle.gt_model.specs.Formed.{IsFormed};
+ghost use Rattle.gt_book.specs.Machine.{state_of};
+ghost use Rattle.gt_book.specs.Steps.{step_of, step_of_instr, plainly};
+
+use crate::answers::TimerOp;
+use crate::machine::Machine;
+use gt_model::{Entry, Instr, Party, Script};
+
+/// What a goroutine does next.
+#[derive(Clone, Copy, Debug, PartialEq, Eq)]
+pub enum Step {
+    /// It makes this entry.
+    Makes(Entry),
+    /// It waits at a receive from this timer.
+    Waits(u32),
+    /// Its instruction needs a timer's record.
+    Needs(TimerOp),
+}
+
+/// A goroutine at its plain instruction.
+pub fn plainly(g: u32) -> Party
+    ensures { result ≡ plainly g }
+{
+    Party { g, case_no: 0 }
+}
+
+impl Machine {
+    /// What an instruction without misuse is for goroutine `g`.
+    fn step_of_instr(&self, g: u32, instr: Instr) -> Step
+        requires world { at.world_of (state_of self.now) g ≡ 0 }
+        requires few { length self.now.goroutines.items < 2 ^ 32 - 1 }
+        ensures { result ≡ step_of_instr (state_of self.now) g instr }
+    {
+        match instr {
+            Instr::Say { n } => Step::Makes(Entry::Say { g, n }),
+            Instr::Now => Step::Makes(Entry::Now { g, at: self.clock }),
+            Instr::Sleep { d: 0 } => Step::Makes(Entry::Sleep { g, until: None }),
+            Instr::Sleep { d } => Step::Needs(TimerOp::Sleep(d)),
+            Instr::Go { f } => Step::Makes(Entry::Go {
+                g,
+                child: self.goroutine_count() + 1,
+                f,
+            }),
+            Instr::New { t, .. } | Instr::Reset { t, .. } => Step::Needs(TimerOp::Set(t)),
+            Instr::Stop { t } => Step::Needs(TimerOp::Stop(t)),
+            Instr::Recv { o } => Step::Waits(o),
+            Instr::Finish => Step::Makes(Entry::End { g }),
+        }
+    }
+
+    /// What goroutine `g` does next. None where it stands at no instruction.
+    pub fn next_step(&self, script: &Script, g: u32) -> Option<Step>
+        requires formed { IsFormed script.now (state_of self.now) }
+        requires few { length self.now.goroutines.items < 2 ^ 32 - 1 }
+        ensures { result ≡ step_of script.now (state_of self.now) g }
+    {
+        let instr = self.stands_at(script, g)?;
+        Some(match self.fault(&instr) {
+            Some(reason) => Step::Makes(Entry::Panic {
+                p: plainly(g),
+                reason,
+            }),
+            None => self.step_of_instr(g, instr),
+        })
+    }
+}
