@@ -46,6 +46,9 @@ fn exit_status(status: &Status) -> u8
 {
     match status {
         Status::Done(Outcome::Exit) => 0,
+        Status::Done(Outcome::Deadlock) => 2,
+        Status::Done(Outcome::Panic) => 3,
+        Status::Done(Outcome::Limit) => 4,
         Status::Usage(_) => 64,
         Status::BadScript(_) => 65,
         Status::TooLong { .. } => 66,

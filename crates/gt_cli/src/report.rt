@@ -27,6 +27,7 @@ fn usage_word(fault: WordFault) -> &'static str {
     match fault {
         WordFault::Command => "command",
         WordFault::Form => "form",
+        WordFault::Number => "number",
     }
 }
 

@@ -1,55 +1,54 @@
 -- What the status of a call says of the bytes that it read and wrote.
-use Rattle.std.specs.Prelude.{◌≡◌, ◌≢◌, ℕ, ◌+◌, ◌<◌, ◌≤◌, List, [], length, take, Option, Some, None, IfSome}
+use Rattle.std.specs.Prelude.{◌≡◌, ℕ, ◌+◌, ◌<◌, ◌≤◌, List, length, take, Some, IfSome}
 use Rattle.std.specs.declared.result.Result.{Result}
 use Rattle.std.specs.declared.result.Result.TheVariants.{Ok, Err}
 use Rattle.gt_io.specs.Counts.{Rose, RoseBy}
 use Rattle.gt_io.specs.Bytes.{Appended}
 use Rattle.gt_model.specs.declared.script.Script.{Script}
 use Rattle.gt_model.specs.declared.entry.Entry.{Entry}
+use Rattle.gt_model.specs.declared.entry.Limits.{Limits}
 use Rattle.gt_model.specs.declared.entry.Outcome.{Outcome}
 use Rattle.gt_model.specs.After.{first_state}
 use Rattle.gt_model.specs.History.{History, AllJump}
-use Rattle.gt_script.specs.Grammar.{Spells}
+use Rattle.gt_script.specs.Grammar.{IsFirstFault, Spells}
 use Rattle.gt_script.specs.declared.fault.ScriptFault.{ScriptFault}
-use Rattle.gt_script.specs.declared.fault.Why.{Why}
 use Rattle.gt_trace.specs.Text.{text}
 use Rattle.gt_top.specs.declared.call.TheConstants.{INPUT_LIMIT}
 use Rattle.gt_top.specs.declared.status.Status.{Status}
 use Rattle.gt_top.specs.declared.words.Order.{Order}
 use Rattle.gt_top.specs.declared.words.WordFault.{WordFault}
-use Rattle.gt_top.specs.Run.{default_limits}
 use Rattle.gt_top.specs.Words.{order_of}
 use Rattle.gt_top.specs.Call.{SourceState, SinkState, Call, ReadsAll, IsUntouched}
 
 -- a complete history of the script: each entry legal in the one-thread machine, and its clock moved only where nothing else could happen
-pub record IsRun (script : Script) (h : List Entry) (outcome : Outcome) : Type 0 where
-  pub complete : History script default_limits h outcome
+pub record IsRun (script : Script) (limits : Limits) (h : List Entry) (outcome : Outcome) : Type 0 where
+  pub complete : History script limits h outcome
   pub jumps : AllJump script 0 (first_state script) h
 
 -- what was written is the trace of a complete history, and nothing else was
-pub record PrintsRun (script : Script) (before after : SinkState) (outcome : Outcome) : Type 0 where
+pub record PrintsRun (script : Script) (limits : Limits) (before after : SinkState) (outcome : Outcome) : Type 0 where
   pub history : List Entry
-  pub run : IsRun script history outcome
+  pub run : IsRun script limits history outcome
   pub written : Appended before.written after.written (text script history)
 
 -- a write failed, and what was written before is a front of such a trace
-pub record PrintsFront (script : Script) (before after : SinkState) : Type 0 where
+pub record PrintsFront (script : Script) (limits : Limits) (before after : SinkState) : Type 0 where
   pub history : List Entry
   pub outcome : Outcome
-  pub run : IsRun script history outcome
+  pub run : IsRun script limits history outcome
   pub count : ℕ
   pub written : Appended before.written after.written (take count (text script history))
   pub cause : Rose before.faults after.faults
 
 -- what the status says of the writing of a run
-abbrev pub Prints : Script → SinkState → SinkState → Status → Type 0
-Prints script before after (Status.Done outcome) = PrintsRun script before after outcome
-Prints script before after Status.WriteFault = PrintsFront script before after
-Prints script before after Status.NoMemory = after ≡ before
-Prints script before after (Status.Usage fault) = ⊥
-Prints script before after (Status.BadScript fault) = ⊥
-Prints script before after (Status.TooLong limit) = ⊥
-Prints script before after Status.ReadFault = ⊥
+abbrev pub Prints : Script → Limits → SinkState → SinkState → Status → Type 0
+Prints script limits before after (Status.Done outcome) = PrintsRun script limits before after outcome
+Prints script limits before after Status.WriteFault = PrintsFront script limits before after
+Prints script limits before after Status.NoMemory = after ≡ before
+Prints script limits before after (Status.Usage fault) = ⊥
+Prints script limits before after (Status.BadScript fault) = ⊥
+Prints script limits before after (Status.TooLong limit) = ⊥
+Prints script limits before after Status.ReadFault = ⊥
 
 -- the status of a reading that gave no whole input
 abbrev pub ReadsNot : SourceState → SourceState → Status → Type 0
@@ -62,9 +61,9 @@ ReadsNot before after (Status.Usage fault) = ⊥
 ReadsNot before after (Status.BadScript fault) = ⊥
 ReadsNot before after Status.WriteFault = ⊥
 
--- the status of bytes that gave no script: they spell none, or memory ran out
+-- the status of bytes that gave no script: this is the first fault in them, or memory ran out
 abbrev pub SpellsNot : List ℕ → Status → Type 0
-SpellsNot bytes (Status.BadScript fault) = (fault.why ≢ Why.NoMemory) × ((script : Script) → Spells bytes script → ⊥)
+SpellsNot bytes (Status.BadScript fault) = IsFirstFault bytes fault
 SpellsNot bytes Status.NoMemory = Unit {0}
 SpellsNot bytes (Status.Done outcome) = ⊥
 SpellsNot bytes (Status.Usage fault) = ⊥
@@ -80,26 +79,30 @@ pub record ReadsScript (c : Call) (P : Script → Type 0) : Type 0 where
   pub spelled : Spells bytes script
   pub holds : P script
 
--- the bytes that were read spell no script, and nothing was written
+-- the bytes that were read spell no script, this is the first fault in them, and nothing was written
 pub record RefusesScript (c : Call) (fault : ScriptFault) : Type 0 where
   pub bytes : List ℕ
   pub read : ReadsAll c.source_before c.source_after bytes
-  pub refused : SpellsNot bytes (Status.BadScript fault)
+  pub refused : IsFirstFault bytes fault
   pub unwritten : c.sink_after ≡ c.sink_before
 
 -- what the status says of `sim`
-abbrev pub Simulates : Call → Status → Type 0
-Simulates c (Status.Done outcome) = ReadsScript c (λ script. PrintsRun script c.sink_before c.sink_after outcome)
-Simulates c Status.WriteFault = ReadsScript c (λ script. PrintsFront script c.sink_before c.sink_after)
-Simulates c (Status.BadScript fault) = RefusesScript c fault
-Simulates c (Status.TooLong limit) = ReadsNot c.source_before c.source_after (Status.TooLong limit) × (c.sink_after ≡ c.sink_before)
-Simulates c Status.ReadFault = Rose c.source_before.faults c.source_after.faults × (c.sink_after ≡ c.sink_before)
-Simulates c Status.NoMemory = c.sink_after ≡ c.sink_before
-Simulates c (Status.Usage fault) = ⊥
+abbrev pub Simulates : Limits → Call → Status → Type 0
+Simulates limits c (Status.Done outcome) = ReadsScript c (λ script. PrintsRun script limits c.sink_before c.sink_after outcome)
+Simulates limits c Status.WriteFault = ReadsScript c (λ script. PrintsFront script limits c.sink_before c.sink_after)
+Simulates limits c (Status.BadScript fault) = RefusesScript c fault
+Simulates limits c (Status.TooLong limit) = ReadsNot c.source_before c.source_after (Status.TooLong limit) × (c.sink_after ≡ c.sink_before)
+Simulates limits c Status.ReadFault = Rose c.source_before.faults c.source_after.faults × (c.sink_after ≡ c.sink_before)
+Simulates limits c Status.NoMemory = c.sink_after ≡ c.sink_before
+Simulates limits c (Status.Usage fault) = ⊥
+
+-- the limits of an order's run
+abbrev pub up_to : ℕ → Limits
+up_to limit = record { entries = limit }
 
 -- what the status says, by the order that the words mean
 abbrev pub AnswersOrder : Result Order WordFault → Call → Status → Type 0
-AnswersOrder (Ok Order.Sim) c status = Simulates c status
+AnswersOrder (Ok (Order.Sim limit)) c status = Simulates (up_to limit) c status
 AnswersOrder (Err fault) c status = (status ≡ Status.Usage fault) × IsUntouched c
 
 -- The headline: what the program writes is the trace of one complete history of the script that it read. Every refusal has its cause
@@ -108,7 +111,8 @@ Answers words c status = AnswersOrder (order_of words) c status
 
 -- good input: the words mean an order, the source tells a script within the limit, and no read and no write failed in the call
 pub record IsAccepted (words : List (List ℕ)) (c : Call) : Type 0 where
-  pub order : order_of words ≡ Ok Order.Sim
+  pub limit : ℕ
+  pub order : order_of words ≡ Ok (Order.Sim limit)
   pub bytes : List ℕ
   pub script : Script
   pub told : c.source_before.left ≡ Some bytes

@@ -1,5 +1,5 @@
 -- What a call of the program saw and did.
-use Rattle.std.specs.Prelude.{◌≡◌, ℕ, ◌≤◌, List, [], length, Option, Some, None, IfSome}
+use Rattle.std.specs.Prelude.{◌≡◌, ℕ, ◌≤◌, List, [], length, Option, Some, IfSome}
 use Rattle.gt_io.specs.Counts.{RoseBy}
 use Rattle.gt_top.specs.declared.call.TheConstants.{INPUT_LIMIT}
 

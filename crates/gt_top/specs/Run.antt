@@ -1,38 +1,89 @@
--- The run of one goroutine.
-use Rattle.std.specs.Prelude.{ℕ, ◌+◌, ◌*◌, ◌≤◌, List, [], ◌∷◌}
+-- A run of a script on one worker.
+use Rattle.std.specs.Prelude.{ℕ, ◌+◌, ◌-◌, ◌*◌, ◌<◌, ◌≡◌, ◌≢◌, ◌⊎◌, length, IsSome}
+use Rattle.std.specs.declared.option.Option.{Option}
+use Rattle.std.specs.declared.option.Option.TheVariants.{None, Some}
 use Rattle.gt_model.specs.declared.script.Script.{Script}
-use Rattle.gt_model.specs.declared.entry.Entry.{Entry}
 use Rattle.gt_model.specs.declared.entry.Limits.{Limits}
-use Rattle.gt_model.specs.declared.entry.Outcome.{Outcome}
-use Rattle.gt_model.specs.declared.state.Goroutine.{Goroutine}
-use Rattle.gt_model.specs.declared.state.Mode.{Mode}
-use Rattle.gt_model.specs.declared.time.TheConstants.{CAP}
-use Rattle.gt_model.specs.State.{State, Ending}
 use Rattle.gt_model.specs.After.{first_state}
-use Rattle.gt_model.specs.History.{History, AllJump, Reached}
-use Rattle.gt_top.specs.declared.runner.Run.{Run}
+use Rattle.gt_model.specs.History.{AllJump}
+use Rattle.gt_book.specs.declared.status.RunStatus.{RunStatus}
+use Rattle.gt_book.specs.Schedule.{status_of}
+use Rattle.gt_book.specs.View.{BookView, outcome_of, queued_count}
 
--- the limit of a run where no word gives another
-abbrev pub default_limits : Limits
-default_limits = record { entries = 10000 }
+-- the program's clock moved by idle jumps alone so far
+abbrev pub Jumps : BookView → Type 0
+Jumps b = AllJump b.script 0 (first_state b.script) b.history
 
--- main at an index of its code, in a mode
-abbrev pub main_at : Script → ℕ → Mode → Goroutine
-main_at script at mode = record { world = 0; place = record { func = script.main; at = at }; mode = mode }
+-- no goroutine is in a worker's hand
+abbrev pub HandsFree : BookView → Type 0
+HandsFree b = (g : ℕ) → status_of b.schedule g ≢ Some RunStatus.InHand
 
--- the state of a program of one goroutine that goes on
-abbrev pub alone : ℕ → ℕ → Goroutine → State
-alone clock entries main = record { clocks = clock ∷ []; entries = entries; goroutines = main ∷ []; ending = Ending.Running }
+-- a goroutine is in hand, and no other is
+pub record IsAlone (b : BookView) (g : ℕ) : Type 0 where
+  pub in_hand : status_of b.schedule g ≡ Some RunStatus.InHand
+  pub alone : (h : ℕ) → status_of b.schedule h ≡ Some RunStatus.InHand → h ≡ g
 
--- the history so far is legal, and leads to the state in which main is at this index in this mode. Each instruction
--- before it made three entries at most, and it has made this many more
-pub record Stands (script : Script) (run : Run) (at : ℕ) (mode : Mode) (more : ℕ) : Type 0 where
-  pub entries : ℕ
-  pub few : entries ≤ 3 * at + more
-  pub time : run.clock ≤ CAP
-  pub reached : Reached script default_limits 0 run.history.items (alone run.clock entries (main_at script at mode))
+-- the run goes on in a book of the same script: entries were made, or the goroutines to be taken are as many as before
+pub record Passes (old new : BookView) : Type 0 where
+  pub script : new.script ≡ old.script
+  pub limits : new.limits ≡ old.limits
+  pub jumps : Jumps old → Jumps new
+  pub hands : outcome_of new ≡ None → HandsFree new
+  pub goes : (length old.history < length new.history) ⊎ ((new.history ≡ old.history) × (queued_count new.schedule ≡ queued_count old.schedule))
 
--- a complete history that ends with main, whose clock moves by idle jumps without a slip
-pub record IsComplete (script : Script) (h : List Entry) : Type 0 where
-  pub history : History script default_limits h Outcome.Exit
-  pub jumps : AllJump script 0 (first_state script) h
+-- the same of one call of g, which may be in hand still
+pub record Goes (g : ℕ) (old new : BookView) : Type 0 where
+  pub script : new.script ≡ old.script
+  pub limits : new.limits ≡ old.limits
+  pub jumps : Jumps old → Jumps new
+  pub hands : (h : ℕ) → status_of new.schedule h ≡ Some RunStatus.InHand → h ≡ g
+  pub goes : (length old.history < length new.history)
+      ⊎ ((new.history ≡ old.history) × (queued_count new.schedule ≡ queued_count old.schedule) × (status_of new.schedule g ≢ Some RunStatus.InHand))
+
+-- the same with an entry more at least
+pub record Moves (old new : BookView) : Type 0 where
+  pub passes : Passes old new
+  pub longer : length old.history < length new.history
+
+-- the same of some calls of g so far
+pub record GoesOn (g : ℕ) (old new : BookView) : Type 0 where
+  pub script : new.script ≡ old.script
+  pub limits : new.limits ≡ old.limits
+  pub jumps : Jumps old → Jumps new
+  pub hands : (h : ℕ) → status_of new.schedule h ≡ Some RunStatus.InHand → h ≡ g
+  pub goes : (length old.history < length new.history)
+      ⊎ ((new.history ≡ old.history) × (queued_count new.schedule ≡ queued_count old.schedule))
+
+-- whether a goroutine is in hand, as a number
+abbrev pub hand : Option RunStatus → ℕ
+hand (Some RunStatus.InHand) = 1
+hand _ = 0
+
+-- how much is left of a goroutine's turn
+abbrev pub turn_left : ℕ → BookView → ℕ
+turn_left g b = (b.limits.entries + 1 - length b.history) * 2 + hand (status_of b.schedule g)
+
+-- a turn keeps the run
+pub record Turns (old new : BookView) : Type 0 where
+  pub script : new.script ≡ old.script
+  pub limits : new.limits ≡ old.limits
+  pub jumps : Jumps old → Jumps new
+  pub hands : outcome_of new ≡ None → HandsFree new
+
+-- a run of the script so far
+pub record IsUnderWay (script : Script) (limits : Limits) (b : BookView) : Type 0 where
+  pub of_script : b.script ≡ script
+  pub within : b.limits ≡ limits
+  pub jumps : Jumps b
+  pub hands : outcome_of b ≡ None → HandsFree b
+
+-- how much is left of a run
+abbrev pub run_left : BookView → ℕ
+run_left b = (b.limits.entries + 1 - length b.history) * (b.limits.entries + 3) + queued_count b.schedule
+
+-- a complete run of the script within the limits
+pub record IsComplete (script : Script) (limits : Limits) (b : BookView) : Type 0 where
+  pub of_script : b.script ≡ script
+  pub within : b.limits ≡ limits
+  pub jumps : Jumps b
+  pub over : IsSome (outcome_of b)

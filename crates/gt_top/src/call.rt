@@ -1,7 +1,7 @@
 //! The top call.
 
 ghost use Rattle.std.specs.Prelude.{◌≡◌, ℕ, IfOk, IfErr, map, string_bytes};
-ghost use Rattle.gt_model.specs.Good.{IsGood};
+ghost use Rattle.gt_model.specs.Good.{IsGood, AreLimits};
 ghost use Rattle.gt_script.specs.Grammar.{Spells};
 ghost use Rattle.gt_top.specs.Call.{call_of, source_state, sink_state, ReadsAll};
 ghost use Rattle.gt_top.specs.Answer.{Answers, Simulates, IsAccepted, IsDoneOrNoMemory, ReadsNot, SpellsNot, Prints};
@@ -10,7 +10,7 @@ use crate::runner::run_script;
 use crate::status::Status;
 use crate::words::{Order, read_words};
 use gt_io::{ReadError, Sink, Source, read_to_limit};
-use gt_model::{Outcome, Script};
+use gt_model::{Limits, Script};
 use gt_script::{Why, read_script};
 use gt_trace::write_trace;
 use std::alloc::Global;
@@ -37,14 +37,20 @@ pub fn calm<S: Source, K: Sink>(
         → IsDoneOrNoMemory result }
 {
     match read_words(words) {
-        Ok(Order::Sim) => simulate(alloc, source, sink),
+        Ok(Order::Sim { limit }) => simulate(alloc, Limits { entries: limit }, source, sink),
         Err(fault) => Status::Usage(fault),
     }
 }
 
-/// Reads a script, runs it, and writes its trace.
-fn simulate<S: Source, K: Sink>(alloc: Global, source: &mut S, sink: &mut K) -> Status
-    ensures { Simulates
+/// Reads a script, runs it within these limits, and writes its trace.
+fn simulate<S: Source, K: Sink>(
+    alloc: Global,
+    limits: Limits,
+    source: &mut S,
+    sink: &mut K,
+) -> Status
+    requires { AreLimits limits }
+    ensures { Simulates limits
         (call_of S.left S.faults S.given K.written K.faults source.old source.new sink.old sink.new) result }
 {
     let bytes = match read_input(alloc, source) {
@@ -55,7 +61,7 @@ fn simulate<S: Source, K: Sink>(alloc: Global, source: &mut S, sink: &mut K) -> 
         Ok(script) => script,
         Err(status) => return status,
     };
-    print_run(alloc, &script, sink)
+    print_run(alloc, &script, limits, sink)
 }
 
 /// All that the source has, or the status of a refusal.
@@ -90,16 +96,20 @@ fn spelled_script(alloc: Global, bytes: Vec<u8>) -> Result<Script, Status>
     }
 }
 
-/// Runs a script, and then writes the trace of its history.
-fn print_run<K: Sink>(alloc: Global, script: &Script, sink: &mut K) -> Status
-    requires { IsGood script.now }
-    ensures { Prints script.now (sink_state K.written K.faults sink.old) (sink_state K.written K.faults sink.new) result }
+/// Runs a script within these limits, and then writes the trace of its history.
+fn print_run<K: Sink>(alloc: Global, script: &Script, limits: Limits, sink: &mut K) -> Status
+    requires good { IsGood script.now }
+    requires limits { AreLimits limits }
+    ensures { Prints script.now limits
+        (sink_state K.written K.faults sink.old) (sink_state K.written K.faults sink.new) result }
 {
-    let Ok(history) = run_script(alloc, script) else {
+    let Ok(book) = run_script(alloc, script, limits) else {
         return Status::NoMemory;
     };
-    match write_trace(sink, script, history.as_slice()) {
-        Ok(()) => Status::Done(Outcome::Exit),
+    book.lawful();
+    let outcome = book.outcome().unwrap();
+    match write_trace(sink, script, book.history()) {
+        Ok(()) => Status::Done(outcome),
         Err(_) => Status::WriteFault,
     }
 }

@@ -8,7 +8,7 @@ mod words;
 
 pub use call::{INPUT_LIMIT, calm};
 pub use status::Status;
-pub use words::WordFault;
+pub use words::{DEFAULT_LIMIT, WordFault};
 
 #[cfg(test)]
 mod tests;

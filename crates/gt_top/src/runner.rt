@@ -1,176 +1,176 @@
-//! Runs a script of one goroutine, one whole call at a time. The clock moves only where nothing else can happen.
+//! Runs a script on one worker, one whole call at a time: a goroutine goes on until it waits or ends, then the next of the run queue does. Timers are
+//! served only where nobody is to run, and the clock moves only where nothing is due.
 
-ghost use Rattle.std.specs.Prelude.{◌≡◌, ◌≢◌, ◌+◌, ◌<◌, ◌≤◌, ◌++◌, ◌∷◌, [], min, IfOk, OnOk, length, slice_get};
-ghost use Rattle.gt_model.specs.Good.{IsGood, IsGoodCode};
-ghost use Rattle.gt_model.specs.State.{code_of};
-ghost use Rattle.gt_model.specs.declared.state.Mode.{Mode};
-ghost use Rattle.gt_top.specs.Run.{Stands, IsComplete};
+ghost use Rattle.std.specs.Prelude.{◌≡◌, ◌≤◌, ◌<◌, false, IfOk, IsSomeAnd, Some, None};
+ghost use Rattle.gt_model.specs.Good.{IsGood, AreLimits};
+ghost use Rattle.gt_model.specs.State as at;
+ghost use Rattle.gt_book.specs.Least.{NobodyRuns, IsTimeOf};
+ghost use Rattle.gt_book.specs.Schedule.{status_of};
+ghost use Rattle.gt_book.specs.Steps.{MayCommit, is_gone, step_of};
+ghost use Rattle.gt_book.specs.View.{outcome_of};
+ghost use Rattle.gt_book.specs.declared.answers.TimerOp.{TimerOp};
+ghost use Rattle.gt_book.specs.declared.status.RunStatus.{RunStatus};
+ghost use Rattle.gt_book.specs.declared.step.Step.{Step};
+ghost use Rattle.gt_top.specs.Run.{IsComplete, IsAlone, Goes, HandsFree, Moves, Passes, Turns, run_left};
 
-use gt_model::{CAP, Entry, Instr, NoMemory, Outcome, Script, due_after};
+use gt_book::{Book, Did, Due, Op, Pick, TimerOp, Whose};
+use gt_model::{Instr, Limits, NoMemory, Script, due_after};
 use std::alloc::Global;
-
-/// The only goroutine of a run: `main`.
-const MAIN: u32 = 1;
 
 /// The number of the program's world.
 const PROGRAM: u32 = 0;
 
-/// A run so far: the clock, in nanoseconds, and the entries.
-#[derive(Drop)]
-struct Run {
-    clock: u64,
-    history: Vec<Entry>,
-}
-
-fn push(run: &mut Run, entry: Entry) -> Result<(), NoMemory>
-    ensures history { OnOk result (run.new.history.items ≡ run.old.history.items ++ entry ∷ []) }
-    ensures clock { run.new.clock ≡ run.old.clock }
+/// What `new` and `reset` do with a timer, by the instruction of their goroutine.
+fn setting(book: &Book, g: u32, t: u32) -> Option<Op>
+    requires wanted { step_of book.now.script book.now.state g ≡ Some (Step.Needs (TimerOp.Set t)) }
+    requires in_hand { status_of book.now.schedule g ≡ Some RunStatus.InHand }
+    requires running { outcome_of book.now ≡ None }
+    ensures { IsSomeAnd result (λ op. MayCommit book.now op × (is_gone book.now op ≡ false)) }
 {
-    run.history.push(entry).map_err(|_| NoMemory)
-}
-
-/// main looks at the clock.
-fn look(run: &mut Run, script: &Script, at: u32) -> Result<(), NoMemory>
-    requires stands { Stands script.now run.old at Mode.At 0 }
-    requires instr { slice_get (code_of script.now script.now.main) at ≡ Some Instr.Now }
-    requires few { at < 1001 }
-    ensures { OnOk result (Stands script.now run.new (at + 1) Mode.At 0) }
-{
-    let clock = run.clock;
-    push(run, Entry::Now { g: MAIN, at: clock })?;
-    Ok(())
-}
-
-/// main sleeps for no time, and goes on.
-fn sleep_not(run: &mut Run, script: &Script, at: u32) -> Result<(), NoMemory>
-    requires stands { Stands script.now run.old at Mode.At 0 }
-    requires instr { slice_get (code_of script.now script.now.main) at ≡ Some (Instr.Sleep 0) }
-    requires few { at < 1001 }
-    ensures { OnOk result (Stands script.now run.new (at + 1) Mode.At 0) }
-{
-    push(
-        run,
-        Entry::Sleep {
-            g: MAIN,
-            until: None,
-        },
-    )?;
-    Ok(())
-}
-
-/// main falls asleep for `d` nanoseconds. It answers the time of its end.
-fn fall_asleep(run: &mut Run, script: &Script, at: u32, d: u64) -> Result<u64, NoMemory>
-    requires stands { Stands script.now run.old at Mode.At 0 }
-    requires instr { slice_get (code_of script.now script.now.main) at ≡ Some (Instr.Sleep d) }
-    requires some { d ≢ 0 }
-    requires few { at < 1001 }
-    ensures asleep { IfOk result (λ until. Stands script.now run.new at (Mode.Sleeping until) 1) }
-    ensures time { IfOk result (λ until. until ≤ CAP) }
-{
-    let until = due_after(run.clock, d);
-    push(
-        run,
-        Entry::Sleep {
-            g: MAIN,
-            until: Some(until),
-        },
-    )?;
-    Ok(until)
-}
-
-/// While main sleeps, the clock jumps to the end of the sleep, unless it is there.
-fn wait_until(run: &mut Run, script: &Script, at: u32, until: u64) -> Result<(), NoMemory>
-    requires asleep { Stands script.now run.old at (Mode.Sleeping until) 1 }
-    requires time { until ≤ CAP }
-    requires few { at < 1001 }
-    ensures asleep { OnOk result (Stands script.now run.new at (Mode.Sleeping until) 2) }
-    ensures due { OnOk result (until ≤ run.new.clock) }
-{
-    if run.clock >= until {
-        return Ok(());
+    book.lawful();
+    let now = book.clock_of(PROGRAM);
+    match *book.instr_of(g) {
+        Instr::New { d, .. } => Some(Op::New {
+            g,
+            t,
+            due: due_after(now, d),
+            period: 0,
+        }),
+        Instr::Reset { d, .. } => Some(Op::Reset {
+            g,
+            t,
+            was: book.due_of(t).is_some(),
+            due: due_after(now, d),
+            period: 0,
+        }),
+        _ => None,
     }
-    push(
-        run,
-        Entry::Clock {
-            world: PROGRAM,
-            at: until,
+}
+
+/// The operation that an instruction wants of a timer's record, with its answer.
+fn operation(book: &Book, g: u32, wanted: TimerOp) -> Op
+    requires wanted { step_of book.now.script book.now.state g ≡ Some (Step.Needs wanted) }
+    requires in_hand { status_of book.now.schedule g ≡ Some RunStatus.InHand }
+    requires running { outcome_of book.now ≡ None }
+    ensures may { MayCommit book.now result }
+    ensures not_gone { is_gone book.now result ≡ false }
+{
+    book.lawful();
+    match wanted {
+        TimerOp::Sleep(d) => Op::Sleep {
+            g,
+            until: due_after(book.clock_of(PROGRAM), d),
         },
-    )?;
-    run.clock = until;
-    Ok(())
-}
-
-/// main wakes, and goes on.
-fn wake(run: &mut Run, script: &Script, at: u32, until: u64) -> Result<(), NoMemory>
-    requires asleep { Stands script.now run.old at (Mode.Sleeping until) 2 }
-    requires due { until ≤ run.old.clock }
-    requires few { at < 1001 }
-    ensures { OnOk result (Stands script.now run.new (at + 1) Mode.At 0) }
-{
-    push(run, Entry::Wake { g: MAIN })?;
-    Ok(())
-}
-
-/// main sleeps for `d` nanoseconds, and goes on.
-fn sleep(run: &mut Run, script: &Script, at: u32, d: u64) -> Result<(), NoMemory>
-    requires stands { Stands script.now run.old at Mode.At 0 }
-    requires instr { slice_get (code_of script.now script.now.main) at ≡ Some (Instr.Sleep d) }
-    requires few { at < 1001 }
-    ensures { OnOk result (Stands script.now run.new (at + 1) Mode.At 0) }
-{
-    if d == 0 {
-        return sleep_not(run, script, at);
+        TimerOp::Stop(t) => Op::Stop {
+            g,
+            t,
+            was: book.due_of(t).is_some(),
+        },
+        TimerOp::Set(t) => setting(book, g, t).unwrap(),
     }
-    let until = fall_asleep(run, script, at, d)?;
-    wait_until(run, script, at, until)?;
-    wake(run, script, at, until)
 }
 
-/// main ends, and the run with it.
-fn finish(mut run: Run, script: &Script, at: u32) -> Result<Vec<Entry>, NoMemory>
-    requires stands { Stands script.now run at Mode.At 0 }
-    requires instr { slice_get (code_of script.now script.now.main) at ≡ Some Instr.Finish }
-    requires few { at < 1001 }
-    ensures { IfOk result (λ history. IsComplete script.now history.items) }
+/// One whole call of a goroutine in hand.
+fn call(book: &mut Book, g: u32)
+    requires alone { IsAlone book.old g }
+    requires running { outcome_of book.old ≡ None }
+    ensures { Goes g book.old book.new }
 {
-    push(&mut run, Entry::End { g: MAIN })?;
-    push(
-        &mut run,
-        Entry::Finish {
-            outcome: Outcome::Exit,
+    book.lawful();
+    if let Did::Timer(wanted) = book.step_plain(g) {
+        let op = operation(book, g, wanted);
+        book.commit(op);
+    }
+}
+
+/// Lets a goroutine in hand go on until it waits, ends, or the run has its outcome.
+fn run_goroutine(book: &mut Book, g: u32)
+    requires { IsAlone book.old g }
+    ensures { Passes book.old book.new }
+{
+    while book.outcome().is_none() && book.in_hand(g) {
+        call(book, g);
+        book.lawful();
+    }
+}
+
+/// What is to be done for somebody whose time has come.
+fn waking(book: &Book, due: Due) -> Op
+    requires whose { IsTimeOf book.now due.at due.whose }
+    requires due { due.at ≤ at.clock book.now.state 0 }
+    requires running { outcome_of book.now ≡ None }
+    ensures may { MayCommit book.now result }
+    ensures not_gone { is_gone book.now result ≡ false }
+{
+    book.lawful();
+    match due.whose {
+        Whose::Sleep(g) => Op::Wake { g },
+        Whose::Func(t) => Op::Fire { t },
+        Whose::Timer(t) => Op::TRecv {
+            p: book.timer_waiter(t).unwrap(),
+            t,
+            due: due.at,
+            next: None,
         },
-    )?;
-    Ok(run.history)
+    }
 }
 
-/// The code of main.
-fn main_code(script: &Script) -> &[Instr]
-    requires { IsGood script.now }
-    ensures code { result.now ≡ code_of script.now script.now.main }
-    ensures good { IsGoodCode result.now }
-    ensures short { length result.now ≤ 1001 }
+/// Serves a time that has come.
+fn serve(book: &mut Book, due: Due)
+    requires whose { IsTimeOf book.old due.at due.whose }
+    requires due { due.at ≤ at.clock book.old.state 0 }
+    requires running { outcome_of book.old ≡ None }
+    requires nobody { NobodyRuns book.old }
+    ensures { Moves book.old book.new }
 {
-    let func = &script.funcs.as_slice()[script.main as usize];
-    func.code.as_slice()
+    book.lawful();
+    let op = waking(book, due);
+    book.commit(op);
 }
 
-/// The complete history of a script. Only memory can keep it from an answer.
-pub fn run_script(alloc: Global, script: &Script) -> Result<Vec<Entry>, NoMemory>
-    requires { IsGood script.now }
-    ensures { IfOk result (λ history. IsComplete script.now history.items) }
+/// Where nobody is to run: serves the least time that has come, or moves the clock to the least time to come, or ends the run where there is none.
+fn pass_time(book: &mut Book)
+    requires running { outcome_of book.old ≡ None }
+    requires nobody { NobodyRuns book.old }
+    ensures { Moves book.old book.new }
 {
-    let code = main_code(script);
-    let mut run = Run {
-        clock: 0,
-        history: Vec::new(alloc),
-    };
-    let mut at = 0;
-    loop {
-        match code[at as usize] {
-            Instr::Now => look(&mut run, script, at)?,
-            Instr::Sleep { d } => sleep(&mut run, script, at, d)?,
-            Instr::Finish => return finish(run, script, at),
+    book.lawful();
+    match book.least_counted() {
+        None => book.finish_deadlock(),
+        Some(due) if due.at <= book.clock_of(PROGRAM) => serve(book, due),
+        Some(due) => book.jump(due.at),
+    }
+}
+
+/// The turn of the goroutine that is to run next, or of time where there is none.
+fn turn(book: &mut Book)
+    requires running { outcome_of book.old ≡ None }
+    requires free { HandsFree book.old }
+    ensures turns { Turns book.old book.new }
+    ensures less { run_left book.new < run_left book.old }
+{
+    book.lawful();
+    match book.take_ready() {
+        Pick::Run(g) => {
+            run_goroutine(book, g);
+            book.lawful();
         }
-        at += 1;
+        Pick::Nothing { .. } => {
+            pass_time(book);
+            book.lawful();
+        }
     }
+}
+
+/// Runs a script until the run has its outcome. Only memory can keep it from an answer.
+pub fn run_script(alloc: Global, script: &Script, limits: Limits) -> Result<Book, NoMemory>
+    requires good { IsGood script.now }
+    requires limits { AreLimits limits }
+    ensures { IfOk result (λ book. IsComplete script.now limits book) }
+{
+    let mut book = Book::begin(alloc, script, limits)?;
+    while book.outcome().is_none() {
+        turn(&mut book);
+    }
+    Ok(book)
 }

@@ -14,34 +14,169 @@ fn answer(alloc: Global, words: &[&str], input: &str) -> Result<(Status, Vec<u8>
         owned.push(String::from_str(alloc, word)?)?;
     }
     let mut source = SureSource::of(Vec::from_slice(alloc, input.as_bytes())?);
-    let mut sink = SureSink::with_room(alloc, 4096)?;
+    let mut sink = SureSink::with_room(alloc, 100_000)?;
     let status = calm(alloc, owned.as_slice(), &mut source, &mut sink);
     Ok((status, Vec::from_slice(alloc, sink.bytes())?))
 }
 
-const DONE: Status = Status::Done(Outcome::Exit);
+const SIM: &[&str] = &["sim"];
+
+/// Scripts without their first line, their traces, and the outcomes.
+const RUNS: &[(&str, &str, Outcome)] = &[
+    (
+        "func main\nsleep 5ms\nnow\nend\n",
+        "sleep g1 5000000\nclock 0 5000000\nwake g1\nnow g1 5000000\nend g1\nexit\n",
+        Outcome::Exit,
+    ),
+    ("func main\nend\n", "end g1\nexit\n", Outcome::Exit),
+    // a time past the greatest one
+    (
+        "func main\nsleep 9223372036854ms\nsleep 1ms\nsleep 1ms\nend\n",
+        "sleep g1 9223372036854000000\nclock 0 9223372036854000000\nwake g1\n\
+         sleep g1 9223372036854775807\nclock 0 9223372036854775807\nwake g1\n\
+         sleep g1 9223372036854775807\nwake g1\nend g1\nexit\n",
+        Outcome::Exit,
+    ),
+    // a timer whose time has passed, and whose value nobody took, was set
+    (
+        "timer t\nfunc main\nnew t 1ms\nsleep 5ms\nstop t\nend\n",
+        "new g1 t 1000000\nsleep g1 5000000\nclock 0 5000000\nwake g1\nstop g1 t true\nend g1\nexit\n",
+        Outcome::Exit,
+    ),
+    (
+        "timer t\nfunc main\nnew t 1ms\nrecv t\nstop t\nend\n",
+        "new g1 t 1000000\nclock 0 1000000\ntrecv g1 t 1000000 -\nstop g1 t false\nend g1\nexit\n",
+        Outcome::Exit,
+    ),
+    // no value of the setting that a reset ended
+    (
+        "timer t\nfunc main\nnew t 1ms\nsleep 5ms\nreset t 10ms\nrecv t\nend\n",
+        "new g1 t 1000000\nsleep g1 5000000\nclock 0 5000000\nwake g1\nreset g1 t true 15000000\n\
+         clock 0 15000000\ntrecv g1 t 15000000 -\nend g1\nexit\n",
+        Outcome::Exit,
+    ),
+    (
+        "timer t\nfunc main\nsleep 5ms\nnew t 9223372036854775807ns\nstop t\nend\n",
+        "sleep g1 5000000\nclock 0 5000000\nwake g1\nnew g1 t 9223372036854775807\nstop g1 t true\nend g1\nexit\n",
+        Outcome::Exit,
+    ),
+    // a timer that nobody can set again
+    (
+        "timer t\nfunc main\nnew t 1ms\nstop t\nrecv t\nend\n",
+        "new g1 t 1000000\nstop g1 t true\ndeadlock\n",
+        Outcome::Deadlock,
+    ),
+    // an AfterFunc timer that is set keeps the run from its deadlock until it fires
+    (
+        "timer t\nafterfunc f hit\nfunc main\nnew t 1h\nstop t\nnew f 2ms\nrecv t\nend\nfunc hit\nsay 5\nend\n",
+        "new g1 t 3600000000000\nstop g1 t true\nnew g1 f 2000000\nclock 0 2000000\nfire f g2\nsay g2 5\nend g2\ndeadlock\n",
+        Outcome::Deadlock,
+    ),
+    // a goroutine that waits at a timer which another one resets
+    (
+        "timer t\nfunc main\nnew t 10ms\ngo b\nrecv t\nend\nfunc b\nreset t 1ms\nend\n",
+        "new g1 t 10000000\ngo g1 g2 b\nreset g2 t true 1000000\nend g2\nclock 0 1000000\ntrecv g1 t 1000000 -\nend g1\nexit\n",
+        Outcome::Exit,
+    ),
+    // goroutines run in the order in which they were started
+    (
+        "func main\ngo a\ngo a\nsleep 1ms\nend\nfunc a\nsleep 0\nsay 1\nsleep 1ms\nsay 2\nend\n",
+        "go g1 g2 a\ngo g1 g3 a\nsleep g1 1000000\nsleep g2 -\nsay g2 1\nsleep g2 1000000\nsleep g3 -\nsay g3 1\n\
+         sleep g3 1000000\nclock 0 1000000\nwake g1\nend g1\nexit\n",
+        Outcome::Exit,
+    ),
+    (
+        "timer t\nfunc main\nstop t\nend\n",
+        "panic g1 unmade\npanic\n",
+        Outcome::Panic,
+    ),
+    (
+        "timer t\nfunc main\nnew t 1s\nnew t 1s\nend\n",
+        "new g1 t 1000000000\npanic g1 twice\npanic\n",
+        Outcome::Panic,
+    ),
+];
 
 #[test]
 fn scripts_run(rt: HostRuntime) -> Result<(), Fail> {
+    for (body, trace, outcome) in RUNS {
+        let script = format!(in rt.alloc(); "gotime script 1\n{body}")?;
+        let (status, written) = answer(rt.alloc(), SIM, script.as_str())?;
+        assert_eq!(rt; status, Status::Done(*outcome), "{body}");
+        assert_eq!(rt; written.as_slice(), trace.as_bytes(), "{body}");
+    }
+    Ok(())
+}
+
+#[test]
+fn durations_are_read(rt: HostRuntime) -> Result<(), Fail> {
     let table = [
+        ("1h2m3s4ms5us6ns", Some(3_723_004_005_006)),
+        ("9223372036854775807ns", Some(9_223_372_036_854_775_807_u64)),
+        ("9223372036854775808ns", None),
+        ("ms", None),
+        ("1m1", None),
+        ("1.5s", None),
+        ("00", None),
+    ];
+    for (word, time) in table {
+        let script = format!(in rt.alloc(); "gotime script 1\nfunc main\nsleep {word}\nend\n")?;
+        let (status, written) = answer(rt.alloc(), SIM, script.as_str())?;
+        let (wanted, trace) = match time {
+            Some(time) => {
+                let trace = format!(in rt.alloc();
+                    "sleep g1 {time}\nclock 0 {time}\nwake g1\nend g1\nexit\n"
+                )?;
+                (Status::Done(Outcome::Exit), trace)
+            }
+            None => (bad(3, Why::Number), String::new(rt.alloc())),
+        };
+        assert_eq!(rt; status, wanted, "{word}");
+        assert_eq!(rt; written.as_slice(), trace.as_bytes(), "{word}");
+    }
+    let script = "gotime script 1\nfunc main\nsleep 0\nend\n";
+    let (_, written) = answer(rt.alloc(), SIM, script)?;
+    assert_eq!(rt; written.as_slice(), "sleep g1 -\nend g1\nexit\n".as_bytes());
+    Ok(())
+}
+
+#[test]
+fn the_limit_ends_a_run(rt: HostRuntime) -> Result<(), Fail> {
+    let table = [
+        (9_999, SIM, "end g1\nexit\n", Outcome::Exit),
+        (10_000, SIM, "limit\n", Outcome::Limit),
+        (2, ["sim", "-l", "2"].as_slice(), "limit\n", Outcome::Limit),
         (
-            "gotime script 1\nfunc main\nsleep 5ms\nnow\nend\n",
-            "sleep g1 5000000\nclock 0 5000000\nwake g1\nnow g1 5000000\nend g1\nexit\n",
+            2,
+            ["sim", "-l", "03"].as_slice(),
+            "end g1\nexit\n",
+            Outcome::Exit,
         ),
-        ("gotime script 1\nfunc main\nend\n", "end g1\nexit\n"),
         (
-            "# two naps\r\ngotime\tscript 1\r\n func main\n\nsleep 0\nsleep 1ms\nsleep 02ms\nnow\nend",
-            "sleep g1 -\nsleep g1 1000000\nclock 0 1000000\nwake g1\nsleep g1 3000000\nclock 0 3000000\nwake g1\nnow g1 3000000\nend g1\nexit\n",
+            0,
+            ["sim", "-l", "1"].as_slice(),
+            "end g1\nexit\n",
+            Outcome::Exit,
         ),
         (
-            "gotime script 1\nfunc main\nsleep 9223372036854ms\nsleep 1ms\nsleep 1ms\nend\n",
-            "sleep g1 9223372036854000000\nclock 0 9223372036854000000\nwake g1\nsleep g1 9223372036854775807\nclock 0 9223372036854775807\nwake g1\nsleep g1 9223372036854775807\nwake g1\nend g1\nexit\n",
+            2,
+            ["sim", "-l", "200000"].as_slice(),
+            "end g1\nexit\n",
+            Outcome::Exit,
         ),
     ];
-    for (script, trace) in table {
-        let (status, written) = answer(rt.alloc(), &["sim"], script)?;
-        assert_eq!(rt; status, DONE, "{script}");
-        assert_eq!(rt; written.as_slice(), trace.as_bytes(), "{script}");
+    for (count, words, last, outcome) in table {
+        let mut script = String::from_str(rt.alloc(), "gotime script 1\nfunc main\n")?;
+        let mut trace = String::new(rt.alloc());
+        for _ in 0..count {
+            script.push_str("say 1\n")?;
+            trace.push_str("say g1 1\n")?;
+        }
+        script.push_str("end\n")?;
+        trace.push_str(last)?;
+        let (status, written) = answer(rt.alloc(), words, script.as_str())?;
+        assert_eq!(rt; status, Status::Done(outcome), "{count}");
+        assert_eq!(rt; written.as_slice(), trace.as_bytes(), "{count}");
     }
     Ok(())
 }
@@ -50,12 +185,17 @@ fn scripts_run(rt: HostRuntime) -> Result<(), Fail> {
 fn refusals_write_nothing(rt: HostRuntime) -> Result<(), Fail> {
     let good = "gotime script 1\nfunc main\nend\n";
     let table = [
-        (["sim"].as_slice(), "", bad(1, Why::Head)),
-        (["sim"].as_slice(), "gotime script 1\n", bad(1, Why::NoMain)),
+        (SIM, "", bad(1, Why::Head)),
+        (SIM, "gotime script 1\n", bad(1, Why::NoMain)),
         (
-            ["sim"].as_slice(),
+            SIM,
             "gotime script 1\nfunc main\nsleep 5ms\nnow\n",
             bad(4, Why::Missing),
+        ),
+        (
+            SIM,
+            "gotime script 1\nfunc main\nstop t\nend\n",
+            bad(3, Why::Name),
         ),
         ([].as_slice(), good, Status::Usage(WordFault::Command)),
         (
@@ -72,6 +212,36 @@ fn refusals_write_nothing(rt: HostRuntime) -> Result<(), Fail> {
             ["sim", "-p"].as_slice(),
             good,
             Status::Usage(WordFault::Form),
+        ),
+        (
+            ["sim", "-l"].as_slice(),
+            good,
+            Status::Usage(WordFault::Form),
+        ),
+        (
+            ["sim", "-l", "-1"].as_slice(),
+            good,
+            Status::Usage(WordFault::Form),
+        ),
+        (
+            ["sim", "-l", "1", "1"].as_slice(),
+            good,
+            Status::Usage(WordFault::Form),
+        ),
+        (
+            ["sim", "-l", "0"].as_slice(),
+            good,
+            Status::Usage(WordFault::Number),
+        ),
+        (
+            ["sim", "-l", "200001"].as_slice(),
+            good,
+            Status::Usage(WordFault::Number),
+        ),
+        (
+            ["sim", "-l", "-"].as_slice(),
+            good,
+            Status::Usage(WordFault::Number),
         ),
     ];
     for (words, input, want) in table {

@@ -1,0 +1,35 @@
+-- A book of a complete run has a complete history, which can be printed.
+use Rattle.std.proofs.Common.{◌≡◌, Some, sym, ap, ◌∙◌}
+use Rattle.gt_model.specs.declared.script.Script.{Script}
+use Rattle.gt_model.specs.declared.entry.Limits.{Limits}
+use Rattle.gt_model.specs.declared.entry.Outcome.{Outcome}
+use Rattle.gt_model.specs.declared.state.Ending.{Ending}
+use Rattle.gt_model.specs.State.{State}
+use Rattle.gt_model.specs.After.{first_state}
+use Rattle.gt_model.specs.History.{AllLegal, AllJump, state_after}
+use Rattle.gt_model.specs.Named.{AllNamed}
+use Rattle.gt_model.proofs.Named.{AllNamed-legal}
+use Rattle.gt_book.specs.View.{BookView, IsLawful, outcome_in, outcome_of}
+use Rattle.gt_top.specs.Answer.{IsRun}
+use Rattle.gt_top.specs.Run.{IsComplete}
+
+ending-of : (e : Ending) (outcome : Outcome) → outcome_in e ≡ Some outcome → e ≡ Ending.Finished outcome
+ending-of (Ending.Finished o) outcome e = cc
+ending-of Ending.Running outcome e = cc
+ending-of Ending.MainEnded outcome e = cc
+ending-of Ending.Panicked outcome e = cc
+
+pub complete-IsRun : (script : Script) (limits : Limits) (b : BookView) (outcome : Outcome)
+    → IsComplete script limits b → IsLawful b → outcome_of b ≡ Some outcome → IsRun script limits b.history outcome
+complete-IsRun script limits b outcome run lawful is =
+    let legal : AllLegal script limits (first_state script) b.history = rw (sym run.of_script, sym run.within) lawful.legal in
+    let jumps : AllJump script 0 (first_state script) b.history = rw (sym run.of_script) run.jumps in
+    let reached : state_after script (first_state script) b.history ≡ b.state = rw (sym run.of_script) lawful.reached in
+    record {
+      complete = record { legal = legal; over = ap (λ (s : State). s.ending) reached ∙ ending-of b.state.ending outcome is };
+      jumps = jumps;
+    }
+
+pub complete-AllNamed : (script : Script) (limits : Limits) (b : BookView) → IsComplete script limits b → IsLawful b → AllNamed script b.history
+complete-AllNamed script limits b run lawful =
+    rw (sym run.of_script) (AllNamed-legal b.script b.limits (first_state b.script) b.history lawful.good lawful.legal)

@@ -1,0 +1,163 @@
+-- One call of a goroutine, and what happens where nobody runs, keep a run.
+use Rattle.std.proofs.Common.{◌≡◌, ℕ, zero, suc, ◌+◌, ◌<◌, [], ◌∷◌, ◌++◌, refl, sym, ap, subst, ◌∙◌, arith, Option, None, Some, MatchOption, Bool, false, length, length-append, inl, inr}
+use Rattle.gt_model.specs.declared.entry.Entry.{Entry}
+use Rattle.gt_model.specs.declared.entry.Outcome.{Outcome}
+use Rattle.gt_model.specs.After.{first_state}
+use Rattle.gt_model.specs.History.{ClockJumps}
+use Rattle.gt_book.specs.declared.answers.Did.{Did}
+use Rattle.gt_book.specs.declared.answers.TimerOp.{TimerOp}
+use Rattle.gt_book.specs.declared.step.Step.{Step}
+use Rattle.gt_book.specs.Schedule.{parked_at}
+use Rattle.gt_model.specs.declared.script.Script.{Script}
+use Rattle.gt_model.specs.declared.script.Instr.{Instr}
+use Rattle.gt_model.specs.State.{State, clock_of}
+use Rattle.gt_model.specs.Panics.{fault}
+use Rattle.gt_book.specs.Steps.{step_of, step_of_instr, step_or_panic, plainly, Steps, Does, entry_of, is_gone, Commits}
+use Rattle.gt_book.specs.declared.answers.Op.{Op}
+use Rattle.gt_book.specs.declared.answers.Commit.{Commit}
+use Rattle.gt_book.proofs.Going.{IsStep, step-is}
+use Rattle.gt_book.specs.View.{BookView, Enters, IsLawful, outcome_of, with_entries, with_schedule}
+use Rattle.gt_book.proofs.Passing.{jumps-append, enters-script, enters-limits, enters-jumps, enters-longer, enters-hands, parked_at-leaves_hand, parked_at-hands, parked_at-queued_count}
+use Rattle.gt_top.specs.Run.{HandsFree, IsAlone, Passes, Goes, Moves}
+
+pub passes-enters : (old : BookView) (e : Entry) (new : BookView) → IsLawful old → Enters old e new → ClockJumps old.script 0 old.state e → HandsFree old → Passes old new
+passes-enters old e new lawful enters clock free = record {
+  script = enters-script old e new enters;
+  limits = enters-limits old e new enters;
+  jumps = enters-jumps old e new enters lawful.reached clock;
+  hands = λ none g h. free g (enters-hands old e new g enters h);
+  goes = inl (enters-longer old e new enters);
+}
+
+pub passes-deadlock : (old new : BookView) → new ≡ with_entries old (Entry.Finish Outcome.Deadlock ∷ []) → HandsFree old → Passes old new
+passes-deadlock old new is free = subst (Passes old) (sym is) (record {
+  script = refl;
+  limits = refl;
+  jumps = λ jumps. jumps-append old.script 0 (first_state old.script) old.history (Entry.Finish Outcome.Deadlock ∷ []) jumps (tt, tt);
+  hands = λ none g h. free g h;
+  goes = inl (let longer : length (old.history ++ Entry.Finish Outcome.Deadlock ∷ []) ≡ length old.history + 1 = length-append old.history (Entry.Finish Outcome.Deadlock ∷ []) in omega arith);
+})
+
+pub moves-enters : (old : BookView) (e : Entry) (new : BookView) → IsLawful old → Enters old e new → ClockJumps old.script 0 old.state e → HandsFree old → Moves old new
+moves-enters old e new lawful enters clock free = record { passes = passes-enters old e new lawful enters clock free; longer = enters-longer old e new enters }
+
+pub moves-deadlock : (old new : BookView) → new ≡ with_entries old (Entry.Finish Outcome.Deadlock ∷ []) → HandsFree old → Moves old new
+moves-deadlock old new is free = record {
+  passes = passes-deadlock old new is free;
+  longer = subst (λ (v : BookView). length old.history < length v.history) (sym is)
+      (let longer : length (old.history ++ Entry.Finish Outcome.Deadlock ∷ []) ≡ length old.history + 1 = length-append old.history (Entry.Finish Outcome.Deadlock ∷ []) in omega arith);
+}
+
+pub goes-enters : (old : BookView) (e : Entry) (new : BookView) (g : ℕ) → IsLawful old → Enters old e new → ClockJumps old.script 0 old.state e → IsAlone old g → Goes g old new
+goes-enters old e new g lawful enters clock alone = record {
+  script = enters-script old e new enters;
+  limits = enters-limits old e new enters;
+  jumps = enters-jumps old e new enters lawful.reached clock;
+  hands = λ h is. alone.alone h (enters-hands old e new h enters is);
+  goes = inl (enters-longer old e new enters);
+}
+
+pub goes-waits : (old new : BookView) (g t : ℕ) → new ≡ with_schedule old (parked_at old.schedule g t) → IsAlone old g → Goes g old new
+goes-waits old new g t is alone = subst (Goes g old) (sym is) (record {
+  script = refl;
+  limits = refl;
+  jumps = λ jumps. jumps;
+  hands = λ h q. alone.alone h (parked_at-hands old.schedule g t h q);
+  goes = inr (refl, parked_at-queued_count old.schedule g t alone.in_hand, parked_at-leaves_hand old.schedule g t alone.in_hand);
+})
+
+-- an answer after an entry is none of a timer
+entered-no_timer : (o : Option Outcome) (op : TimerOp) → MatchOption o (Did.Timer op ≡ Did.Entered) (λ outcome. Did.Timer op ≡ Did.Over outcome) → ⊥
+entered-no_timer None op h = cc
+entered-no_timer (Some outcome) op h = cc
+
+-- a step whose answer is a timer's operation needs it, and changed nothing
+pub record NeedsOnly (old : BookView) (g : ℕ) (op : TimerOp) (new : BookView) : Type 0 where
+  pub needs : step_of old.script old.state g ≡ Some (Step.Needs op)
+  pub same : new ≡ old
+
+does-timer : (old : BookView) (g : ℕ) (step : Step) (new : BookView) (op : TimerOp) → step_of old.script old.state g ≡ Some step → Does old g step new (Did.Timer op) → NeedsOnly old g op new
+does-timer old g (Step.Makes e) new op is h = absurd (entered-no_timer (outcome_of new) op h.1)
+does-timer old g (Step.Waits t) new op is h = cc h.1
+does-timer old g (Step.Needs wanted) new op is h =
+    let answer : Did.Timer op ≡ Did.Timer wanted = h.1 in
+    let same : op ≡ wanted = cc in
+    record { needs = is ∙ ap (λ w. Some (Step.Needs w)) (sym same); same = h.0 }
+
+pub steps-timer : (old : BookView) (g : ℕ) (new : BookView) (op : TimerOp) → outcome_of old ≡ None → Steps old g new (Did.Timer op) → NeedsOnly old g op new
+steps-timer old g new op none h =
+    let does : MatchOption (step_of old.script old.state g) ⊥ (λ step. Does old g step new (Did.Timer op)) =
+    subst (λ (o : Option Outcome). MatchOption o (MatchOption (step_of old.script old.state g) ⊥ (λ step. Does old g step new (Did.Timer op))) (λ outcome. (Did.Timer op ≡ Did.Over outcome) × (new ≡ old))) none h in
+    elim (step_of old.script old.state g) as (λ o. step_of old.script old.state g ≡ o → MatchOption o ⊥ (λ step. Does old g step new (Did.Timer op)) → NeedsOnly old g op new) [
+      | None ↦ λ q k. absurd k
+      | Some step ↦ λ q k. does-timer old g step new op q k
+    ] refl does
+
+-- no step moves a clock
+calm-no_clock : (script : Script) (s : State) (g : ℕ) (i : Instr) (e : Entry) → step_of_instr s g i ≡ Step.Makes e → ClockJumps script 0 s e
+calm-no_clock script s g (Instr.Say n) e h = let is : Entry.Say g n ≡ e = cc in subst (ClockJumps script 0 s) is tt
+calm-no_clock script s g Instr.Now e h = let is : Entry.Now g (clock_of s g) ≡ e = cc in subst (ClockJumps script 0 s) is tt
+calm-no_clock script s g (Instr.Sleep zero) e h = let is : Entry.Sleep g None ≡ e = cc in subst (ClockJumps script 0 s) is tt
+calm-no_clock script s g (Instr.Sleep (suc d)) e h = cc
+calm-no_clock script s g (Instr.Go f) e h = let is : Entry.Go g (length s.goroutines + 1) f ≡ e = cc in subst (ClockJumps script 0 s) is tt
+calm-no_clock script s g (Instr.New t d) e h = cc
+calm-no_clock script s g (Instr.Stop t) e h = cc
+calm-no_clock script s g (Instr.Reset t d) e h = cc
+calm-no_clock script s g (Instr.Recv o) e h = cc
+calm-no_clock script s g Instr.Finish e h = let is : Entry.End g ≡ e = cc in subst (ClockJumps script 0 s) is tt
+
+makes-no_clock : (old : BookView) (g : ℕ) (e : Entry) → step_of old.script old.state g ≡ Some (Step.Makes e) → ClockJumps old.script 0 old.state e
+makes-no_clock old g e h =
+    let step : IsStep old.script old.state g (Step.Makes e) = step-is old.script old.state g (Step.Makes e) h in
+    elim (fault old.script old.state step.instr) as (λ o. step_or_panic old.state g step.instr o ≡ Step.Makes e → ClockJumps old.script 0 old.state e) [
+      | None ↦ λ k. calm-no_clock old.script old.state g step.instr e k
+      | Some reason ↦ λ k. let is : Entry.Panic (plainly g) reason ≡ e = cc in subst (ClockJumps old.script 0 old.state) is tt
+    ] step.is
+
+does-goes : (old : BookView) (g : ℕ) (step : Step) (new : BookView) (did : Did) → IsLawful old → IsAlone old g → step_of old.script old.state g ≡ Some step
+    → Does old g step new did → ((x : TimerOp) → did ≡ Did.Timer x → ⊥) → Goes g old new
+does-goes old g (Step.Makes e) new did lawful alone is h other = goes-enters old e new g lawful h.0 (makes-no_clock old g e is) alone
+does-goes old g (Step.Waits t) new did lawful alone is h other = goes-waits old new g t h.0 alone
+does-goes old g (Step.Needs op) new did lawful alone is h other = absurd (other op h.1)
+
+pub steps-goes : (old : BookView) (g : ℕ) (new : BookView) (did : Did) → IsLawful old → IsAlone old g → outcome_of old ≡ None → Steps old g new did
+    → ((x : TimerOp) → did ≡ Did.Timer x → ⊥) → Goes g old new
+steps-goes old g new did lawful alone none h other =
+    let does : MatchOption (step_of old.script old.state g) ⊥ (λ step. Does old g step new did) =
+    subst (λ (o : Option Outcome). MatchOption o (MatchOption (step_of old.script old.state g) ⊥ (λ step. Does old g step new did)) (λ outcome. (did ≡ Did.Over outcome) × (new ≡ old))) none h in
+    elim (step_of old.script old.state g) as (λ o. step_of old.script old.state g ≡ o → MatchOption o ⊥ (λ step. Does old g step new did) → Goes g old new) [
+      | None ↦ λ q k. absurd k
+      | Some step ↦ λ q k. does-goes old g step new did lawful alone q k other
+    ] refl does
+
+-- no operation moves a clock
+op-no_clock : (script : Script) (s : State) (op : Op) → ClockJumps script 0 s (entry_of s op)
+op-no_clock script s (Op.New g t due period) = tt
+op-no_clock script s (Op.Stop g t was) = tt
+op-no_clock script s (Op.Reset g t was due period) = tt
+op-no_clock script s (Op.TRecv p t due next) = tt
+op-no_clock script s (Op.Fire t) = tt
+op-no_clock script s (Op.Sleep g until) = tt
+op-no_clock script s (Op.Wake g) = tt
+
+commits-enters : (old : BookView) (op : Op) (new : BookView) (did : Commit) → is_gone old op ≡ false → Commits old op (is_gone old op) new did → Enters old (entry_of old.state op) new
+commits-enters old op new did here h =
+    let entered : Commits old op false new did = subst (λ (gone : Bool). Commits old op gone new did) here h in
+    entered.0
+
+pub commits-passes : (old : BookView) (op : Op) (new : BookView) (did : Commit) → IsLawful old → HandsFree old → is_gone old op ≡ false
+    → Commits old op (is_gone old op) new did → Passes old new
+commits-passes old op new did lawful free here h =
+    passes-enters old (entry_of old.state op) new lawful (commits-enters old op new did here h) (op-no_clock old.script old.state op) free
+
+pub commits-moves : (old : BookView) (op : Op) (new : BookView) (did : Commit) → IsLawful old → HandsFree old → is_gone old op ≡ false
+    → Commits old op (is_gone old op) new did → Moves old new
+commits-moves old op new did lawful free here h =
+    moves-enters old (entry_of old.state op) new lawful (commits-enters old op new did here h) (op-no_clock old.script old.state op) free
+
+pub commits-goes : (old mid new : BookView) (g : ℕ) (op : Op) (did : Commit) → IsLawful old → IsAlone old g → mid ≡ old → is_gone mid op ≡ false
+    → Commits mid op (is_gone mid op) new did → Goes g old new
+commits-goes old mid new g op did lawful alone same here h =
+    let gone : is_gone old op ≡ false = subst (λ (v : BookView). is_gone v op ≡ false) same here in
+    let commits : Commits old op (is_gone old op) new did = subst (λ (v : BookView). Commits v op (is_gone v op) new did) same h in
+    goes-enters old (entry_of old.state op) new g lawful (commits-enters old op new did gone commits) (op-no_clock old.script old.state op) alone

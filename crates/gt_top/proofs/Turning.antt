@@ -1,0 +1,58 @@
+-- A turn leaves less of the run.
+use Rattle.std.proofs.Common.{◌≡◌, ℕ, ◌+◌, ◌-◌, ◌*◌, ◌<◌, ◌≤◌, add-one, refl, sym, ap, subst, ◌∙◌, arith, Some, length, inl, inr}
+use Rattle.std.proofs.Math.Nat.{mul-le-mul_right, suc-mul}
+use Rattle.std.proofs.lemmas.Bool.{cases_eq}
+use Rattle.gt_book.specs.declared.answers.Pick.{Pick}
+use Rattle.gt_book.specs.declared.status.RunStatus.{RunStatus}
+use Rattle.gt_book.specs.Schedule.{status_of, taken}
+use Rattle.gt_book.specs.Steps.{Takes}
+use Rattle.gt_book.specs.View.{BookView, IsLawful, with_schedule, queued_count}
+use Rattle.gt_book.proofs.Fitting.{first-queued}
+use Rattle.gt_book.proofs.Passing.{taken-in_hand, taken-hands, taken-queued_count, queued_count-few}
+use Rattle.gt_top.specs.Run.{HandsFree, IsAlone, Passes, Moves, run_left}
+
+taken-queued : (old new : BookView) (g : ℕ) → IsLawful old → Takes old (Pick.Run g) new → status_of old.schedule g ≡ Some RunStatus.Queued
+taken-queued old new g lawful takes = first-queued old.script old.state old.schedule g lawful.fits takes.0
+
+pub alone-taken : (old new : BookView) (g : ℕ) → IsLawful old → HandsFree old → Takes old (Pick.Run g) new → IsAlone new g
+alone-taken old new g lawful free takes =
+    subst (λ (v : BookView). IsAlone v g) (sym takes.1) (record {
+      in_hand = taken-in_hand old.schedule g (taken-queued old new g lawful takes);
+      alone = λ h is. elim (cases_eq h g) [ inl e ↦ e | inr n ↦ absurd (free h (taken-hands old.schedule g h is n)) ];
+    })
+
+-- fewer rounds are left, whatever is queued
+rounds : (a b k p q : ℕ) → b < a → q < k → b * k + q < a * k + p
+rounds a b k p q h j =
+    let more : (b + 1) * k ≤ a * k = mul-le-mul_right k (omega arith) in
+    let split : (b + 1) * k ≡ b * k + k = (rw (add-one) (suc-mul b k)) in
+    omega arith
+
+longer-less : (old new : BookView) → new.limits ≡ old.limits → length old.history < length new.history → length new.history ≤ new.limits.entries + 1
+    → length new.schedule.statuses ≤ new.limits.entries + 1 → run_left new < run_left old
+longer-less old new limits longer few statuses =
+    let same : new.limits.entries ≡ old.limits.entries = ap (λ l. l.entries) limits in
+    let queued : queued_count new.schedule ≤ length new.schedule.statuses = queued_count-few new.schedule in
+    subst (λ (n : ℕ). (n + 1 - length new.history) * (n + 3) + queued_count new.schedule < run_left old) (sym same)
+    (rounds (old.limits.entries + 1 - length old.history) (old.limits.entries + 1 - length new.history) (old.limits.entries + 3) (queued_count old.schedule) (queued_count new.schedule)
+    (omega arith) (omega arith))
+
+pub less-moved : (old mid new : BookView) (running : ℕ) → Takes old (Pick.Nothing running) mid → Moves mid new → length new.history ≤ new.limits.entries + 1
+    → length new.schedule.statuses ≤ new.limits.entries + 1 → run_left new < run_left old
+less-moved old mid new running takes moves few statuses =
+    let here : Moves old new = subst (λ (v : BookView). Moves v new) takes.2 moves in
+    longer-less old new here.passes.limits here.longer few statuses
+
+pub less-run : (old mid new : BookView) (g : ℕ) → IsLawful old → Takes old (Pick.Run g) mid → Passes mid new → length new.history ≤ new.limits.entries + 1
+    → length new.schedule.statuses ≤ new.limits.entries + 1 → run_left new < run_left old
+less-run old mid new g lawful takes passes few statuses =
+    let here : Passes (with_schedule old (taken old.schedule g)) new = subst (λ (v : BookView). Passes v new) takes.1 passes in
+    let one : queued_count (taken old.schedule g) + 1 ≡ queued_count old.schedule = taken-queued_count old.schedule g (taken-queued old mid g lawful takes) in
+    elim here.goes [
+      | inl longer ↦ longer-less old new here.limits longer few statuses
+      | inr same ↦
+          let fewer : queued_count new.schedule + 1 ≡ queued_count old.schedule = ap (λ n. n + 1) same.1 ∙ one in
+          let entries : new.limits.entries ≡ old.limits.entries = ap (λ l. l.entries) here.limits in
+          let times : (new.limits.entries + 1 - length new.history) * (new.limits.entries + 3) ≡ (old.limits.entries + 1 - length old.history) * (old.limits.entries + 3) = rw (entries, same.0) refl in
+          omega arith
+    ]
