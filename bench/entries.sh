@@ -1,5 +1,5 @@
 #!/usr/bin/env bash
-# Instructions per entry of `gotime sim`, counted by valgrind, for scripts of 100 and of 1,000 instructions. It is run by hand and judges nothing.
+# Instructions per entry of `gotime sim`, counted by valgrind, for runs of 1,000 and of 100,000 entries. What a run without instructions takes under the same limit is taken off. It is run by hand and judges nothing.
 top=$(cd "$(dirname "${BASH_SOURCE[0]}")/.." && pwd) || exit 1
 if ! command -v valgrind >/dev/null; then
     echo "bench: valgrind is missing, so nothing was counted"
@@ -9,28 +9,40 @@ fi
 work=$(mktemp -d) || exit 1
 trap 'rm -rf "$work"' EXIT
 
-# script WORDS COUNT: a script whose main does this instruction so many times
-script() {
-    echo "gotime script 1"
-    echo "func main"
-    for _ in $(seq "$2"); do echo "$1"; done
-    echo "end"
+# repeated WORDS COUNT: a line with these words, so many times
+repeated() {
+    yes "$1" | head -n "$2"
 }
 
-# instructions FILE: how many instructions the program takes on a script
+# script KIND COUNT: a script whose run makes about so many entries
+script() {
+    echo "gotime script 1"
+    case $1 in
+    nothing) printf 'func main\nend\n' ;;
+    say) echo "func main" && repeated "say 1" "$2" && echo "end" ;;
+    sleep) echo "func main" && repeated "sleep 1ms" "$(($2 / 3))" && echo "end" ;;
+    reset) printf 'timer t\nfunc main\nnew t 1ms\n' && repeated "reset t 1ms" "$2" && echo "end" ;;
+    receive) printf 'timer t\nfunc main\nnew t 1ms\n' && repeated $'recv t\nreset t 1ms' "$(($2 / 3 * 2))" && echo "end" ;;
+    go) printf 'timer t\nfunc main\nnew t 1ms\nstop t\ngo a\nrecv t\nend\nfunc a\ngo a\nend\n' ;;
+    esac
+}
+
+# instructions LIMIT: how many instructions the program takes on the script
 instructions() {
-    valgrind --tool=callgrind --callgrind-out-file="$work/out" "$top/crates/gt_cli/out/gt_cli" sim <"$1" 2>"$work/log" >"$work/trace"
+    valgrind --tool=callgrind --callgrind-out-file="$work/out" "$top/crates/gt_cli/out/gt_cli" sim -l "$1" <"$work/script" 2>"$work/log" >"$work/trace"
     sed -n 's/.*Collected : \([0-9]*\).*/\1/p' "$work/log"
 }
 
-script now 0 >"$work/none"
-base=$(instructions "$work/none")
-echo "a script without instructions: $base instructions"
-for word in "now" "sleep 1ms" "sleep 0"; do
-    for count in 100 1000; do
-        script "$word" "$count" >"$work/script"
-        total=$(instructions "$work/script")
+# A chain of goroutines goes on until its limit, the others to their end.
+for kind in say sleep reset receive go; do
+    for count in 1000 99000; do
+        limit=200000
+        if [ "$kind" = go ]; then limit=$count; fi
+        script nothing 0 >"$work/script"
+        base=$(instructions "$limit")
+        script "$kind" "$count" >"$work/script"
+        total=$(instructions "$limit")
         entries=$(wc -l <"$work/trace")
-        echo "$count times '$word': $total instructions, $entries entries, $(((total - base) / (entries - 2))) per entry"
+        echo "$kind: $entries lines, $(((total - base) / entries)) instructions per line; a run without instructions: $base"
     done
 done
