@@ -12,3 +12,4 @@ pub mod Counting
 pub mod Passing
 pub mod Committing
 pub mod Idling
+pub mod Setting

@@ -23,6 +23,9 @@ use std::alloc::Global;
 /// The number of the program's world, the only one so far.
 pub const PROGRAM: u32 = 0;
 
+/// The number of the goroutine that runs `main`.
+const MAIN: u32 = 1;
+
 /// The state of the machine of one world.
 #[derive(Drop)]
 pub struct Machine {
@@ -163,11 +166,9 @@ impl Machine {
     {
         self.entries += 1;
         put_mode(&mut self.goroutines, g, Mode::Ended);
-        self.ending = if g == 1 {
-            Ending::MainEnded
-        } else {
-            self.ending
-        };
+        if g == MAIN {
+            self.ending = Ending::MainEnded;
+        }
     }
 
     /// Goroutine g falls asleep until a time.

@@ -157,11 +157,13 @@ fn a_book_begins_with_nothing_entered(rt: HostRuntime) -> Result<(), Fail> {
     assert_eq!(rt; book.due_of(0), None);
     assert_eq!(rt; book.script().main, script.main);
     let decls = book.script().decls.as_slice();
+    assert_eq!(rt; decls.len(), 3);
     for (is, was) in decls.iter().zip(script.decls.as_slice()) {
         assert_eq!(rt; is.name.as_slice(), was.name.as_slice());
         assert_eq!(rt; is.what, was.what);
     }
     let funcs = book.script().funcs.as_slice();
+    assert_eq!(rt; funcs.len(), 2);
     for (is, was) in funcs.iter().zip(script.funcs.as_slice()) {
         assert_eq!(rt; is.code.as_slice(), was.code.as_slice());
     }

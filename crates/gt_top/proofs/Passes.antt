@@ -1,5 +1,5 @@
 -- One call of a goroutine, and what happens where nobody runs, keep a run.
-use Rattle.std.proofs.Common.{◌≡◌, ℕ, zero, suc, ◌+◌, ◌<◌, [], ◌∷◌, ◌++◌, refl, sym, ap, subst, ◌∙◌, arith, Option, None, Some, MatchOption, Bool, false, length, length-append, inl, inr}
+use Rattle.std.proofs.Common.{◌≡◌, ℕ, zero, suc, ◌+◌, ◌<◌, [], ◌∷◌, ◌++◌, refl, sym, subst, arith, Option, None, Some, MatchOption, Bool, false, length, length-append, inl, inr}
 use Rattle.gt_model.specs.declared.entry.Entry.{Entry}
 use Rattle.gt_model.specs.declared.entry.Outcome.{Outcome}
 use Rattle.gt_model.specs.After.{first_state}
@@ -65,33 +65,6 @@ goes-waits old new g t is alone = subst (Goes g old) (sym is) (record {
   hands = λ h q. alone.alone h (parked_at-hands old.schedule g t h q);
   goes = inr (refl, parked_at-queued_count old.schedule g t alone.in_hand, parked_at-leaves_hand old.schedule g t alone.in_hand);
 })
-
--- an answer after an entry is none of a timer
-entered-no_timer : (o : Option Outcome) (op : TimerOp) → MatchOption o (Did.Timer op ≡ Did.Entered) (λ outcome. Did.Timer op ≡ Did.Over outcome) → ⊥
-entered-no_timer None op h = cc
-entered-no_timer (Some outcome) op h = cc
-
--- a step whose answer is a timer's operation needs it, and changed nothing
-pub record NeedsOnly (old : BookView) (g : ℕ) (op : TimerOp) (new : BookView) : Type 0 where
-  pub needs : step_of old.script old.state g ≡ Some (Step.Needs op)
-  pub same : new ≡ old
-
-does-timer : (old : BookView) (g : ℕ) (step : Step) (new : BookView) (op : TimerOp) → step_of old.script old.state g ≡ Some step → Does old g step new (Did.Timer op) → NeedsOnly old g op new
-does-timer old g (Step.Makes e) new op is h = absurd (entered-no_timer (outcome_of new) op h.1)
-does-timer old g (Step.Waits t) new op is h = cc h.1
-does-timer old g (Step.Needs wanted) new op is h =
-    let answer : Did.Timer op ≡ Did.Timer wanted = h.1 in
-    let same : op ≡ wanted = cc in
-    record { needs = is ∙ ap (λ w. Some (Step.Needs w)) (sym same); same = h.0 }
-
-pub steps-timer : (old : BookView) (g : ℕ) (new : BookView) (op : TimerOp) → outcome_of old ≡ None → Steps old g new (Did.Timer op) → NeedsOnly old g op new
-steps-timer old g new op none h =
-    let does : MatchOption (step_of old.script old.state g) ⊥ (λ step. Does old g step new (Did.Timer op)) =
-    subst (λ (o : Option Outcome). MatchOption o (MatchOption (step_of old.script old.state g) ⊥ (λ step. Does old g step new (Did.Timer op))) (λ outcome. (Did.Timer op ≡ Did.Over outcome) × (new ≡ old))) none h in
-    elim (step_of old.script old.state g) as (λ o. step_of old.script old.state g ≡ o → MatchOption o ⊥ (λ step. Does old g step new (Did.Timer op)) → NeedsOnly old g op new) [
-      | None ↦ λ q k. absurd k
-      | Some step ↦ λ q k. does-timer old g step new op q k
-    ] refl does
 
 -- no step moves a clock
 calm-no_clock : (script : Script) (s : State) (g : ℕ) (i : Instr) (e : Entry) → step_of_instr s g i ≡ Step.Makes e → ClockJumps script 0 s e

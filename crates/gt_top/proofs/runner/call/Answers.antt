@@ -2,7 +2,8 @@ use Rattle.std.proofs.Common.{◌≡◌, sym, subst, Some}
 use Rattle.gt_book.specs.declared.step.Step.{Step}
 use Rattle.gt_book.specs.Steps.{step_of}
 use Rattle.gt_book.specs.View.{BookView}
-use Rattle.gt_top.proofs.Passes.{NeedsOnly, steps-timer, steps-goes, commits-goes}
+use Rattle.gt_book.proofs.Setting.{NeedsOnly, steps-timer}
+use Rattle.gt_top.proofs.Passes.{steps-goes, commits-goes}
 use Rattle.gt_top.proofs.runner.call.Goals as goal
 
 pub operation-op-requires-clause-wanted : goal.operation-op-requires-clause-wanted

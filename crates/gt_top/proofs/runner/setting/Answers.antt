@@ -2,7 +2,7 @@ use Rattle.std.proofs.Common.{◌≡◌, ◌∙◌, ap, Some}
 use Rattle.gt_model.specs.declared.script.Instr.{Instr}
 use Rattle.gt_book.specs.Steps.{placed_at}
 use Rattle.gt_book.proofs.Committing.{may-new, may-reset}
-use Rattle.gt_top.proofs.Setting.{new-placed, reset-placed}
+use Rattle.gt_book.proofs.Setting.{new-placed, reset-placed}
 use Rattle.gt_top.proofs.runner.setting.Goals as goal
 
 pub due_after-requires : goal.due_after-requires
