@@ -1,14 +1,16 @@
 -- A book of a complete run has a complete history, which can be printed.
-use Rattle.std.proofs.Common.{◌≡◌, Some, sym, ap, ◌∙◌}
+use Rattle.std.proofs.Common.{◌≡◌, Some, sym, ap, subst, ◌∙◌}
 use Rattle.gt_model.specs.declared.script.Script.{Script}
 use Rattle.gt_model.specs.declared.entry.Limits.{Limits}
 use Rattle.gt_model.specs.declared.entry.Outcome.{Outcome}
 use Rattle.gt_model.specs.declared.state.Ending.{Ending}
+use Rattle.gt_model.specs.Good.{IsGood}
 use Rattle.gt_model.specs.State.{State}
 use Rattle.gt_model.specs.After.{first_state}
-use Rattle.gt_model.specs.History.{AllLegal, AllJump, state_after}
+use Rattle.gt_model.specs.History.{History, AllLegal, AllJump, state_after}
 use Rattle.gt_model.specs.Named.{AllNamed}
 use Rattle.gt_model.proofs.Named.{AllNamed-legal}
+use Rattle.gt_laws.proofs.Laws.{each-in_order, each-in_time, each-fresh}
 use Rattle.gt_book.specs.View.{BookView, IsLawful, outcome_in, outcome_of}
 use Rattle.gt_top.specs.Answer.{IsRun}
 use Rattle.gt_top.specs.Run.{IsComplete}
@@ -25,9 +27,15 @@ complete-IsRun script limits b outcome run lawful is =
     let legal : AllLegal script limits (first_state script) b.history = rw (sym run.of_script, sym run.within) lawful.legal in
     let jumps : AllJump script 0 (first_state script) b.history = rw (sym run.of_script) run.jumps in
     let reached : state_after script (first_state script) b.history ≡ b.state = rw (sym run.of_script) lawful.reached in
+    let good : IsGood script = subst IsGood run.of_script lawful.good in
+    let complete : History script limits b.history outcome =
+    record { legal = legal; over = ap (λ (s : State). s.ending) reached ∙ ending-of b.state.ending outcome is } in
     record {
-      complete = record { legal = legal; over = ap (λ (s : State). s.ending) reached ∙ ending-of b.state.ending outcome is };
+      complete = complete;
       jumps = jumps;
+      in_order = each-in_order script limits b.history outcome good complete;
+      in_time = each-in_time script limits b.history outcome good complete;
+      fresh = each-fresh script limits b.history outcome good complete;
     }
 
 pub complete-AllNamed : (script : Script) (limits : Limits) (b : BookView) → IsComplete script limits b → IsLawful b → AllNamed script b.history

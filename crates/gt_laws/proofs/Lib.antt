@@ -1,0 +1,5 @@
+pub mod Places
+pub mod Timers
+pub mod Sleeps
+pub mod Calls
+pub mod Laws

@@ -1,0 +1,38 @@
+-- Lists of entries that break a law.
+use Rattle.std.specs.Prelude.{List, [], ◌∷◌, true, codes}
+use Rattle.std.specs.declared.option.Option.TheVariants.{None, Some}
+use Rattle.gt_model.specs.declared.script.Script.{Script}
+use Rattle.gt_model.specs.declared.script.Instr.{Instr}
+use Rattle.gt_model.specs.declared.script.What.{What}
+use Rattle.gt_model.specs.declared.entry.Entry.{Entry}
+
+-- func main / say 1 / say 2 / end
+abbrev pub two_calls : Script
+two_calls = record {
+  decls = (record { name = codes "main"; what = What.Function }) ∷ [];
+  funcs = (record { decl = 0; code = Instr.Say 1 ∷ Instr.Say 2 ∷ Instr.Finish ∷ [] }) ∷ [];
+  main = 0;
+}
+
+-- the second call before the first; the first one twice; the second one left out
+abbrev pub swapped : List Entry
+swapped = Entry.Say 1 2 ∷ Entry.Say 1 1 ∷ Entry.End 1 ∷ []
+
+abbrev pub twice : List Entry
+twice = Entry.Say 1 1 ∷ Entry.Say 1 1 ∷ Entry.End 1 ∷ []
+
+abbrev pub left_out : List Entry
+left_out = Entry.Say 1 1 ∷ Entry.End 1 ∷ []
+
+-- a sleep that ends too early
+abbrev pub early : List Entry
+early = Entry.Sleep 1 (Some 5000000) ∷ Entry.Clock 0 4999999 ∷ Entry.Wake 1 ∷ []
+
+-- a receive of the value of a setting that a reset ended
+abbrev pub stale : List Entry
+stale =
+    Entry.New 1 0 1
+    ∷ Entry.Reset 1 0 (Some true) 15
+    ∷ Entry.Clock 0 15
+    ∷ Entry.TRecv (record { g = 1; case_no = 0 }) 0 1 None
+    ∷ []

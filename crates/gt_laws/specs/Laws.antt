@@ -1,0 +1,42 @@
+-- What each complete history keeps, read from its entries alone.
+use Rattle.std.specs.Prelude.{ℕ, ◌≡◌, ◌<◌, ◌≤◌, List, ◌∷◌, ◌++◌, is_some, IsSomeAnd}
+use Rattle.std.specs.declared.option.Option.TheVariants.{Some}
+use Rattle.gt_model.specs.declared.script.Script.{Script}
+use Rattle.gt_model.specs.declared.script.Instr.{Instr}
+use Rattle.gt_model.specs.declared.entry.Entry.{Entry}
+use Rattle.gt_laws.specs.Told.{clock_told, due_told, instr_told, until_told}
+
+-- it holds of each entry of a history, with the entries before it
+abbrev pub AtEach : (List Entry → Entry → Type 0) → List Entry → Type 0
+AtEach P h = (front : List Entry) (e : Entry) (rest : List Entry) → h ≡ front ++ e ∷ rest → P front e
+
+-- Nothing comes before its time: a goroutine wakes, a timer fires and its value is received where the program's clock has come to that time.
+-- Who looks at the clock sees it, and it never goes back
+abbrev pub InTime : List Entry → Entry → Type 0
+InTime front (Entry.Wake g) = IsSomeAnd (until_told g front) (λ until. until ≤ clock_told front)
+InTime front (Entry.FireFunc t child) = IsSomeAnd (due_told t front) (λ due. due ≤ clock_told front)
+InTime front (Entry.TRecv p t due next) = due ≤ clock_told front
+InTime front (Entry.Now g at) = at ≡ clock_told front
+InTime front (Entry.Clock world to) = clock_told front < to
+InTime front _ = Unit {0}
+
+-- No value of a setting that was ended: what is received is the value of the last setting, which no stop, no reset and no receive ended. And
+-- stops and resets answer whether there is such a setting
+abbrev pub IsFresh : List Entry → Entry → Type 0
+IsFresh front (Entry.TRecv p t due next) = due_told t front ≡ Some due
+IsFresh front (Entry.Stop g t was) = was ≡ Some (is_some (due_told t front))
+IsFresh front (Entry.Reset g t was due) = was ≡ Some (is_some (due_told t front))
+IsFresh front _ = Unit {0}
+
+-- Each goroutine's calls, once and in order: an entry is the call of the instruction to which the goroutine's earlier entries have led it
+abbrev pub InOrder : Script → List Entry → Entry → Type 0
+InOrder script front (Entry.Say g n) = instr_told script g front ≡ Some (Instr.Say n)
+InOrder script front (Entry.Now g at) = instr_told script g front ≡ Some Instr.Now
+InOrder script front (Entry.Go g child f) = instr_told script g front ≡ Some (Instr.Go f)
+InOrder script front (Entry.End g) = instr_told script g front ≡ Some Instr.Finish
+InOrder script front (Entry.Sleep g until) = (d : ℕ) × (instr_told script g front ≡ Some (Instr.Sleep d))
+InOrder script front (Entry.New g t due) = (d : ℕ) × (instr_told script g front ≡ Some (Instr.New t d))
+InOrder script front (Entry.Stop g t was) = instr_told script g front ≡ Some (Instr.Stop t)
+InOrder script front (Entry.Reset g t was due) = (d : ℕ) × (instr_told script g front ≡ Some (Instr.Reset t d))
+InOrder script front (Entry.TRecv p t due next) = instr_told script p.g front ≡ Some (Instr.Recv t)
+InOrder script front _ = Unit {0}

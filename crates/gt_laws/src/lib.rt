@@ -1,0 +1,47 @@
+//! What each complete history keeps, read from its entries alone: each function's contract is a law.
+#![tactic(auto)]
+
+ghost use Rattle.std.specs.Prelude.{List};
+ghost use Rattle.gt_model.specs.declared.script.Script.{Script};
+ghost use Rattle.gt_model.specs.declared.entry.Entry.{Entry};
+ghost use Rattle.gt_model.specs.declared.entry.Limits.{Limits};
+ghost use Rattle.gt_model.specs.declared.entry.Outcome.{Outcome};
+ghost use Rattle.gt_model.specs.Good.{IsGood};
+ghost use Rattle.gt_model.specs.History.{History};
+ghost use Rattle.gt_laws.specs.Laws.{AtEach, InOrder, InTime, IsFresh};
+ghost use Rattle.gt_laws.specs.Broken as broken;
+
+/// Each goroutine makes its calls once and in order.
+pub fn calls_come_in_order()
+    ensures { (script : Script) (limits : Limits) (h : List Entry) (outcome : Outcome)
+        → IsGood script → History script limits h outcome → AtEach (InOrder script) h }
+{}
+
+/// Nothing comes before its time.
+pub fn nothing_comes_early()
+    ensures { (script : Script) (limits : Limits) (h : List Entry) (outcome : Outcome)
+        → IsGood script → History script limits h outcome → AtEach InTime h }
+{}
+
+/// No value of a setting that a stop, a reset or a receive ended is received.
+pub fn no_value_is_stale()
+    ensures { (script : Script) (limits : Limits) (h : List Entry) (outcome : Outcome)
+        → IsGood script → History script limits h outcome → AtEach IsFresh h }
+{}
+
+/// Calls in another order, calls made twice and calls left out are no histories.
+pub fn calls_out_of_order_break_the_law()
+    ensures swapped { ¬ AtEach (InOrder broken.two_calls) broken.swapped }
+    ensures twice { ¬ AtEach (InOrder broken.two_calls) broken.twice }
+    ensures left_out { ¬ AtEach (InOrder broken.two_calls) broken.left_out }
+{}
+
+/// A sleep that ends early is no history.
+pub fn an_early_wake_breaks_the_law()
+    ensures { ¬ AtEach InTime broken.early }
+{}
+
+/// A receive of the value of a setting that a reset ended is no history.
+pub fn a_stale_value_breaks_the_law()
+    ensures { ¬ AtEach IsFresh broken.stale }
+{}
