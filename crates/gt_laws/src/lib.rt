@@ -1,4 +1,4 @@
-//! What each complete history keeps, read from its entries alone: each function's contract is a law.
+//! What each complete history keeps, read from its entries alone, and where a program is idle: each function's contract is a law.
 #![tactic(auto)]
 
 ghost use Rattle.std.specs.Prelude.{List};
@@ -8,6 +8,9 @@ ghost use Rattle.gt_model.specs.declared.entry.Limits.{Limits};
 ghost use Rattle.gt_model.specs.declared.entry.Outcome.{Outcome};
 ghost use Rattle.gt_model.specs.Good.{IsGood};
 ghost use Rattle.gt_model.specs.History.{History};
+ghost use Rattle.gt_model.specs.State.{State};
+ghost use Rattle.gt_model.specs.Quiet.{IsQuiet};
+ghost use Rattle.gt_model.specs.Finish.{IsIdle};
 ghost use Rattle.gt_laws.specs.Laws.{AtEach, InOrder, InTime, IsFresh};
 ghost use Rattle.gt_laws.specs.Broken as broken;
 
@@ -27,6 +30,11 @@ pub fn nothing_comes_early()
 pub fn no_value_is_stale()
     ensures { (script : Script) (limits : Limits) (h : List Entry) (outcome : Outcome)
         → IsGood script → History script limits h outcome → AtEach IsFresh h }
+{}
+
+/// The law of quiet: where nobody could go on and no counted time has come, nothing may come next but a move of the clock.
+pub fn a_quiet_program_is_idle()
+    ensures { (script : Script) (s : State) → IsQuiet script s → IsIdle script s }
 {}
 
 /// Calls in another order, calls made twice and calls left out are no histories.
