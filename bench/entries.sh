@@ -23,6 +23,7 @@ script() {
     sleep) echo "func main" && repeated "sleep 1ms" "$(($2 / 3))" && echo "end" ;;
     reset) printf 'timer t\nfunc main\nnew t 1ms\n' && repeated "reset t 1ms" "$2" && echo "end" ;;
     receive) printf 'timer t\nfunc main\nnew t 1ms\n' && repeated $'recv t\nreset t 1ms' "$(($2 / 3 * 2))" && echo "end" ;;
+    sleepers) echo "func main" && repeated "go a" "$(($2 / 6))" && printf 'sleep 1h\nend\nfunc a\nsleep 1ms\nsleep 1ms\nend\n' ;;
     go) printf 'timer t\nfunc main\nnew t 1ms\nstop t\ngo a\nrecv t\nend\nfunc a\ngo a\nend\n' ;;
     esac
 }
@@ -32,6 +33,16 @@ instructions() {
     valgrind --tool=callgrind --callgrind-out-file="$work/out" "$top/crates/gt_cli/out/gt_cli" sim -l "$1" <"$work/script" 2>"$work/log" >"$work/trace"
     sed -n 's/.*Collected : \([0-9]*\).*/\1/p' "$work/log"
 }
+
+# Many sleepers cost more the more there are, since an idle point looks at each goroutine; so they are counted in smaller numbers.
+for count in 3000 6000 12000 24000; do
+    script nothing 0 >"$work/script"
+    base=$(instructions 200000)
+    script sleepers "$count" >"$work/script"
+    total=$(instructions 200000)
+    lines=$(wc -l <"$work/trace")
+    echo "$((count / 6)) sleepers: $lines lines, $(((total - base) / lines)) instructions per line"
+done
 
 # A chain of goroutines goes on until its limit, the others to their end.
 for kind in say sleep reset receive go; do
