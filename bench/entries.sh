@@ -1,5 +1,5 @@
 #!/usr/bin/env bash
-# Instructions per entry of `gotime sim`, counted by valgrind, for runs of 1,000 and of 100,000 entries. What a run without instructions takes under the same limit is taken off. It is run by hand and judges nothing.
+# Instructions per entry of `gotime sim`, counted by valgrind, for runs of 1,000 and of 100,000 entries or, with many timers, 12,000. What a run without instructions takes under the same limit is taken off. It is run by hand and judges nothing.
 top=$(cd "$(dirname "${BASH_SOURCE[0]}")/.." && pwd) || exit 1
 if ! command -v valgrind >/dev/null; then
     echo "bench: valgrind is missing, so nothing was counted"
@@ -24,6 +24,13 @@ script() {
     reset) printf 'timer t\nfunc main\nnew t 1ms\n' && repeated "reset t 1ms" "$2" && echo "end" ;;
     receive) printf 'timer t\nfunc main\nnew t 1ms\n' && repeated $'recv t\nreset t 1ms' "$(($2 / 3 * 2))" && echo "end" ;;
     sleepers) echo "func main" && repeated "go a" "$(($2 / 6))" && printf 'sleep 1h\nend\nfunc a\nsleep 1ms\nsleep 1ms\nend\n' ;;
+    timers)
+        local timers=$(($2 / 3))
+        seq "$timers" | sed 's/.*/afterfunc t& a/'
+        printf 'func a\nend\nfunc main\n'
+        seq "$timers" | sed 's/.*/new t& &us/'
+        printf 'sleep 1h\nend\n'
+        ;;
     go) printf 'timer t\nfunc main\nnew t 1ms\nstop t\ngo a\nrecv t\nend\nfunc a\ngo a\nend\n' ;;
     esac
 }
@@ -34,20 +41,11 @@ instructions() {
     sed -n 's/.*Collected : \([0-9]*\).*/\1/p' "$work/log"
 }
 
-# Many sleepers cost more the more there are, since an idle point looks at each goroutine; so they are counted in smaller numbers.
-for count in 3000 6000 12000 24000; do
-    script nothing 0 >"$work/script"
-    base=$(instructions 200000)
-    script sleepers "$count" >"$work/script"
-    total=$(instructions 200000)
-    lines=$(wc -l <"$work/trace")
-    echo "$((count / 6)) sleepers: $lines lines, $(((total - base) / lines)) instructions per line"
-done
-
-# A chain of goroutines goes on until its limit, the others to their end.
-for kind in say sleep reset receive go; do
+# A chain of goroutines goes on until its limit, the others to their end. A script has fewer than 4,096 timers.
+for kind in say sleep reset receive go sleepers timers; do
     for count in 1000 99000; do
         limit=200000
+        if [ "$kind" = timers ] && [ "$count" -gt 12000 ]; then count=12000; fi
         if [ "$kind" = go ]; then limit=$count; fi
         script nothing 0 >"$work/script"
         base=$(instructions "$limit")

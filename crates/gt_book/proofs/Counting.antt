@@ -1,5 +1,5 @@
--- The soonest of the times that count is the least of the counted ones.
-use Rattle.std.proofs.Common.{◌≡◌, ◌≢◌, ◌⊎◌, ℕ, zero, suc, ◌+◌, ◌<◌, ◌≤◌, add-one, List, [], ◌∷◌, ◌++◌, length, refl, sym, ap, subst, ◌∙◌, arith, slice_get, Option, None, Some, Bool, true, false, ◌&&◌, ◌||◌, cond, min, is_some, inl, inr, MatchOption, IsNone, IfSome, ◌↔◌, eq-eqb}
+-- The least of the times by slot is the least of the counted ones.
+use Rattle.std.proofs.Common.{◌≡◌, ◌≢◌, ◌⊎◌, ℕ, zero, suc, ◌+◌, ◌<◌, ◌-◌, ◌≤◌, add-one, nat_lt, if◌then◌else◌, List, [], ◌∷◌, ◌++◌, length, refl, sym, ap, subst, ◌∙◌, arith, slice_get, Option, None, Some, Bool, true, false, ◌&&◌, ◌||◌, cond, min, is_some, inl, inr, MatchOption, IsNone, IfSome, ◌↔◌, eq-eqb}
 use Rattle.std.specs.List.{list_any, filter_map, cons_option, enumerate_from}
 use Rattle.std.specs.Option.{option_map}
 use Rattle.std.proofs.lemmas.Bool.{and_parts, eqb-true}
@@ -21,11 +21,14 @@ use Rattle.gt_book.specs.declared.status.RunStatus.{RunStatus}
 use Rattle.gt_book.specs.Schedule.{run_queue, queue_at, status_of}
 use Rattle.gt_book.specs.Scheduler.{in_hand, is_in_hand}
 use Rattle.gt_book.specs.View.{BookView, IsLawful, Agrees, is_parked, is_parked_at, is_at_receive}
-use Rattle.gt_book.specs.Least.{NobodyRuns, IsTimeOf, IsSoonest, sooner, sleep_due, timer_due, due_for, time_of}
+use Rattle.gt_book.specs.Least.{NobodyRuns, IsTimeOf}
+use Rattle.gt_book.specs.DueTimes.{timer_time, slot_time, whose_slot, IsOfSlot, IsLeast, AreTimes}
+use Rattle.gt_book.specs.declared.due_times.DueTimes.{DueTimes}
+use Rattle.gt_book.proofs.Times.{slot-sleep, slot-timer}
+use Rattle.std.proofs.lemmas.Option.{slice_get_within}
 use Rattle.gt_book.proofs.Lists.{HasNumber}
 use Rattle.gt_book.proofs.Fitting.{has_status, none-queued, first-waiting, none-waiting}
 use Rattle.gt_book.proofs.SchedulerCounts.{count-numbered}
-use Rattle.gt_book.proofs.Soonest.{sooner_cases}
 
 -- ---- the numbers of a list
 
@@ -65,10 +68,10 @@ least-from (y ∷ ys) x m h low =
     lower ys x y m n a b low (inr h) = low n (inr (inr h))
 
 -- a least one of a list, or none where it is empty
-abbrev IsLeast : List ℕ → Option Due → Type 0
-IsLeast xs o = MatchOption o (xs ≡ []) (λ (d : Due). Has d.at xs × ((n : ℕ) → Has n xs → d.at ≤ n))
+abbrev IsLeastOf : List ℕ → Option Due → Type 0
+IsLeastOf xs o = MatchOption o (xs ≡ []) (λ (d : Due). Has d.at xs × ((n : ℕ) → Has n xs → d.at ≤ n))
 
-least-is : (xs : List ℕ) (d : Due) → IsLeast xs (Some d) → least xs ≡ Some d.at
+least-is : (xs : List ℕ) (d : Due) → IsLeastOf xs (Some d) → least xs ≡ Some d.at
 least-is [] d h = absurd h.0
 least-is (x ∷ xs) d h = least-from xs x d.at h.0 h.1
 
@@ -76,38 +79,7 @@ some-has : (xs : List ℕ) (n : ℕ) → Has n xs → xs ≡ [] → ⊥
 some-has [] n h e = h
 some-has (x ∷ xs) n h e = cc
 
-least-append : (xs ys : List ℕ) (a b : Option Due) → IsLeast xs a → IsLeast ys b → IsLeast (xs ++ ys) (sooner a b)
-least-append xs ys None None h k = rw (h, k) refl
-least-append xs ys None (Some b) h k = rw h k
-least-append xs ys (Some a) None h k = (
-  has-left a.at xs ys h.0,
-  λ n m. elim (has-either n xs ys m) [
-    | inl q ↦ h.1 n q
-    | inr q ↦ absurd (some-has ys n q k)
-  ],
-)
-least-append xs ys (Some a) (Some b) h k =
-    elim (sooner_cases a b) [
-      | inl first ↦ subst (IsLeast (xs ++ ys)) (sym first.0) (
-        has-left a.at xs ys h.0,
-        λ n m. elim (has-either n xs ys m) [
-          | inl q ↦ h.1 n q
-          | inr q ↦ let above : b.at ≤ n = k.1 n q in let under : a.at ≤ b.at = first.1 in omega arith
-        ],
-      )
-      | inr second ↦ subst (IsLeast (xs ++ ys)) (sym second.0) (
-        has-right b.at xs ys k.0,
-        λ n m. elim (has-either n xs ys m) [
-          | inl q ↦ let above : a.at ≤ n = h.1 n q in let under : b.at ≤ a.at = second.1 in omega arith
-          | inr q ↦ k.1 n q
-        ],
-      )
-    ]
-
 -- ---- what a list gives
-
-abbrev when_due : Option Due → Option ℕ
-when_due o = option_map (λ (d : Due). d.at) o
 
 given-into : {X : Type 0} (f : X → Option ℕ) (xs : List X) (i : ℕ) (x : X) (n : ℕ) → slice_get xs i ≡ Some x → f x ≡ Some n → Has n (filter_map f xs)
 given-into f [] i x n e is = cc
@@ -140,55 +112,47 @@ given-from {X} f (y ∷ xs) n h =
       ]
     ] refl h
 
--- where the times by place are those that the list gives, the soonest is a least one
 item-at : {X : Type 0} (xs : List X) (i : ℕ) → i < length xs → (x : X) × (slice_get xs i ≡ Some x)
 item-at [] i h = absurd (omega arith)
 item-at (x ∷ xs) zero h = (x, refl)
 item-at (x ∷ xs) (suc i) h = item-at xs i (omega arith)
 
-due-of : (o : Option Due) (n : ℕ) → when_due o ≡ Some n → (d : Due) × (o ≡ Some d) × (d.at ≡ n)
-due-of None n e = cc
-due-of (Some d) n e = (d, refl, cc)
+-- the list gives these times, by place
+abbrev Gives : {X : Type 0} → (ℕ → Option ℕ) → (X → Option ℕ) → List X → Type 0
+Gives {X} times f xs = (i : ℕ) (x : X) → slice_get xs i ≡ Some x → times i ≡ f x
 
-abbrev AreTimes : {X : Type 0} → (ℕ → Option Due) → (X → Option ℕ) → List X → Type 0
-AreTimes {X} times f xs = (i : ℕ) (x : X) → slice_get xs i ≡ Some x → when_due (times i) ≡ f x
+time-given : {X : Type 0} (times : ℕ → Option ℕ) (f : X → Option ℕ) (xs : List X) (i n : ℕ) → Gives times f xs → i < length xs → times i ≡ Some n → Has n (filter_map f xs)
+time-given {X} times f xs i n are inside e =
+    let found : (x : X) × (slice_get xs i ≡ Some x) = item-at xs i inside in
+    given-into f xs i found.0 n found.1 (sym (are i found.0 found.1) ∙ e)
 
-nothing-given : {X : Type 0} (f : X → Option ℕ) (xs : List X) → ((n : ℕ) → Has n (filter_map f xs) → ⊥) → filter_map f xs ≡ []
-nothing-given f xs h = elim (filter_map f xs) as (λ ys. ((n : ℕ) → Has n ys → ⊥) → ys ≡ []) [
-  | [] ↦ λ k. refl
-  | y ∷ ys ↦ λ k. absurd (k y (inl refl))
-] h
+record HasTime (times : ℕ → Option ℕ) (count n : ℕ) : Type 0 where
+  place : ℕ
+  inside : place < count
+  time : times place ≡ Some n
 
-soonest-least : {X : Type 0} (times : ℕ → Option Due) (f : X → Option ℕ) (xs : List X) (o : Option Due) → AreTimes times f xs → IsSoonest times (length xs) o
-    → IsLeast (filter_map f xs) o
-soonest-least {X} times f xs None are h = nothing-given f xs (λ n k.
-    let g : Given f xs n = given-from f xs n k in
-    let time : when_due (times g.place) ≡ Some n = are g.place g.item g.there ∙ g.gives in
-    let none : times g.place ≡ None = h g.place g.inside in
-    let off : when_due (times g.place) ≡ None = ap when_due none in
-    cc)
-soonest-least {X} times f xs (Some d) are h =
-    let found : (x : X) × (slice_get xs h.0.0 ≡ Some x) = item-at xs h.0.0 h.0.1 in (
-      given-into f xs h.0.0 found.0 d.at found.1 (sym (are h.0.0 found.0 found.1) ∙ ap when_due h.0.2),
-      λ n k.
-          let g : Given f xs n = given-from f xs n k in
-          let time : (d : Due) × (times g.place ≡ Some d) × (d.at ≡ n) = due-of (times g.place) n (are g.place g.item g.there ∙ g.gives) in
-          subst (λ n. d.at ≤ n) time.2 (h.1 g.place time.0 g.inside time.1),
-    )
+given-time : {X : Type 0} (times : ℕ → Option ℕ) (f : X → Option ℕ) (xs : List X) (n : ℕ) → Gives times f xs → Has n (filter_map f xs) → HasTime times (length xs) n
+given-time times f xs n are h =
+    let g : Given f xs n = given-from f xs n h in
+    record { place = g.place; inside = g.inside; time = are g.place g.item g.there ∙ g.gives }
 
 -- ---- sleeps
 
-when-time : (whose : Whose) (o : Option ℕ) → when_due (time_of whose o) ≡ o
-when-time whose None = refl
-when-time whose (Some n) = refl
-
-sleeps-are : (s : State) → IsOneWorld s → AreTimes (sleep_due s) (sleep_of 0) s.goroutines
+sleeps-are : (s : State) → IsOneWorld s → Gives (λ i. sleeps_until s (i + 1)) (sleep_of 0) s.goroutines
 sleeps-are s one i r e =
     let there : goroutine_at s (i + 1) ≡ Some r = rw add-one e in
     let in_world : r.world ≡ 0 = one.goroutines (i + 1) r there in
-    when-time (Whose.Sleep (i + 1)) (sleeps_until s (i + 1))
-    ∙ (ap (λ (o : Option Goroutine). elim (option_map (λ (r : Goroutine). r.mode) o) [ None ↦ None | Some mode ↦ until_of mode ]) there
-    ∙ sym (ap (λ (b : Bool). cond b (until_of r.mode) None) (eq-eqb r.world 0 in_world)))
+    ap (λ (o : Option Goroutine). elim (option_map (λ (r : Goroutine). r.mode) o) [ None ↦ None | Some mode ↦ until_of mode ]) there
+    ∙ sym (ap (λ (b : Bool). cond b (until_of r.mode) None) (eq-eqb r.world 0 in_world))
+
+-- who sleeps is a goroutine
+sleeps-inside : (s : State) (i n : ℕ) → sleeps_until s (i + 1) ≡ Some n → i < length s.goroutines
+sleeps-inside s i n e =
+    elim (goroutine_at s (i + 1))
+    as (λ o. goroutine_at s (i + 1) ≡ o → (elim (option_map (λ (r : Goroutine). r.mode) o) [ None ↦ None | Some mode ↦ until_of mode ]) ≡ Some n → i < length s.goroutines) [
+      | None ↦ λ q k. cc
+      | Some r ↦ λ q k. slice_get_within s.goroutines i r (rw add-one at q)
+    ] refl e
 
 -- ---- timers
 
@@ -205,12 +169,6 @@ enumerated-at n (x ∷ xs) (suc i) e is =
     let rest = enumerated-at (n + 1) xs i e is in
     let place : e.0 ≡ (n + 1) + i = rest.0 in
     (omega arith, rest.1)
-
--- whether somebody is the first of a queue
-when-for : (t : ℕ) (due : Option ℕ) (func : Bool) (first : Option ℕ) → when_due (due_for t due func first) ≡ cond (func || is_some first) due None
-when-for t due true first = when-time (Whose.Func t) due
-when-for t due false None = refl
-when-for t due false (Some g) = when-time (Whose.Timer t) due
 
 nobody-first : (xs : List ℕ) → slice_get xs 0 ≡ None → xs ≡ []
 nobody-first [] e = refl
@@ -311,65 +269,101 @@ counted-is script s t (Some r) one e =
     let in_world : r.world ≡ 0 = one.timers t r e in
     ap (λ (b : Bool). cond (b && (is_func script t || is_awaited script s 0 t)) r.due None) (eq-eqb r.world 0 in_world)
 
-timers-are : (v : BookView) → IsLawful v → NobodyRuns v → AreTimes (timer_due v.script v.state v.schedule) (counted_timer v.script v.state 0) (enumerate_from 0 v.state.timers)
+timers-are : (v : BookView) → IsLawful v → NobodyRuns v → Gives (timer_time v.script v.state v.schedule) (counted_timer v.script v.state 0) (enumerate_from 0 v.state.timers)
 timers-are v lawful nobody i e is =
     let found : (e.0 ≡ 0 + i) × (slice_get v.state.timers i ≡ Some e.1) = enumerated-at 0 v.state.timers i e is in
     let place : i ≡ e.0 = (let at : e.0 ≡ 0 + i = found.0 in omega arith) in
     let there : timer_at v.state i ≡ e.1 = ap flatten found.1 in
     let size : length v.state.timers ≡ length v.script.decls = lawful.formed.timers in
-    let inside : i < length v.state.timers = within v.state.timers i e.1 found.1 in
+    let inside : i < length v.state.timers = slice_get_within v.state.timers i e.1 found.1 in
     let declared : i < length v.script.decls = omega arith in
-    when-for i (due_of v.state i) (is_func v.script i) (slice_get (waiting_in v.schedule.queues (queue_at i)) 0)
-    ∙ (ap (λ (b : Bool). cond (is_func v.script i || b) (due_of v.state i) None) (sym (awaited-first v i lawful nobody declared))
+    ap (λ (b : Bool). cond (is_func v.script i || b) (due_of v.state i) None) (sym (awaited-first v i lawful nobody declared))
     ∙ (ap (λ (o : Option Timer). cond (is_func v.script i || is_awaited v.script v.state 0 i) (elim o [ None ↦ None | Some r ↦ r.due ]) None) there
     ∙ (sym (counted-is v.script v.state i e.1 lawful.formed.world there)
-    ∙ ap (λ t. counted_timer v.script v.state 0 (t, e.1)) place)))
-  where
-    within : {X : Type 0} (xs : List X) (i : ℕ) (x : X) → slice_get xs i ≡ Some x → i < length xs
-    within [] i x e = cc
-    within (y ∷ xs) zero x e = omega arith
-    within (y ∷ xs) (suc i) x e = let rest : i < length xs = within xs i x e in omega arith
+    ∙ ap (λ t. counted_timer v.script v.state 0 (t, e.1)) place))
 
--- ---- whose the time is
+-- a timer that is due was made
+due-inside : (ts : List (Option Timer)) (t n : ℕ) → (elim (at ts t) [ None ↦ None | Some r ↦ r.due ]) ≡ Some n → t < length ts
+due-inside [] t n e = cc
+due-inside (x ∷ ts) zero n e = omega arith
+due-inside (x ∷ ts) (suc t) n e = let rest : t < length ts = due-inside ts t n e in omega arith
 
-of-time : (v : BookView) (whose : Whose) (o : Option ℕ) (d : Due) → ((at : ℕ) → o ≡ Some at → IsTimeOf v at whose) → time_of whose o ≡ Some d → IsTimeOf v d.at d.whose
-of-time v whose None d h e = cc
-of-time v whose (Some at) d h e =
-    let made : Due = record { at = at; whose = whose } in
-    let same : made ≡ d = cc in
-    subst (λ (d : Due). IsTimeOf v d.at d.whose) same (h at refl)
+due-counted : (b : Bool) (o : Option ℕ) (n : ℕ) → (if b then o else None) ≡ Some n → o ≡ Some n
+due-counted true o n e = e
+due-counted false o n e = cc
 
-of-timer : (v : BookView) (t : ℕ) (due : Option ℕ) (func : Bool) (first : Option ℕ) (d : Due) → IsLawful v → t < length v.script.decls
-    → due_of v.state t ≡ due → is_func v.script t ≡ func → slice_get (waiting_in v.schedule.queues (queue_at t)) 0 ≡ first
-    → due_for t due func first ≡ Some d → IsTimeOf v d.at d.whose
-of-timer v t due true first d lawful within is_due is_it is_first e = of-time v (Whose.Func t) due d (λ at is. (is_it, is_due ∙ is)) e
-of-timer v t due false None d lawful within is_due is_it is_first e = cc
-of-timer v t due false (Some g) d lawful within is_due is_it is_first e =
-    let parked : is_parked_at v.script v.state v.schedule g t ≡ true = first-waiting v.script v.state v.schedule g t lawful.fits within is_first in
-    let at : is_at_receive v.script v.state g t ≡ true = (and_parts (is_parked (status_of v.schedule g)) (is_at_receive v.script v.state g t) parked).1 in
-    let st : Standing v.script v.state g (Instr.Recv t) = at_receive v.script v.state g t at in
-    of-time v (Whose.Timer t) due d (λ at is. (names-instr_at v.script st.who.place (Instr.Recv t) lawful.good st.on, is_due ∙ is, (g, is_first))) e
+timer-inside : (v : BookView) (t n : ℕ) → timer_time v.script v.state v.schedule t ≡ Some n → t < length v.state.timers
+timer-inside v t n e =
+    due-inside v.state.timers t n
+    (due-counted (is_func v.script t || is_some (slice_get (waiting_in v.schedule.queues (queue_at t)) 0)) (due_of v.state t) n e)
 
-own-sleep : (v : BookView) (n : ℕ) (o : Option Due) → IsSoonest (sleep_due v.state) n o → IfSome o (λ d. IsTimeOf v d.at d.whose)
-own-sleep v n None h = tt
-own-sleep v n (Some d) h = of-time v (Whose.Sleep (h.0.0 + 1)) (sleeps_until v.state (h.0.0 + 1)) d (λ at is. is) h.0.2
+-- ---- whose the time of a slot is
 
-own-timer : (v : BookView) (o : Option Due) → IsLawful v → IsSoonest (timer_due v.script v.state v.schedule) (length v.state.timers) o
-    → IfSome o (λ d. IsTimeOf v d.at d.whose)
-own-timer v None lawful h = tt
-own-timer v (Some d) lawful h =
-    let size : length v.state.timers ≡ length v.script.decls = lawful.formed.timers in
-    let inside : h.0.0 < length v.state.timers = h.0.1 in
-    of-timer v h.0.0 (due_of v.state h.0.0) (is_func v.script h.0.0) (slice_get (waiting_in v.schedule.queues (queue_at h.0.0)) 0) d lawful (omega arith) refl refl refl h.0.2
+is_first : (xs : List ℕ) → is_some (slice_get xs 0) ≡ true → (g : ℕ) × (slice_get xs 0 ≡ Some g)
+is_first [] e = cc
+is_first (x ∷ xs) e = (x, refl)
 
-own-sooner : (v : BookView) (a b : Option Due) → IfSome a (λ d. IsTimeOf v d.at d.whose) → IfSome b (λ d. IsTimeOf v d.at d.whose)
-    → IfSome (sooner a b) (λ d. IsTimeOf v d.at d.whose)
-own-sooner v None b h k = k
-own-sooner v (Some a) None h k = h
-own-sooner v (Some a) (Some b) h k =
-    elim (sooner_cases a b) [
-      | inl first ↦ subst (λ o. IfSome o (λ (d : Due). IsTimeOf v d.at d.whose)) (sym first.0) h
-      | inr second ↦ subst (λ o. IfSome o (λ (d : Due). IsTimeOf v d.at d.whose)) (sym second.0) k
+awaited-of : (v : BookView) (t at : ℕ) → IsLawful v → t < length v.script.decls → is_some (slice_get (waiting_in v.schedule.queues (queue_at t)) 0) ≡ true → due_of v.state t ≡ Some at
+    → IsTimeOf v at (Whose.Timer t)
+awaited-of v t at lawful within some is =
+    let first : (g : ℕ) × (slice_get (waiting_in v.schedule.queues (queue_at t)) 0 ≡ Some g) = is_first (waiting_in v.schedule.queues (queue_at t)) some in
+    let parked : is_parked_at v.script v.state v.schedule first.0 t ≡ true = first-waiting v.script v.state v.schedule first.0 t lawful.fits within first.1 in
+    let receives : is_at_receive v.script v.state first.0 t ≡ true =
+    (and_parts (is_parked (status_of v.schedule first.0)) (is_at_receive v.script v.state first.0 t) parked).1 in
+    let st : Standing v.script v.state first.0 (Instr.Recv t) = at_receive v.script v.state first.0 t receives in
+    (names-instr_at v.script st.who.place (Instr.Recv t) lawful.good st.on, is, first)
+
+-- of an AfterFunc timer, or of one at which somebody waits
+timer-of : (v : BookView) (t at : ℕ) (func some : Bool) → IsLawful v → t < length v.script.decls → is_func v.script t ≡ func
+    → is_some (slice_get (waiting_in v.schedule.queues (queue_at t)) 0) ≡ some → (if func || some then due_of v.state t else None) ≡ Some at
+    → IsTimeOf v at (if func then Whose.Func t else Whose.Timer t)
+timer-of v t at true some lawful within is_it waits e = (is_it, e)
+timer-of v t at false true lawful within is_it waits e = awaited-of v t at lawful within waits e
+timer-of v t at false false lawful within is_it waits e = cc
+
+slot-of : (n : ℕ) (v : BookView) (slot at : ℕ) (below : Bool) → IsLawful v → nat_lt slot n ≡ below
+    → (if below then sleeps_until v.state (slot + 1) else timer_time v.script v.state v.schedule (slot - n)) ≡ Some at
+    → IsTimeOf v at (if below then Whose.Sleep (slot + 1) else if is_func v.script (slot - n) then Whose.Func (slot - n) else Whose.Timer (slot - n))
+slot-of n v slot at true lawful low e = e
+slot-of n v slot at false lawful low e =
+    let inside : slot - n < length v.state.timers = timer-inside v (slot - n) at e in
+    let within : slot - n < length v.script.decls = subst (λ k. slot - n < k) lawful.formed.timers inside in
+    elim (is_func v.script (slot - n)) as (λ (q : Bool). is_func v.script (slot - n) ≡ q → (if q || is_some (slice_get (waiting_in v.schedule.queues (queue_at (slot - n))) 0) then due_of v.state (slot - n) else None) ≡ Some at
+    → IsTimeOf v at (if q then Whose.Func (slot - n) else Whose.Timer (slot - n))) [
+      | true ↦ λ q k. timer-of v (slot - n) at true (is_some (slice_get (waiting_in v.schedule.queues (queue_at (slot - n))) 0)) lawful within q refl k
+      | false ↦ λ q k. timer-of v (slot - n) at false (is_some (slice_get (waiting_in v.schedule.queues (queue_at (slot - n))) 0)) lawful within q refl k
+    ] refl e
+
+-- ---- the slots have the counted times
+
+slot-counted : (n : ℕ) (v : BookView) (slot time : ℕ) → IsLawful v → NobodyRuns v → slot_time n v.script v.state v.schedule slot ≡ Some time → Has time (counted v.script v.state 0)
+slot-counted n v slot time lawful nobody e =
+    elim (nat_lt slot n) as (λ (q : Bool). (if q then sleeps_until v.state (slot + 1) else timer_time v.script v.state v.schedule (slot - n)) ≡ Some time → Has time (counted v.script v.state 0)) [
+      | true ↦ λ k. has-left time (filter_map (sleep_of 0) v.state.goroutines) (filter_map (counted_timer v.script v.state 0) (enumerate_from 0 v.state.timers))
+          (time-given (λ i. sleeps_until v.state (i + 1)) (sleep_of 0) v.state.goroutines slot time (sleeps-are v.state lawful.formed.world) (sleeps-inside v.state slot time k) k)
+      | false ↦ λ k.
+          let inside : slot - n < length v.state.timers = timer-inside v (slot - n) time k in
+          let size : length (enumerate_from 0 v.state.timers) ≡ length v.state.timers = length-enumerated 0 v.state.timers in
+          has-right time (filter_map (sleep_of 0) v.state.goroutines) (filter_map (counted_timer v.script v.state 0) (enumerate_from 0 v.state.timers))
+          (time-given (timer_time v.script v.state v.schedule) (counted_timer v.script v.state 0) (enumerate_from 0 v.state.timers) (slot - n) time (timers-are v lawful nobody) (omega arith) k)
+    ] e
+
+counted-slot : (n : ℕ) (v : BookView) (time : ℕ) → IsLawful v → NobodyRuns v → length v.state.goroutines ≤ n → Has time (counted v.script v.state 0)
+    → (slot : ℕ) × (slot_time n v.script v.state v.schedule slot ≡ Some time)
+counted-slot n v time lawful nobody few h =
+    elim (has-either time (filter_map (sleep_of 0) v.state.goroutines) (filter_map (counted_timer v.script v.state 0) (enumerate_from 0 v.state.timers)) h) [
+      | inl k ↦
+          let found : HasTime (λ i. sleeps_until v.state (i + 1)) (length v.state.goroutines) time =
+          given-time (λ i. sleeps_until v.state (i + 1)) (sleep_of 0) v.state.goroutines time (sleeps-are v.state lawful.formed.world) k in
+          let inside : found.place < length v.state.goroutines = found.inside in
+          let below : found.place < n = omega arith in
+          (found.place, slot-sleep n v.script v.state v.schedule found.place below ∙ found.time)
+      | inr k ↦
+          let found : HasTime (timer_time v.script v.state v.schedule) (length (enumerate_from 0 v.state.timers)) time =
+          given-time (timer_time v.script v.state v.schedule) (counted_timer v.script v.state 0) (enumerate_from 0 v.state.timers) time (timers-are v lawful nobody) k in
+          let behind : n ≤ n + found.place = omega arith in
+          let place : n + found.place - n ≡ found.place = omega arith in
+          (n + found.place, slot-timer n v.script v.state v.schedule (n + found.place) behind ∙ (ap (timer_time v.script v.state v.schedule) place ∙ found.time))
     ]
 
 -- ---- the least of the counted times
@@ -379,29 +373,28 @@ pub record LeastIs (v : BookView) (o : Option Due) : Type 0 where
   pub least : IfSome o (λ d. least (counted v.script v.state 0) ≡ Some d.at)
   pub whose : IfSome o (λ d. IsTimeOf v d.at d.whose)
 
-none-least : (xs : List ℕ) (o : Option Due) → IsLeast xs o → IsNone o ↔ (xs ≡ [])
-none-least xs None h = (λ _. h, λ _. refl)
-none-least xs (Some d) h = (λ e. cc, λ e. absurd (some-has xs d.at h.0 e))
+no-number : (xs : List ℕ) → ((n : ℕ) → Has n xs → ⊥) → xs ≡ []
+no-number [] h = refl
+no-number (x ∷ xs) h = absurd (h x (inl refl))
 
-some-least : (xs : List ℕ) (o : Option Due) → IsLeast xs o → IfSome o (λ (d : Due). least xs ≡ Some d.at)
-some-least xs None h = tt
-some-least xs (Some d) h = least-is xs d h
-
-pub least-counted : (v : BookView) (sleep timer : Option Due) → IsLawful v → NobodyRuns v
-    → IsSoonest (sleep_due v.state) (length v.state.goroutines) sleep
-    → IsSoonest (timer_due v.script v.state v.schedule) (length v.state.timers) timer
-    → LeastIs v (sooner sleep timer)
-least-counted v sleep timer lawful nobody h k =
-    let sleeps : IsLeast (filter_map (sleep_of 0) v.state.goroutines) sleep =
-    soonest-least (sleep_due v.state) (sleep_of 0) v.state.goroutines sleep (sleeps-are v.state lawful.formed.world) h in
-    let size : length (enumerate_from 0 v.state.timers) ≡ length v.state.timers = length-enumerated 0 v.state.timers in
-    let timers : IsLeast (filter_map (counted_timer v.script v.state 0) (enumerate_from 0 v.state.timers)) timer =
-    soonest-least (timer_due v.script v.state v.schedule) (counted_timer v.script v.state 0) (enumerate_from 0 v.state.timers) timer (timers-are v lawful nobody)
-    (subst (λ n. IsSoonest (timer_due v.script v.state v.schedule) n timer) (sym size) k) in
-    let all : IsLeast (counted v.script v.state 0) (sooner sleep timer) =
-    least-append (filter_map (sleep_of 0) v.state.goroutines) (filter_map (counted_timer v.script v.state 0) (enumerate_from 0 v.state.timers)) sleep timer sleeps timers in
+pub least-counted : (most : ℕ) (v : BookView) (d : DueTimes) (o : Option Due) → IsLawful v → NobodyRuns v → length v.state.goroutines ≤ most + 1
+    → AreTimes most v.script v.state v.schedule d → IsLeast v.script d o → LeastIs v o
+least-counted most v d None lawful nobody few are h =
+    let none : counted v.script v.state 0 ≡ [] = no-number (counted v.script v.state 0) (λ n k.
+    let found : (slot : ℕ) × (slot_time (most + 1) v.script v.state v.schedule slot ≡ Some n) = counted-slot (most + 1) v n lawful nobody few k in
+    let off : ◌≡◌ {A = Option ℕ} None (Some n) = sym (h found.0) ∙ (are.each found.0 ∙ found.1) in
+    cc) in
+    record { none = (λ _. none, λ _. refl); least = tt; whose = tt }
+least-counted most v d (Some due) lawful nobody few are h =
+    let own : IsOfSlot v.script d due = h.0 in
+    let time : slot_time (most + 1) v.script v.state v.schedule own.slot ≡ Some due.at = sym (are.each own.slot) ∙ own.time in
+    let there : Has due.at (counted v.script v.state 0) = slot-counted (most + 1) v own.slot due.at lawful nobody time in
+    let lowest : (n : ℕ) → Has n (counted v.script v.state 0) → due.at ≤ n = λ n k.
+    (let found : (slot : ℕ) × (slot_time (most + 1) v.script v.state v.schedule slot ≡ Some n) = counted-slot (most + 1) v n lawful nobody few k in
+    h.1 found.0 n (are.each found.0 ∙ found.1)) in
     record {
-      none = none-least (counted v.script v.state 0) (sooner sleep timer) all;
-      least = some-least (counted v.script v.state 0) (sooner sleep timer) all;
-      whose = own-sooner v sleep timer (own-sleep v (length v.state.goroutines) sleep h) (own-timer v timer lawful k);
+      none = (λ e. cc, λ e. absurd (some-has (counted v.script v.state 0) due.at there e));
+      least = least-is (counted v.script v.state 0) due (there, lowest);
+      whose = subst (IsTimeOf v due.at) (ap (λ n. whose_slot n v.script own.slot) (sym are.goroutines) ∙ own.whose)
+          (slot-of (most + 1) v own.slot due.at (nat_lt own.slot (most + 1)) lawful refl time);
     }

@@ -2,10 +2,8 @@
 use Rattle.std.proofs.Common.{◌≡◌, ◌≢◌, ℕ, zero, suc, ◌+◌, ◌<◌, ◌≤◌, add-one, List, [], ◌∷◌, ◌++◌, replicate, length, set, drop, refl, sym, ap, subst, ◌∙◌, arith, slice_get, Option, None, Some, Bool, true, false, not, ◌&&◌, ◌||◌, eqb, IsTrue, IsSomeAnd, is_some, is_none, inl, inr, option_map}
 use Rattle.std.proofs.lemmas.Bool.{cases_eq, cases_lt, eq-eqb, ne_eqb}
 use Rattle.std.proofs.lemmas.List.{get_or_past, length-set, length-replicate}
-use Rattle.std.proofs.lemmas.Option.{slice_get_within}
 use Rattle.std.proofs.Math.ListN.{length-append}
 use Rattle.gt_model.specs.declared.script.Script.{Script}
-use Rattle.gt_model.specs.declared.script.Decl.{Decl}
 use Rattle.gt_model.specs.declared.script.Instr.{Instr}
 use Rattle.gt_model.specs.declared.entry.Entry.{Entry}
 use Rattle.gt_model.specs.declared.entry.Party.{Party}
@@ -15,7 +13,7 @@ use Rattle.gt_model.specs.declared.state.Goroutine.{Goroutine}
 use Rattle.gt_model.specs.declared.state.Timer.{Timer}
 use Rattle.gt_model.specs.declared.state.Mode.{Mode}
 use Rattle.gt_model.specs.Tables.{numbered, change, change_numbered, at}
-use Rattle.gt_model.specs.State.{State, goroutine_at, timer_at, instr_at, stands, stands_at, until_of, sleeps_until, clock_of, world_of, next_number, func_of, is_timer, names_timer}
+use Rattle.gt_model.specs.State.{State, goroutine_at, timer_at, instr_at, stands, stands_at, until_of, sleeps_until, clock_of, world_of, next_number, func_of, names_timer}
 use Rattle.gt_model.specs.After.{after, first_state, moves, took, new_period, moved_on, in_mode, asleep, begun, set_due, set_again, timer_world}
 use Rattle.gt_model.specs.Legal.{May, operation, operation_at}
 use Rattle.gt_model.specs.Panics.{fault, when}
@@ -30,6 +28,7 @@ use Rattle.gt_book.specs.Queues.{as_number, times}
 use Rattle.gt_book.specs.Schedule.{Schedule, run_queue, queue_at, status_of, joins, leaves, queued, with_new, parked_at, taken, scheduled, next_park}
 use Rattle.gt_book.specs.View.{first_schedule, is_parked_at, is_parked, is_firm_at, WaitsAt, Agrees, is_at_receive, is_queued, Fits}
 use Rattle.gt_book.specs.Steps.{Served}
+use Rattle.gt_book.proofs.Machines.{declared_within}
 use Rattle.gt_book.proofs.Lists.{times-one_other, times-first_same, times-first_other, times-joins_same, times-joins_other, times-joins_by, times-leaves_same, times-leaves_other, times-leaves_by, waiting-set_same, waiting-set_other, numbered-change_same, numbered-change_other, numbered-push_same, numbered-push_other, HasNumber, has_number, numbered-next, list_all-from_numbered}
 
 -- ---- the facts of one goroutine
@@ -241,7 +240,7 @@ times-taken queues g p x e within n =
       | inr k ↦ ap (times x) (waiting-set_other queues p run_queue (drop 1 (waiting_in queues run_queue)) k)
     ]
 
-no_run_queue : (t : ℕ) → queue_at t ≢ run_queue
+pub no_run_queue : (t : ℕ) → queue_at t ≢ run_queue
 no_run_queue t e = absurd (omega arith)
 
 pub fits-taken : (script : Script) (s : State) (m : Schedule) (g : ℕ) → Fits script s m → slice_get (waiting_in m.queues run_queue) 0 ≡ Some g → Fits script s (taken m g)
@@ -478,13 +477,6 @@ again-keeps : (due period : ℕ) (o : Option Timer) → is_some o ≡ true → i
 again-keeps due period None h = cc
 again-keeps due period (Some r) h = refl
 
-timer-declared : (script : Script) (t : ℕ) → IsTrue (is_timer script t) → t < length script.decls
-timer-declared script t h =
-    elim (slice_get script.decls t) as (λ o. slice_get script.decls t ≡ o → names_timer (option_map (λ (d : Decl). d.what) o) ≡ true → t < length script.decls) [
-      | None ↦ λ e k. cc
-      | Some d ↦ λ e k. slice_get_within script.decls t d e
-    ] refl h
-
 -- ---- sleepers, and receivers
 
 nowhere : (a b : Bool) → b ≡ false → as_number (a && b) ≡ 0
@@ -497,13 +489,13 @@ pub record Asleep (s : State) (g : ℕ) : Type 0 where
   pub until : ℕ
   pub sleeps : who.mode ≡ Mode.Sleeping until
 
-sleeper : (s : State) (g now : ℕ) → IsSomeAnd (sleeps_until s g) (λ until. until ≤ now) → Asleep s g
-sleeper s g now h =
+pub sleeper : (s : State) (g : ℕ) (P : ℕ → Type 0) → IsSomeAnd (sleeps_until s g) P → Asleep s g
+sleeper s g P h =
     elim (goroutine_at s g)
-    as (λ o. goroutine_at s g ≡ o → IsSomeAnd (elim (option_map (λ (r : Goroutine). r.mode) o) [ None ↦ None | Some mode ↦ until_of mode ]) (λ until. until ≤ now) → Asleep s g) [
+    as (λ o. goroutine_at s g ≡ o → IsSomeAnd (elim (option_map (λ (r : Goroutine). r.mode) o) [ None ↦ None | Some mode ↦ until_of mode ]) P → Asleep s g) [
       | None ↦ λ e k. absurd k
       | Some r ↦ λ e k.
-          elim r.mode as (λ mode. r.mode ≡ mode → IsSomeAnd (until_of mode) (λ until. until ≤ now) → Asleep s g) [
+          elim r.mode as (λ mode. r.mode ≡ mode → IsSomeAnd (until_of mode) P → Asleep s g) [
             | Mode.At ↦ λ q l. absurd l
             | Mode.Sleeping until ↦ λ q l. record { who = r; there = e; until = until; sleeps = q }
             | Mode.Ended ↦ λ q l. absurd l
@@ -520,7 +512,7 @@ sleeping-parked script s r until RunStatus.InHand h = absurd h
 sleeping-parked script s r until (RunStatus.Parked since) h = refl
 sleeping-parked script s r until RunStatus.Ended h = absurd h
 
-asleep-parked : (script : Script) (s : State) (m : Schedule) (g : ℕ) → Fits script s m → Asleep s g → is_parked (status_of m g) ≡ true
+pub asleep-parked : (script : Script) (s : State) (m : Schedule) (g : ℕ) → Fits script s m → Asleep s g → is_parked (status_of m g) ≡ true
 asleep-parked script s m g fits a =
     let x : HasNumber m.statuses g = has_status script s m g a.who fits a.there in
     ap is_parked x.there
@@ -583,7 +575,7 @@ fits-entered script s m (Entry.Sleep g None) fits may in_hand =
 fits-entered script s m (Entry.Sleep g (Some until)) fits may in_hand =
     fits-leaves_hand script s (after script s (Entry.Sleep g (Some until))) m (next_park m.parks) g (asleep script (Some until)) (RunStatus.Parked m.parks) fits in_hand refl (λ t h. h) (λ r. tt) refl (λ r t. refl)
 fits-entered script s m (Entry.Wake g) fits may served =
-    let a : Asleep s g = sleeper s g (clock_of s g) may in
+    let a : Asleep s g = sleeper s g (λ until. until ≤ clock_of s g) may in
     fits-woken script s (after script s (Entry.Wake g)) m m.queues g (moved_on script) fits (asleep-parked script s m g fits a) refl (λ r. refl) (λ t h. h) refl
     (λ p x n. refl) refl (λ t h. asleep-nowhere script s m g t fits a h)
 fits-entered script s m (Entry.New g t due) fits may in_hand =
@@ -596,7 +588,7 @@ fits-entered script s m (Entry.Reset g t was due) fits may in_hand =
     fits-goes_on script s (after script s (Entry.Reset g t was due)) m g (moved_on script) fits in_hand refl (λ r. refl)
     (λ u h. made-change s.timers t u (set_again due (new_period script s g t)) (again-keeps due (new_period script s g t)) h)
 fits-entered script s m (Entry.TRecv p t due next) fits may waits =
-    let declared : t < length script.decls = timer-declared script t may.1 in
+    let declared : t < length script.decls = declared_within script t names_timer refl may.1 in
     let within : t + 1 < length m.queues = omega (arith, fits.queues) in
     fits-woken script s (after script s (Entry.TRecv p t due next)) m (leaves m.queues (queue_at t) p.g) p.g (took script p.case_no) fits waits refl (λ r. refl)
     (λ u h. made-change s.timers t u (set_due next) (due-keeps next) h)
@@ -680,24 +672,9 @@ nowhere-new script s m child fits new =
 -- a sleeper
 pub nowhere-asleep : (script : Script) (s : State) (m : Schedule) (g : ℕ) → Fits script s m → May script s (Entry.Wake g) → (q : ℕ) → times g (waiting_in m.queues q) ≡ 0
 nowhere-asleep script s m g fits may =
-    let a : Asleep s g = sleeper s g (clock_of s g) may in
+    let a : Asleep s g = sleeper s g (λ until. until ≤ clock_of s g) may in
     let since : IsParked (status_of m g) = parked-is (status_of m g) (asleep-parked script s m g fits a) in
     nowhere-else m.queues (length script.decls) g fits.queues (fits.queued g ∙ ap (λ o. as_number (is_queued o)) since.is) (λ t h. asleep-nowhere script s m g t fits a h)
-
--- who is parked at a receive from t stands once in the queue there, and in no other
-pub once-parked : (script : Script) (s : State) (m : Schedule) (g t : ℕ) → Fits script s m → t < length script.decls → is_parked_at script s m g t ≡ true → times g (waiting_in m.queues (queue_at t)) ≡ 1
-once-parked script s m g t fits h parked = fits.waiting t g h ∙ ap as_number parked
-
-pub nowhere-left : (script : Script) (s : State) (m : Schedule) (p : Party) (t due : ℕ) (next : Option ℕ) → Fits script s m → May script s (Entry.TRecv p t due next) → is_parked (status_of m p.g) ≡ true
-    → (q : ℕ) → times p.g (waiting_in (leaves m.queues (queue_at t) p.g) q) ≡ 0
-nowhere-left script s m p t due next fits may parked =
-    let since : IsParked (status_of m p.g) = parked-is (status_of m p.g) parked in
-    let declared : t < length script.decls = timer-declared script t may.1 in
-    let within : t + 1 < length m.queues = omega (arith, fits.queues) in
-    nowhere-else (leaves m.queues (queue_at t) p.g) (length script.decls) p.g
-    (length-set m.queues (queue_at t) (without (waiting_in m.queues (queue_at t)) p.g) ∙ fits.queues)
-    (times-leaves_other m.queues run_queue (queue_at t) p.g (λ e. no_run_queue t (sym e)) ∙ (fits.queued p.g ∙ ap (λ o. as_number (is_queued o)) since.is))
-    (λ u h. left-nowhere script s m p t u fits may.0.stands within h)
 
 -- a receive by a party is at a queue that has it
 pub receives-parked : (script : Script) (s : State) (m : Schedule) (p : Party) (t due : ℕ) (next : Option ℕ) → May script s (Entry.TRecv p t due next) → is_parked (status_of m p.g) ≡ true

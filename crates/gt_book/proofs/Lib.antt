@@ -7,9 +7,10 @@ pub mod Lists
 pub mod Fitting
 pub mod Books
 pub mod Going
-pub mod Soonest
 pub mod Counting
 pub mod Passing
 pub mod Committing
 pub mod Idling
 pub mod Setting
+pub mod Times
+pub mod EntryTimes

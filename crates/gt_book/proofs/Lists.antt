@@ -112,7 +112,7 @@ change-same [] i f x e = cc
 change-same (y ∷ ys) zero f x e = let is : y ≡ x = cc in ap (λ z. Some (f z)) is
 change-same (y ∷ ys) (suc i) f x e = change-same ys i f x e
 
-change-other : {X : Type 0} (xs : List X) (i j : ℕ) (f : X → X) → j ≢ i → slice_get (change xs i f) j ≡ slice_get xs j
+pub change-other : {X : Type 0} (xs : List X) (i j : ℕ) (f : X → X) → j ≢ i → slice_get (change xs i f) j ≡ slice_get xs j
 change-other [] i j f n = refl
 change-other (y ∷ ys) zero zero f n = absurd (n refl)
 change-other (y ∷ ys) zero (suc j) f n = refl

@@ -5,6 +5,7 @@ use Rattle.gt_book.specs.Machine.{state_of}
 use Rattle.gt_book.specs.Scheduler.{schedule_of, IsScheduler}
 use Rattle.gt_book.specs.View.{BookView, outcome_in, IsLawful}
 use Rattle.gt_book.specs.Queues.{as_number}
+use Rattle.gt_book.specs.DueTimes.{AreTimes}
 
 abbrev pub seen : Inside → BookView
 seen b = record {
@@ -25,3 +26,4 @@ pub record HasRooms (b : Inside) : Type 0 where
 pub record IsKept (b : Inside) : Type 0 where
   pub lawful : IsLawful (seen b)
   pub rooms : HasRooms b
+  pub times : AreTimes b.limits.entries b.script (state_of b.machine) (schedule_of b.scheduler) b.due_times

@@ -6,3 +6,4 @@ pub mod Scheduler
 pub mod Steps
 pub mod Book
 pub mod Least
+pub mod DueTimes

@@ -18,7 +18,7 @@ ghost use Rattle.gt_book.specs.Steps.{Takes, Steps, step_of, Served, MayCommit, 
 ghost use Rattle.gt_book.specs.View.{first_view, outcome_of, with_entries, is_parked_at, Enters, IsLawful, NoneFirm};
 
 use crate::answers::{Commit, Did, Due, Op, Pick, TimerOp};
-use crate::least::{least_sleep, least_timer, sooner};
+use crate::due_times::DueTimes;
 use crate::machine::{Machine, PROGRAM};
 use crate::scheduler::Scheduler;
 use crate::status::RunStatus;
@@ -36,6 +36,7 @@ pub struct Book {
     history: Room<Entry>,
     machine: Machine,
     scheduler: Scheduler,
+    due_times: DueTimes,
 }
 
 impl Model for Book {
@@ -62,12 +63,14 @@ impl Book {
         let history = Room::with_room(alloc, limits.entries as usize + 1).map_err(|_| NoMemory)?;
         let machine = Machine::begin(alloc, &script, limits.entries)?;
         let scheduler = Scheduler::begin(alloc, &script, limits.entries)?;
+        let due_times = DueTimes::begin(alloc, &script, limits.entries)?;
         Ok(Book {
             script,
             limits,
             history,
             machine,
             scheduler,
+            due_times,
         })
     }
 
@@ -149,16 +152,14 @@ impl Book {
         self.scheduler.first_waiting(t).map(plainly)
     }
 
-    /// The least of the times that will unblock somebody, and whose it is; None where there is none. It looks at each goroutine and each timer once.
+    /// The least of the times that will unblock somebody, and whose it is; None where there is none.
     pub fn least_counted(&self) -> Option<Due>
         requires { NobodyRuns self.now }
         ensures none { IsNone result ↔ (counted self.now.script self.now.state 0 ≡ []) }
         ensures least { IfSome result (λ due. least (counted self.now.script self.now.state 0) ≡ Some due.at) }
         ensures whose { IfSome result (λ due. IsTimeOf self.now due.at due.whose) }
     {
-        let sleep = least_sleep(&self.machine);
-        let timer = least_timer(&self.script, &self.machine, &self.scheduler);
-        sooner(sleep, timer)
+        self.due_times.least(&self.script)
     }
 
     /// Takes the first of the run queue into the caller's hand, or answers how many are in workers' hands where the queue is empty.
@@ -189,6 +190,8 @@ impl Book {
             }
             Step::Waits(t) => {
                 self.scheduler.park_at(g, t);
+                self.due_times
+                    .follow_timer(&self.script, &self.machine, &self.scheduler, t);
                 Did::Parked
             }
             Step::Needs(op) => Did::Timer(op),
@@ -315,6 +318,8 @@ impl Book {
     {
         self.machine.apply(&self.script, &entry);
         self.scheduler.apply(&entry);
+        self.due_times
+            .follow(&self.script, &self.machine, &self.scheduler, &entry);
         self.history.put(entry);
         if let Some(outcome) = self.machine.due_outcome(self.limits) {
             self.machine.finish(outcome);

@@ -3,7 +3,7 @@
 
 mod answers;
 mod book;
-mod least;
+mod due_times;
 mod machine;
 mod scheduler;
 mod status;

@@ -1,6 +1,7 @@
-use Rattle.std.proofs.Common.{rules, sym, subst, ◌≡◌, ◌+◌, []}
+use Rattle.std.proofs.Common.{rules, sym, subst, ◌≡◌, ◌+◌, ◌≤◌, ℕ, None, length, []}
 use Rattle.gt_model.specs.Good.{IsGood}
 use Rattle.gt_model.specs.After.{first_state}
+use Rattle.gt_tournament.specs.Keys.{key_of}
 use Rattle.gt_book.specs.Machine.{state_of}
 use Rattle.gt_book.specs.Scheduler.{schedule_of, IsScheduler}
 use Rattle.gt_book.specs.View.{first_schedule}
@@ -17,5 +18,14 @@ invariant_of-result c =
     let room : c.in_ok-machine.machine.goroutines.spare ≡ c.args.limits.entries = search rules in
     let schedule : schedule_of c.in_ok-scheduler.scheduler ≡ first_schedule c.in_ok-script.script = search rules in
     let kept : IsScheduler c.args.limits.entries c.in_ok-scheduler.scheduler = search rules in
-    begun-kept (record { script = c.in_ok-script.script; limits = c.args.limits; history = c.in_ok-history.history; machine = c.in_ok-machine.machine; scheduler = c.in_ok-scheduler.scheduler })
-    good c.requires.limits empty spare state room schedule kept
+    let slots : c.in_ok-due_times.due_times.goroutines ≡ c.args.limits.entries + 1 = search rules in
+    let long : c.args.limits.entries + 1 + length c.in_ok-script.script.decls ≤ length c.in_ok-due_times.due_times.times = search rules in
+    let none_due : (slot : ℕ) → key_of c.in_ok-due_times.due_times.times slot ≡ None = search rules in
+    begun-kept (record {
+      script = c.in_ok-script.script;
+      limits = c.args.limits;
+      history = c.in_ok-history.history;
+      machine = c.in_ok-machine.machine;
+      scheduler = c.in_ok-scheduler.scheduler;
+      due_times = c.in_ok-due_times.due_times;
+    }) good c.requires.limits empty spare state room schedule kept slots long none_due

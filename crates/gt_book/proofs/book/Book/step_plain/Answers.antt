@@ -1,8 +1,10 @@
-use Rattle.std.proofs.Common.{rules, subst, sym, ◌≡◌, ◌+◌, ◌<◌, Some, length, arith}
+use Rattle.std.proofs.Common.{rules, subst, sym, ap, ◌∙◌, ◌≡◌, ◌+◌, ◌<◌, Some, length, arith}
 use Rattle.gt_book.specs.declared.status.RunStatus.{RunStatus}
 use Rattle.gt_book.specs.declared.step.Step.{Step}
 use Rattle.gt_book.specs.Machine.{state_of}
-use Rattle.gt_book.specs.Schedule.{status_of, parked_at}
+use Rattle.gt_book.specs.Schedule.{Schedule, status_of, parked_at}
+use Rattle.gt_book.specs.DueTimes.{with_timer}
+use Rattle.gt_book.proofs.EntryTimes.{times-parked_at}
 use Rattle.gt_book.specs.Scheduler.{schedule_of}
 use Rattle.gt_book.specs.Steps.{step_of}
 use Rattle.gt_book.specs.View.{BookView}
@@ -43,6 +45,11 @@ invariant_of-self c =
     waits-rightly c.self.inside.script (state_of c.self.inside.machine) c.args.g c.in-Waits.t c.self.invariant.lawful.good c.self.invariant.lawful.formed here in
     let in_hand : status_of (seen c.self.inside).schedule c.args.g ≡ Some RunStatus.InHand =
     subst (λ (v : BookView). status_of v.schedule c.args.g ≡ Some RunStatus.InHand) (sym c.self.view_is) c.requires in
-    kept-scheduled c.self.inside c.park_at.new.self (parked_at (schedule_of c.self.inside.scheduler) c.args.g c.in-Waits.t) c.self.invariant c.park_at.ensures.schedule
+    kept-scheduled c.self.inside c.park_at.new.self c.follow_timer.new.self (parked_at (schedule_of c.self.inside.scheduler) c.args.g c.in-Waits.t) c.self.invariant c.park_at.ensures.schedule
     (fits-parked_at c.self.inside.script (state_of c.self.inside.machine) (schedule_of c.self.inside.scheduler) c.args.g c.in-Waits.t c.self.invariant.lawful.fits in_hand waits.stands waits.made waits.within)
     (c.park_at.ensures.kept c.self.inside.limits.entries c.self.invariant.rooms.scheduler)
+    (times-parked_at c.self.inside.limits.entries c.self.inside.script (state_of c.self.inside.machine) (schedule_of c.self.inside.scheduler) c.args.g c.in-Waits.t
+    c.self.inside.due_times c.follow_timer.new.self c.self.invariant.times waits.within
+    (c.follow_timer.ensures.times
+    ∙ ap (λ (m : Schedule). with_timer c.self.inside.due_times.goroutines c.self.inside.script (state_of c.self.inside.machine) m c.in-Waits.t c.self.inside.due_times.times) c.park_at.ensures.schedule)
+    c.follow_timer.ensures.goroutines)

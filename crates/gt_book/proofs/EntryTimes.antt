@@ -1,0 +1,281 @@
+-- What an entry does to the times by slot.
+use Rattle.std.proofs.Common.{◌≡◌, ◌≢◌, ℕ, zero, suc, ◌+◌, ◌-◌, ◌<◌, ◌≤◌, List, [], ◌∷◌, ◌++◌, length, set, refl, sym, ap, subst, ◌∙◌, arith, Option, None, Some, Bool, true, false, IsSomeAnd, ◌||◌, is_some, nat_lt, slice_get, if◌then◌else◌, drop, map, add-one}
+use Rattle.gt_model.specs.declared.script.Script.{Script}
+use Rattle.gt_model.specs.declared.script.Instr.{Instr}
+use Rattle.gt_model.specs.declared.entry.Entry.{Entry}
+use Rattle.gt_model.specs.declared.entry.Party.{Party}
+use Rattle.gt_model.specs.declared.state.Timer.{Timer}
+use Rattle.gt_model.specs.declared.state.Mode.{Mode}
+use Rattle.gt_model.specs.Tables.{numbered, at, change_numbered}
+use Rattle.gt_model.specs.declared.script.Decl.{Decl}
+use Rattle.gt_model.specs.declared.entry.Outcome.{Outcome}
+use Rattle.gt_model.proofs.Lookups.{Standing, standing}
+use Rattle.gt_tournament.specs.Keys.{key_of}
+use Rattle.gt_book.specs.View.{first_schedule}
+use Rattle.gt_model.specs.State.{State, stands_at, sleeps_until, timer_at, is_func, clock_of, world_of, func_of}
+use Rattle.gt_model.specs.After.{after, first_state, moved_on, in_mode, begun, asleep, took, set_due, set_again, new_period, timer_world}
+use Rattle.gt_model.specs.Good.{IsGood}
+use Rattle.gt_model.specs.Formed.{IsFormed}
+use Rattle.gt_model.specs.Legal.{May, operation, operation_at}
+use Rattle.gt_model.proofs.Named.{names-Does}
+use Rattle.gt_queue.specs.Contents.{waiting_in, without}
+use Rattle.gt_book.specs.declared.due_times.DueTimes.{DueTimes}
+use Rattle.gt_book.specs.declared.scheduler.Scheduler.{Scheduler}
+use Rattle.gt_book.specs.Schedule.{Schedule, run_queue, queue_at, leaves, scheduled, parked_at, taken}
+use Rattle.gt_book.specs.DueTimes.{timer_time, slot_time, with_timer, followed, CanFollow, HasSleepSlot, HasSleptSlot, HasTimerSlot, AreTimes}
+use Rattle.gt_book.proofs.Lists.{waiting-set_other}
+use Rattle.gt_book.proofs.Machines.{timer_within, func_within, setting_within}
+use Rattle.gt_book.proofs.SchedulerNeeds.{numbered-le}
+use Rattle.gt_book.proofs.Fitting.{Asleep, sleeper}
+use Rattle.gt_book.proofs.Times.{until-other, until-begun, until-stands, timer-same, runs-other, at-set_other, at-change_other, times-stay, times-slept, times-timed}
+
+-- ---- the slot that an entry reaches
+
+-- a goroutine of a run of so many entries
+abbrev IsGoroutine : ℕ → ℕ → Type 0
+IsGoroutine most g = (0 < g) × (g ≤ most + 1)
+
+abbrev SleptReaches : ℕ → ℕ → Option ℕ → Type 0
+SleptReaches most g None = Unit {0}
+SleptReaches most g (Some until) = IsGoroutine most g
+
+-- an entry that changes a sleep or a timer is of a goroutine of the run, or of a declaration
+abbrev pub Reaches : ℕ → Script → Entry → Type 0
+Reaches most script (Entry.Say g k) = Unit {0}
+Reaches most script (Entry.Now g at) = Unit {0}
+Reaches most script (Entry.Go g child f) = Unit {0}
+Reaches most script (Entry.End g) = Unit {0}
+Reaches most script (Entry.Sleep g until) = SleptReaches most g until
+Reaches most script (Entry.Wake g) = IsGoroutine most g
+Reaches most script (Entry.New g t due) = t < length script.decls
+Reaches most script (Entry.Stop g t was) = t < length script.decls
+Reaches most script (Entry.Reset g t was due) = t < length script.decls
+Reaches most script (Entry.TRecv p t due next) = t < length script.decls
+Reaches most script (Entry.FireFunc t child) = t < length script.decls
+Reaches most script (Entry.Clock world at) = Unit {0}
+Reaches most script (Entry.Panic p reason) = Unit {0}
+Reaches most script (Entry.Finish outcome) = Unit {0}
+
+number-some : {X : Type 0} (xs : List X) (g : ℕ) (x : X) → numbered xs g ≡ Some x → 0 < g
+number-some xs zero x e = cc
+number-some xs (suc i) x e = omega arith
+
+standing-goroutine : (most : ℕ) (script : Script) (s : State) (g : ℕ) (i : Instr) → length s.goroutines ≤ most + 1 → stands_at script s g ≡ Some i → IsGoroutine most g
+standing-goroutine most script s g i few stands =
+    let st : Standing script s g i = standing script s g i stands in
+    let low : g ≤ length s.goroutines = numbered-le s.goroutines g st.who st.there in
+    (number-some s.goroutines g st.who st.there, omega arith)
+
+slept-reaches : (most : ℕ) (script : Script) (s : State) (g : ℕ) (i : Instr) (until : Option ℕ) → length s.goroutines ≤ most + 1 → stands_at script s g ≡ Some i → SleptReaches most g until
+slept-reaches most script s g i None few stands = tt
+slept-reaches most script s g i (Some until) few stands = standing-goroutine most script s g i few stands
+
+sleeping-goroutine : (most : ℕ) (script : Script) (s : State) (g : ℕ) (P : ℕ → Type 0) → length s.goroutines ≤ most + 1 → IsSomeAnd (sleeps_until s g) P → IsGoroutine most g
+sleeping-goroutine most script s g P few sleeps =
+    let a : Asleep s g = sleeper s g P sleeps in
+    let low : g ≤ length s.goroutines = numbered-le s.goroutines g a.who a.there in
+    (number-some s.goroutines g a.who a.there, omega arith)
+
+declared : (script : Script) (s : State) (t : ℕ) → IsFormed script s → t < length s.timers → t < length script.decls
+declared script s t formed h = subst (λ n. t < n) formed.timers h
+
+pub reaches-May : (most : ℕ) (script : Script) (s : State) (e : Entry) → IsGood script → IsFormed script s → length s.goroutines ≤ most + 1 → May script s e → Reaches most script e
+reaches-May most script s (Entry.Say g k) good formed few may = tt
+reaches-May most script s (Entry.Now g at) good formed few may = tt
+reaches-May most script s (Entry.Go g child f) good formed few may = tt
+reaches-May most script s (Entry.End g) good formed few may = tt
+reaches-May most script s (Entry.Sleep g until) good formed few may = slept-reaches most script s g (Instr.Sleep may.0) until few may.1.stands
+reaches-May most script s (Entry.Wake g) good formed few may = sleeping-goroutine most script s g (λ until. until ≤ clock_of s g) few may
+reaches-May most script s (Entry.New g t due) good formed few may =
+    declared script s t formed (setting_within script s t formed (names-Does script s g (Instr.New t may.0) good may.1).0)
+reaches-May most script s (Entry.Stop g t was) good formed few may =
+    declared script s t formed (setting_within script s t formed (names-Does script s g (Instr.Stop t) good may.0))
+reaches-May most script s (Entry.Reset g t was due) good formed few may =
+    declared script s t formed (setting_within script s t formed (names-Does script s g (Instr.Reset t may.0) good may.1).0)
+reaches-May most script s (Entry.TRecv p t due next) good formed few may = declared script s t formed (timer_within script s t formed may.1)
+reaches-May most script s (Entry.FireFunc t child) good formed few may = declared script s t formed (func_within script s t formed may.0)
+reaches-May most script s (Entry.Clock world to) good formed few may = tt
+reaches-May most script s (Entry.Panic p reason) good formed few may = tt
+reaches-May most script s (Entry.Finish outcome) good formed few may = tt
+
+-- ---- what the times need
+
+pub timer-slot : (most : ℕ) (script : Script) (d : DueTimes) (m : Scheduler) (t : ℕ) → d.goroutines ≡ most + 1 → most + 1 + length script.decls ≤ length d.times
+    → most ≤ 200000 → length script.decls ≤ 4096 → length m.queues.queues ≡ length script.decls + 1 → t < length script.decls → HasTimerSlot d m t
+timer-slot most script d m t goroutines room limit names queues within =
+    record { room = omega arith; small = omega arith; queue = omega arith; few = omega arith }
+
+sleep-slot : (most : ℕ) (script : Script) (d : DueTimes) (g : ℕ) → most + 1 + length script.decls ≤ length d.times → IsGoroutine most g → HasSleepSlot d g
+sleep-slot most script d g room h = let some : 0 < g = h.0 in let low : g ≤ most + 1 = h.1 in record { number = some; room = omega arith }
+
+slept-slot : (most : ℕ) (script : Script) (d : DueTimes) (g : ℕ) (until : Option ℕ) → most + 1 + length script.decls ≤ length d.times → SleptReaches most g until → HasSleptSlot d g until
+slept-slot most script d g None room h = tt
+slept-slot most script d g (Some until) room h = sleep-slot most script d g room h
+
+pub can_follow-reaches : (most : ℕ) (script : Script) (d : DueTimes) (m : Scheduler) (e : Entry) → d.goroutines ≡ most + 1 → most + 1 + length script.decls ≤ length d.times
+    → most ≤ 200000 → length script.decls ≤ 4096 → length m.queues.queues ≡ length script.decls + 1 → Reaches most script e → CanFollow d m e
+can_follow-reaches most script d m (Entry.Say g k) goroutines room limit names queues h = tt
+can_follow-reaches most script d m (Entry.Now g at) goroutines room limit names queues h = tt
+can_follow-reaches most script d m (Entry.Go g child f) goroutines room limit names queues h = tt
+can_follow-reaches most script d m (Entry.End g) goroutines room limit names queues h = tt
+can_follow-reaches most script d m (Entry.Sleep g until) goroutines room limit names queues h = slept-slot most script d g until room h
+can_follow-reaches most script d m (Entry.Wake g) goroutines room limit names queues h = sleep-slot most script d g room h
+can_follow-reaches most script d m (Entry.New g t due) goroutines room limit names queues h = timer-slot most script d m t goroutines room limit names queues h
+can_follow-reaches most script d m (Entry.Stop g t was) goroutines room limit names queues h = timer-slot most script d m t goroutines room limit names queues h
+can_follow-reaches most script d m (Entry.Reset g t was due) goroutines room limit names queues h = timer-slot most script d m t goroutines room limit names queues h
+can_follow-reaches most script d m (Entry.TRecv p t due next) goroutines room limit names queues h = timer-slot most script d m t goroutines room limit names queues h
+can_follow-reaches most script d m (Entry.FireFunc t child) goroutines room limit names queues h = timer-slot most script d m t goroutines room limit names queues h
+can_follow-reaches most script d m (Entry.Clock world to) goroutines room limit names queues h = tt
+can_follow-reaches most script d m (Entry.Panic p reason) goroutines room limit names queues h = tt
+can_follow-reaches most script d m (Entry.Finish outcome) goroutines room limit names queues h = tt
+
+-- ---- the times after an entry
+
+-- who stands at a receive stands at an instruction
+at_operation : (script : Script) (s : State) (p : Party) (t : ℕ) → operation_at script s p ≡ Some t → (i : Instr) × (stands_at script s p.g ≡ Some i)
+at_operation script s p t e =
+    elim (stands_at script s p.g) as (λ o. (elim o [ None ↦ None | Some i ↦ operation i p.case_no ]) ≡ Some t → (i : Instr) × (o ≡ Some i)) [
+      | None ↦ λ q. cc
+      | Some i ↦ λ q. (i, refl)
+    ] e
+
+-- a party leaves the queue of a timer for the run queue
+served-other : (queues : List (List ℕ)) (g t u : ℕ) (xs : List ℕ) → u ≢ t → waiting_in (set (leaves queues (queue_at t) g) run_queue xs) (queue_at u) ≡ waiting_in queues (queue_at u)
+served-other queues g t u xs n =
+    runs-other (leaves queues (queue_at t) g) u xs
+    ∙ waiting-set_other queues (queue_at u) (queue_at t) (without (waiting_in queues (queue_at t)) g) (λ e. n (omega arith))
+
+times-slept_entered : (most : ℕ) (script : Script) (s : State) (m : Schedule) (g : ℕ) (until : Option ℕ) (d e : DueTimes) → AreTimes most script s m d
+    → May script s (Entry.Sleep g until) → Reaches most script (Entry.Sleep g until)
+    → e.times ≡ followed d.goroutines script (after script s (Entry.Sleep g until)) (scheduled m (Entry.Sleep g until)) (Entry.Sleep g until) d.times
+    → e.goroutines ≡ d.goroutines → AreTimes most script (after script s (Entry.Sleep g until)) (scheduled m (Entry.Sleep g until)) e
+times-slept_entered most script s m g None d e are may reach times goroutines =
+    times-stay most script s (after script s (Entry.Sleep g None)) m m d e are
+    (record { sleeps = λ h. until-stands script s g h (Instr.Sleep may.0) (asleep script None) may.1.stands (λ r. refl); timers = λ t. refl }) times goroutines
+times-slept_entered most script s m g (Some until) d e are may reach times goroutines =
+    times-slept most script s (after script s (Entry.Sleep g (Some until))) m (scheduled m (Entry.Sleep g (Some until))) g d e are
+    (record { sleeps = λ h n. until-other s.goroutines g h (asleep script (Some until)) n; timers = λ t. refl }) reach.0 reach.1 times goroutines
+
+pub times-entered : (most : ℕ) (script : Script) (s : State) (m : Schedule) (x : Entry) (d e : DueTimes) → AreTimes most script s m d → May script s x → Reaches most script x
+    → e.times ≡ followed d.goroutines script (after script s x) (scheduled m x) x d.times → e.goroutines ≡ d.goroutines → AreTimes most script (after script s x) (scheduled m x) e
+times-entered most script s m (Entry.Say g k) d e are may reach times goroutines =
+    times-stay most script s (after script s (Entry.Say g k)) m m d e are
+    (record { sleeps = λ h. until-stands script s g h (Instr.Say k) (moved_on script) may.stands (λ r. refl); timers = λ t. refl }) times goroutines
+times-entered most script s m (Entry.Now g at) d e are may reach times goroutines =
+    times-stay most script s (after script s (Entry.Now g at)) m m d e are
+    (record { sleeps = λ h. until-stands script s g h Instr.Now (moved_on script) may.0.stands (λ r. refl); timers = λ t. refl }) times goroutines
+times-entered most script s m (Entry.Go g child f) d e are may reach times goroutines =
+    times-stay most script s (after script s (Entry.Go g child f)) m (scheduled m (Entry.Go g child f)) d e are
+    (record {
+      sleeps = λ h. until-begun (change_numbered s.goroutines g (moved_on script)) (begun script (world_of s g) f) h refl
+          ∙ until-stands script s g h (Instr.Go f) (moved_on script) may.0.stands (λ r. refl);
+      timers = λ t. timer-same script s (after script s (Entry.Go g child f)) m (scheduled m (Entry.Go g child f)) t refl (runs-other m.queues t (waiting_in m.queues run_queue ++ child ∷ []));
+    }) times goroutines
+times-entered most script s m (Entry.End g) d e are may reach times goroutines =
+    times-stay most script s (after script s (Entry.End g)) m (scheduled m (Entry.End g)) d e are
+    (record { sleeps = λ h. until-stands script s g h Instr.Finish (in_mode Mode.Ended) may.stands (λ r. refl); timers = λ t. refl }) times goroutines
+times-entered most script s m (Entry.Sleep g until) d e are may reach times goroutines = times-slept_entered most script s m g until d e are may reach times goroutines
+times-entered most script s m (Entry.Wake g) d e are may reach times goroutines =
+    times-slept most script s (after script s (Entry.Wake g)) m (scheduled m (Entry.Wake g)) g d e are
+    (record {
+      sleeps = λ h n. until-other s.goroutines g h (moved_on script) n;
+      timers = λ t. timer-same script s (after script s (Entry.Wake g)) m (scheduled m (Entry.Wake g)) t refl (runs-other m.queues t (waiting_in m.queues run_queue ++ g ∷ []));
+    }) reach.0 reach.1 times goroutines
+times-entered most script s m (Entry.New g t due) d e are may reach times goroutines =
+    times-timed most script s (after script s (Entry.New g t due)) m m t d e are
+    (record {
+      sleeps = λ h. until-stands script s g h (Instr.New t may.0) (moved_on script) may.1.stands (λ r. refl);
+      timers = λ u n. timer-same script s (after script s (Entry.New g t due)) m m u
+          (at-set_other s.timers t u (Some (record { world = world_of s g; due = Some due; period = new_period script s g t })) n) refl;
+    }) reach times goroutines
+times-entered most script s m (Entry.Stop g t was) d e are may reach times goroutines =
+    times-timed most script s (after script s (Entry.Stop g t was)) m m t d e are
+    (record {
+      sleeps = λ h. until-stands script s g h (Instr.Stop t) (moved_on script) may.0.stands (λ r. refl);
+      timers = λ u n. timer-same script s (after script s (Entry.Stop g t was)) m m u (at-change_other s.timers t u (set_due None) n) refl;
+    }) reach times goroutines
+times-entered most script s m (Entry.Reset g t was due) d e are may reach times goroutines =
+    times-timed most script s (after script s (Entry.Reset g t was due)) m m t d e are
+    (record {
+      sleeps = λ h. until-stands script s g h (Instr.Reset t may.0) (moved_on script) may.1.stands (λ r. refl);
+      timers = λ u n. timer-same script s (after script s (Entry.Reset g t was due)) m m u (at-change_other s.timers t u (set_again due (new_period script s g t)) n) refl;
+    }) reach times goroutines
+times-entered most script s m (Entry.TRecv p t due next) d e are may reach times goroutines =
+    let at : (i : Instr) × (stands_at script s p.g ≡ Some i) = at_operation script s p t may.0.stands in
+    times-timed most script s (after script s (Entry.TRecv p t due next)) m (scheduled m (Entry.TRecv p t due next)) t d e are
+    (record {
+      sleeps = λ h. until-stands script s p.g h at.0 (took script p.case_no) at.1 (λ r. refl);
+      timers = λ u n. timer-same script s (after script s (Entry.TRecv p t due next)) m (scheduled m (Entry.TRecv p t due next)) u (at-change_other s.timers t u (set_due next) n)
+          (served-other m.queues p.g t u (waiting_in (leaves m.queues (queue_at t) p.g) run_queue ++ p.g ∷ []) n);
+    }) reach times goroutines
+times-entered most script s m (Entry.FireFunc t child) d e are may reach times goroutines =
+    times-timed most script s (after script s (Entry.FireFunc t child)) m (scheduled m (Entry.FireFunc t child)) t d e are
+    (record {
+      sleeps = λ h. until-begun s.goroutines (begun script (timer_world s t) (func_of script t)) h refl;
+      timers = λ u n. timer-same script s (after script s (Entry.FireFunc t child)) m (scheduled m (Entry.FireFunc t child)) u (at-change_other s.timers t u (set_due None) n)
+          (runs-other m.queues u (waiting_in m.queues run_queue ++ child ∷ []));
+    }) reach times goroutines
+times-entered most script s m (Entry.Clock world to) d e are may reach times goroutines =
+    times-stay most script s (after script s (Entry.Clock world to)) m m d e are (record { sleeps = λ g. refl; timers = λ t. refl }) times goroutines
+times-entered most script s m (Entry.Panic p reason) d e are may reach times goroutines =
+    times-stay most script s (after script s (Entry.Panic p reason)) m m d e are (record { sleeps = λ g. refl; timers = λ t. refl }) times goroutines
+times-entered most script s m (Entry.Finish outcome) d e are may reach times goroutines = absurd may
+
+-- the end of a run changes no time
+pub times-finished : (most : ℕ) (script : Script) (s next : State) (m : Schedule) (outcome : Outcome) (d : DueTimes) → next ≡ after script s (Entry.Finish outcome)
+    → AreTimes most script s m d → AreTimes most script next m d
+times-finished most script s next m outcome d is are =
+    subst (λ (x : State). AreTimes most script x m d) (sym is)
+    (times-stay most script s (after script s (Entry.Finish outcome)) m m d d are (record { sleeps = λ g. refl; timers = λ t. refl }) refl refl)
+
+-- ---- changes of the schedule alone
+
+-- a goroutine is taken
+pub times-taken : (most : ℕ) (script : Script) (s : State) (m : Schedule) (g : ℕ) (d : DueTimes) → AreTimes most script s m d → AreTimes most script s (taken m g) d
+times-taken most script s m g d are =
+    times-stay most script s s m (taken m g) d d are
+    (record { sleeps = λ h. refl; timers = λ t. timer-same script s s m (taken m g) t refl (runs-other m.queues t (drop 1 (waiting_in m.queues run_queue))) }) refl refl
+
+-- a goroutine waits at a timer
+pub times-parked_at : (most : ℕ) (script : Script) (s : State) (m : Schedule) (g t : ℕ) (d e : DueTimes) → AreTimes most script s m d → t < length script.decls
+    → e.times ≡ with_timer d.goroutines script s (parked_at m g t) t d.times → e.goroutines ≡ d.goroutines → AreTimes most script s (parked_at m g t) e
+times-parked_at most script s m g t d e are within times goroutines =
+    times-timed most script s s m (parked_at m g t) t d e are
+    (record {
+      sleeps = λ h. refl;
+      timers = λ u n. timer-same script s s m (parked_at m g t) u refl
+          (waiting-set_other m.queues (queue_at u) (queue_at t) (waiting_in m.queues (queue_at t) ++ g ∷ []) (λ e. n (omega arith)));
+    }) within times goroutines
+
+-- ---- the first times
+
+pub times-first : (most : ℕ) (script : Script) (d : DueTimes) → d.goroutines ≡ most + 1 → most + 1 + length script.decls ≤ length d.times → ((slot : ℕ) → key_of d.times slot ≡ None)
+    → AreTimes most script (first_state script) (first_schedule script) d
+times-first most script d goroutines room empty = record {
+  goroutines = goroutines;
+  room = room;
+  each = λ slot. empty slot ∙ sym (nothing slot);
+}
+  where
+    unmade : (ds : List Decl) (t : ℕ) → at (map {B = Option Timer} (λ (d : Decl). None) ds) t ≡ None
+    unmade [] t = refl
+    unmade (d ∷ ds) zero = refl
+    unmade (d ∷ ds) (suc t) = unmade ds t
+
+    awake : (slot : ℕ) → sleeps_until (first_state script) (suc slot) ≡ None
+    awake zero = refl
+    awake (suc slot) = refl
+
+    unset : (b : Bool) (o : Option Timer) → o ≡ None → (if b then (elim o [ None ↦ None | Some r ↦ r.due ]) else None) ≡ None
+    unset false o e = refl
+    unset true o e = ap (λ (o : Option Timer). elim o as (λ x. Option ℕ) [ None ↦ None | Some r ↦ r.due ]) e
+
+    nothing : (slot : ℕ) → slot_time (most + 1) script (first_state script) (first_schedule script) slot ≡ None
+    nothing slot =
+        let asleep : sleeps_until (first_state script) (slot + 1) ≡ None = rw add-one (awake slot) in
+        elim (nat_lt slot (most + 1))
+        as (λ (q : Bool). (if q then sleeps_until (first_state script) (slot + 1) else timer_time script (first_state script) (first_schedule script) (slot - (most + 1))) ≡ None) [
+          | true ↦ asleep
+          | false ↦ unset (is_func script (slot - (most + 1)) || is_some (slice_get (waiting_in (first_schedule script).queues (queue_at (slot - (most + 1)))) 0))
+              (timer_at (first_state script) (slot - (most + 1))) (unmade script.decls (slot - (most + 1)))
+        ]

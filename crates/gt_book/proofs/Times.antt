@@ -1,0 +1,210 @@
+-- The times by slot, after an entry and after a change of the schedule.
+use Rattle.std.proofs.Common.{◌≡◌, ◌≢◌, ℕ, ◌+◌, ◌-◌, ◌<◌, ◌≤◌, ◌||◌, List, [], ◌∷◌, ◌++◌, length, length-set, set, get_or, unwrap_or, refl, sym, ap, subst, ◌∙◌, arith, Option, None, Some, Bool, true, false, is_some, nat_lt, slice_get, inl, inr, if◌then◌else◌}
+use Rattle.std.specs.Option.{option_map}
+use Rattle.std.proofs.lemmas.Bool.{cases_eq, ltb-true, ltb-false, lt-ltb}
+use Rattle.std.proofs.lemmas.List.{get_or-set_same, get_or-set_other}
+use Rattle.std.proofs.lemmas.Option.{unwrap_or-slice_get}
+use Rattle.gt_model.specs.declared.script.Script.{Script}
+use Rattle.gt_model.specs.declared.script.Instr.{Instr}
+use Rattle.gt_model.specs.declared.state.Goroutine.{Goroutine}
+use Rattle.gt_model.specs.declared.state.Timer.{Timer}
+use Rattle.gt_model.specs.Tables.{numbered, at, flatten, change, change_numbered}
+use Rattle.gt_model.specs.State.{State, stands_at, timer_at, until_of, sleeps_until, due_of, is_func}
+use Rattle.gt_model.proofs.Lookups.{Standing, standing}
+use Rattle.gt_queue.specs.Contents.{waiting_in}
+use Rattle.gt_tournament.specs.Keys.{key_of}
+use Rattle.gt_book.specs.declared.due_times.DueTimes.{DueTimes}
+use Rattle.gt_book.specs.Schedule.{Schedule, run_queue, queue_at}
+use Rattle.gt_book.specs.DueTimes.{timer_time, slot_time, with_sleep, with_timer, AreTimes}
+use Rattle.gt_book.proofs.Lists.{waiting-set_other, numbered-change_same, numbered-change_other, numbered-push_same, numbered-push_other, numbered-next, change-other}
+use Rattle.gt_book.proofs.Fitting.{no_run_queue}
+
+-- ---- slots of a list
+
+key_of-unwrap : (o : Option (Option ℕ)) → (elim o [ None ↦ None | Some key ↦ key ]) ≡ unwrap_or o None
+key_of-unwrap None = refl
+key_of-unwrap (Some key) = refl
+
+key_of-get_or : (keys : List (Option ℕ)) (i : ℕ) → key_of keys i ≡ get_or keys i None
+key_of-get_or keys i = key_of-unwrap (slice_get keys i) ∙ unwrap_or-slice_get keys i None
+
+pub key_of-set_same : (keys : List (Option ℕ)) (i : ℕ) (key : Option ℕ) → i < length keys → key_of (set keys i key) i ≡ key
+key_of-set_same keys i key h = key_of-get_or (set keys i key) i ∙ get_or-set_same keys i key None h
+
+key_of-set_other : (keys : List (Option ℕ)) (i j : ℕ) (key : Option ℕ) → j ≢ i → key_of (set keys i key) j ≡ key_of keys j
+key_of-set_other keys i j key n = key_of-get_or (set keys i key) j ∙ (get_or-set_other keys i j key None n ∙ sym (key_of-get_or keys j))
+
+flatten-unwrap : {X : Type 0} (o : Option (Option X)) → flatten o ≡ unwrap_or o None
+flatten-unwrap None = refl
+flatten-unwrap (Some x) = refl
+
+at-get_or : {X : Type 0} (xs : List (Option X)) (i : ℕ) → at xs i ≡ get_or xs i None
+at-get_or xs i = flatten-unwrap (slice_get xs i) ∙ unwrap_or-slice_get xs i None
+
+pub at-set_other : {X : Type 0} (xs : List (Option X)) (i j : ℕ) (x : Option X) → j ≢ i → at (set xs i x) j ≡ at xs j
+at-set_other xs i j x n = at-get_or (set xs i x) j ∙ (get_or-set_other xs i j x None n ∙ sym (at-get_or xs j))
+
+pub at-change_other : {X : Type 0} (xs : List (Option X)) (i j : ℕ) (f : Option X → Option X) → j ≢ i → at (change xs i f) j ≡ at xs j
+at-change_other xs i j f n = ap flatten (change-other xs i j f n)
+
+-- ---- the end of a sleep, by the list of goroutines
+
+abbrev until_in : List Goroutine → ℕ → Option ℕ
+until_in gs g = elim (option_map (λ (r : Goroutine). r.mode) (numbered gs g)) [ None ↦ None | Some mode ↦ until_of mode ]
+
+abbrev mode_until : Option Goroutine → Option ℕ
+mode_until o = elim (option_map (λ (r : Goroutine). r.mode) o) [ None ↦ None | Some mode ↦ until_of mode ]
+
+-- another goroutine is changed
+pub until-other : (gs : List Goroutine) (g h : ℕ) (f : Goroutine → Goroutine) → h ≢ g → until_in (change_numbered gs g f) h ≡ until_in gs h
+until-other gs g h f n = ap mode_until (numbered-change_other gs g h f n)
+
+-- a goroutine that does not sleep is changed, and does not sleep then
+pub until-awake : (gs : List Goroutine) (g h : ℕ) (f : Goroutine → Goroutine) (r : Goroutine) → numbered gs g ≡ Some r → until_of r.mode ≡ None → until_of (f r).mode ≡ None
+    → until_in (change_numbered gs g f) h ≡ until_in gs h
+until-awake gs g h f r there before later =
+    elim (cases_eq h g) [
+      | inl is ↦ subst (λ h. until_in (change_numbered gs g f) h ≡ until_in gs h) (sym is)
+          (ap mode_until (numbered-change_same gs g f r there) ∙ (later ∙ sym (ap mode_until there ∙ before)))
+      | inr other ↦ until-other gs g h f other
+    ]
+
+-- a goroutine begins
+pub until-begun : (gs : List Goroutine) (r : Goroutine) (h : ℕ) → until_of r.mode ≡ None → until_in (gs ++ r ∷ []) h ≡ until_in gs h
+until-begun gs r h awake =
+    elim (cases_eq h (length gs + 1)) [
+      | inl is ↦ ap mode_until (numbered-push_same gs r h is) ∙ (awake ∙ sym (ap mode_until (numbered-next gs h is)))
+      | inr other ↦ ap mode_until (numbered-push_other gs r h other)
+    ]
+
+-- who stands at an instruction moves on, or ends
+pub until-stands : (script : Script) (s : State) (g h : ℕ) (i : Instr) (f : Goroutine → Goroutine) → stands_at script s g ≡ Some i → ((r : Goroutine) → until_of (f r).mode ≡ None)
+    → until_in (change_numbered s.goroutines g f) h ≡ until_in s.goroutines h
+until-stands script s g h i f stands awake =
+    let st : Standing script s g i = standing script s g i stands in
+    until-awake s.goroutines g h f st.who st.there (ap until_of st.at) (awake st.who)
+
+-- ---- the time of a timer
+
+pub timer-same : (script : Script) (s next : State) (m n : Schedule) (t : ℕ) → timer_at next t ≡ timer_at s t → waiting_in n.queues (queue_at t) ≡ waiting_in m.queues (queue_at t)
+    → timer_time script next n t ≡ timer_time script s m t
+timer-same script s next m n t timer waiting =
+    ap (λ (o : Option Timer). if is_func script t || is_some (slice_get (waiting_in n.queues (queue_at t)) 0) then (elim o [ None ↦ None | Some r ↦ r.due ]) else None) timer
+    ∙ ap (λ (xs : List ℕ). if is_func script t || is_some (slice_get xs 0) then due_of s t else None) waiting
+
+-- a change of the run queue
+pub runs-other : (queues : List (List ℕ)) (t : ℕ) (xs : List ℕ) → waiting_in (set queues run_queue xs) (queue_at t) ≡ waiting_in queues (queue_at t)
+runs-other queues t xs = waiting-set_other queues (queue_at t) run_queue xs (no_run_queue t)
+
+-- ---- all slots
+
+pub record Stay (script : Script) (s next : State) (m n : Schedule) : Type 0 where
+  pub sleeps : (g : ℕ) → sleeps_until next g ≡ sleeps_until s g
+  pub timers : (t : ℕ) → timer_time script next n t ≡ timer_time script s m t
+
+-- all but the sleep of one goroutine
+pub record StayButSleep (script : Script) (s next : State) (m n : Schedule) (g : ℕ) : Type 0 where
+  pub sleeps : (h : ℕ) → h ≢ g → sleeps_until next h ≡ sleeps_until s h
+  pub timers : (t : ℕ) → timer_time script next n t ≡ timer_time script s m t
+
+-- all but one timer
+pub record StayButTimer (script : Script) (s next : State) (m n : Schedule) (t : ℕ) : Type 0 where
+  pub sleeps : (g : ℕ) → sleeps_until next g ≡ sleeps_until s g
+  pub timers : (u : ℕ) → u ≢ t → timer_time script next n u ≡ timer_time script s m u
+
+-- what a slot's time is, for a sleep and for a timer
+pub slot-sleep : (n : ℕ) (script : Script) (s : State) (m : Schedule) (slot : ℕ) → slot < n → slot_time n script s m slot ≡ sleeps_until s (slot + 1)
+slot-sleep n script s m slot h = ap (λ (b : Bool). if b then sleeps_until s (slot + 1) else timer_time script s m (slot - n)) (lt-ltb slot n h)
+
+pub slot-timer : (n : ℕ) (script : Script) (s : State) (m : Schedule) (slot : ℕ) → n ≤ slot → slot_time n script s m slot ≡ timer_time script s m (slot - n)
+slot-timer n script s m slot h = ap (λ (b : Bool). if b then sleeps_until s (slot + 1) else timer_time script s m (slot - n)) (not_below slot n h)
+  where
+    not_below : (a b : ℕ) → b ≤ a → nat_lt a b ≡ false
+    not_below a b h = elim (nat_lt a b) as (λ q. nat_lt a b ≡ q → q ≡ false) [ true ↦ λ e. (let low : a < b = ltb-true a b e in absurd (omega arith)) | false ↦ λ e. refl ] refl
+
+slot-same : (n : ℕ) (script : Script) (s next : State) (m k : Schedule) (slot : ℕ) → sleeps_until next (slot + 1) ≡ sleeps_until s (slot + 1)
+    → timer_time script next k (slot - n) ≡ timer_time script s m (slot - n) → slot_time n script next k slot ≡ slot_time n script s m slot
+slot-same n script s next m k slot sleep timer =
+    ap (λ o. if nat_lt slot n then o else timer_time script next k (slot - n)) sleep
+    ∙ ap (λ o. if nat_lt slot n then sleeps_until s (slot + 1) else o) timer
+
+-- ---- the times then
+
+pub times-stay : (most : ℕ) (script : Script) (s next : State) (m n : Schedule) (d e : DueTimes) → AreTimes most script s m d → Stay script s next m n
+    → e.times ≡ d.times → e.goroutines ≡ d.goroutines → AreTimes most script next n e
+times-stay most script s next m n d e are stay times goroutines = record {
+  goroutines = goroutines ∙ are.goroutines;
+  room = rw times are.room;
+  each = λ slot. ap (λ keys. key_of keys slot) times
+      ∙ (are.each slot ∙ sym (slot-same (most + 1) script s next m n slot (stay.sleeps (slot + 1)) (stay.timers (slot - (most + 1)))));
+}
+
+times-set : (d e : DueTimes) (i : ℕ) (key : Option ℕ) (n : ℕ) → e.times ≡ set d.times i key → n ≤ length d.times → n ≤ length e.times
+times-set d e i key n is h = let same : length e.times ≡ length d.times = ap length is ∙ length-set d.times i key in omega arith
+
+pub times-slept : (most : ℕ) (script : Script) (s next : State) (m n : Schedule) (g : ℕ) (d e : DueTimes) → AreTimes most script s m d → StayButSleep script s next m n g
+    → 0 < g → g ≤ most + 1 → e.times ≡ with_sleep next g d.times → e.goroutines ≡ d.goroutines → AreTimes most script next n e
+times-slept most script s next m n g d e are stay some few times goroutines = record {
+  goroutines = goroutines ∙ are.goroutines;
+  room = times-set d e (g - 1) (sleeps_until next g) (most + 1 + length script.decls) times are.room;
+  each = λ slot. ap (λ keys. key_of keys slot) times ∙ at slot;
+}
+  where
+    room : g - 1 < length d.times
+    room = let all : most + 1 + length script.decls ≤ length d.times = are.room in omega arith
+
+    own : (slot : ℕ) → slot ≡ g - 1 → key_of (with_sleep next g d.times) slot ≡ slot_time (most + 1) script next n slot
+    own slot is =
+        let number : slot + 1 ≡ g = omega arith in
+        let below : slot < most + 1 = omega arith in
+        ap (key_of (with_sleep next g d.times)) is
+        ∙ (key_of-set_same d.times (g - 1) (sleeps_until next g) room
+        ∙ (ap (sleeps_until next) (sym number) ∙ sym (slot-sleep (most + 1) script next n slot below)))
+
+    at : (slot : ℕ) → key_of (with_sleep next g d.times) slot ≡ slot_time (most + 1) script next n slot
+    at slot =
+        elim (cases_eq slot (g - 1)) [
+          | inl is ↦ own slot is
+          | inr other ↦
+              key_of-set_other d.times (g - 1) slot (sleeps_until next g) other
+              ∙ (are.each slot
+              ∙ sym (slot-same (most + 1) script s next m n slot (stay.sleeps (slot + 1) (λ e. other (omega arith))) (stay.timers (slot - (most + 1)))))
+        ]
+
+pub times-timed : (most : ℕ) (script : Script) (s next : State) (m n : Schedule) (t : ℕ) (d e : DueTimes) → AreTimes most script s m d → StayButTimer script s next m n t
+    → t < length script.decls → e.times ≡ with_timer d.goroutines script next n t d.times → e.goroutines ≡ d.goroutines → AreTimes most script next n e
+times-timed most script s next m n t d e are stay within times goroutines = record {
+  goroutines = goroutines ∙ are.goroutines;
+  room = times-set d e (d.goroutines + t) (timer_time script next n t) (most + 1 + length script.decls) times are.room;
+  each = λ slot. ap (λ keys. key_of keys slot) (times ∙ ap (λ k. with_timer k script next n t d.times) are.goroutines) ∙ at slot;
+}
+  where
+    room : most + 1 + t < length d.times
+    room = let all : most + 1 + length script.decls ≤ length d.times = are.room in omega arith
+
+    own : (slot : ℕ) → slot ≡ most + 1 + t → key_of (with_timer (most + 1) script next n t d.times) slot ≡ slot_time (most + 1) script next n slot
+    own slot is =
+        let behind : most + 1 ≤ slot = omega arith in
+        let place : slot - (most + 1) ≡ t = omega arith in
+        ap (key_of (with_timer (most + 1) script next n t d.times)) is
+        ∙ (key_of-set_same d.times (most + 1 + t) (timer_time script next n t) room
+        ∙ (ap (timer_time script next n) (sym place) ∙ sym (slot-timer (most + 1) script next n slot behind)))
+
+    other : (slot : ℕ) → slot ≢ most + 1 + t → slot_time (most + 1) script next n slot ≡ slot_time (most + 1) script s m slot
+    other slot differs =
+        elim (nat_lt slot (most + 1)) as (λ q. nat_lt slot (most + 1) ≡ q → slot_time (most + 1) script next n slot ≡ slot_time (most + 1) script s m slot) [
+          | true ↦ λ e.
+              let below : slot < most + 1 = ltb-true slot (most + 1) e in
+              slot-sleep (most + 1) script next n slot below ∙ (stay.sleeps (slot + 1) ∙ sym (slot-sleep (most + 1) script s m slot below))
+          | false ↦ λ e.
+              let behind : most + 1 ≤ slot = ltb-false slot (most + 1) e in
+              slot-timer (most + 1) script next n slot behind
+              ∙ (stay.timers (slot - (most + 1)) (λ e. differs (omega arith)) ∙ sym (slot-timer (most + 1) script s m slot behind))
+        ] refl
+
+    at : (slot : ℕ) → key_of (with_timer (most + 1) script next n t d.times) slot ≡ slot_time (most + 1) script next n slot
+    at slot =
+        elim (cases_eq slot (most + 1 + t)) [
+          | inl is ↦ own slot is
+          | inr differs ↦ key_of-set_other d.times (most + 1 + t) slot (timer_time script next n t) differs ∙ (are.each slot ∙ sym (other slot differs))
+        ]

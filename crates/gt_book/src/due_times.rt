@@ -1,0 +1,136 @@
+//! The times that will unblock somebody, with the least of them at hand.
+
+ghost use Rattle.std.specs.Prelude.{◌≡◌, ◌+◌, ◌<◌, ◌≤◌, ◌^◌, None, IfOk, length};
+ghost use Rattle.gt_model.specs.Good.{IsGood};
+ghost use Rattle.gt_model.specs.State as at;
+ghost use Rattle.gt_tournament.specs.Keys.{key_of};
+ghost use Rattle.gt_book.specs.Machine.{state_of};
+ghost use Rattle.gt_book.specs.Schedule.{queue_at};
+ghost use Rattle.gt_book.specs.Scheduler.{schedule_of};
+ghost use Rattle.gt_book.specs.DueTimes as due;
+
+use crate::answers::{Due, Whose};
+use crate::machine::Machine;
+use crate::scheduler::Scheduler;
+use gt_model::{Decl, Entry, NoMemory, Script, What};
+use gt_tournament::Tournament;
+use std::alloc::Global;
+
+/// The ends of sleeps and the due times of timers. A channel timer stands here only while somebody waits at it.
+#[derive(Drop)]
+pub struct DueTimes {
+    /// How many goroutines there can be.
+    pub goroutines: u32,
+    /// By slot: the end of the sleep of each goroutine, and behind them the due time of each timer, by declaration.
+    pub times: Tournament,
+}
+
+impl DueTimes {
+    /// No times, with room for the goroutines of a run of so many entries. It alone takes memory.
+    pub fn begin(alloc: Global, script: &Script, most: u64) -> Result<DueTimes, NoMemory>
+        requires most { most ≤ 200000 }
+        requires good { IsGood script.now }
+        ensures goroutines { IfOk result (λ made. made.goroutines ≡ most + 1) }
+        ensures room { IfOk result (λ made. most + 1 + length script.now.decls ≤ length made.times) }
+        ensures empty { IfOk result (λ made. (slot : _) → key_of made.times slot ≡ None) }
+    {
+        let goroutines = most as u32 + 1;
+        let slots = goroutines + script.decls.as_slice().len() as u32;
+        let times = Tournament::with_room(alloc, slots).map_err(|_| NoMemory)?;
+        Ok(DueTimes { goroutines, times })
+    }
+
+    /// The least of the times, and whose it is.
+    pub fn least(&self, script: &Script) -> Option<Due>
+        requires { self.now.goroutines + 1 < 2 ^ 32 }
+        ensures { due.IsLeast script.now self.now result }
+    {
+        let first = self.times.least()?;
+        Some(Due {
+            at: first.key,
+            whose: self.whose(script, first.slot),
+        })
+    }
+
+    /// Whose slot it is.
+    fn whose(&self, script: &Script, slot: u32) -> Whose
+        requires { self.now.goroutines + 1 < 2 ^ 32 }
+        ensures { result ≡ due.whose_slot self.now.goroutines script.now slot }
+    {
+        if slot < self.goroutines {
+            return Whose::Sleep(slot + 1);
+        }
+        let t = slot - self.goroutines;
+        if is_func(script, t) {
+            Whose::Func(t)
+        } else {
+            Whose::Timer(t)
+        }
+    }
+
+    /// Takes over when the sleep of a goroutine ends, if it sleeps.
+    fn follow_sleep(&mut self, machine: &Machine, g: u32)
+        requires number { 0 < g }
+        requires room { g ≤ length self.old.times }
+        ensures times { self.new.times ≡ due.with_sleep (state_of machine.now) g self.old.times }
+        ensures goroutines { self.new.goroutines ≡ self.old.goroutines }
+    {
+        self.times.set(g - 1, machine.until(g));
+    }
+
+    /// Takes over when a timer is due, if it will unblock somebody then.
+    pub fn follow_timer(
+        &mut self,
+        script: &Script,
+        machine: &Machine,
+        scheduler: &Scheduler,
+        t: u32,
+    )
+        requires room { self.old.goroutines + t < length self.old.times }
+        requires small { self.old.goroutines + t < 2 ^ 32 }
+        requires queue { queue_at t < length scheduler.now.queues.queues }
+        requires few { length scheduler.now.queues.queues < 2 ^ 32 }
+        ensures times { self.new.times ≡ due.with_timer self.old.goroutines script.now (state_of machine.now) (schedule_of scheduler.now) t self.old.times }
+        ensures goroutines { self.new.goroutines ≡ self.old.goroutines }
+    {
+        let counts = is_func(script, t) || scheduler.first_waiting(t).is_some();
+        let due = if counts { machine.due_of(t) } else { None };
+        self.times.set(self.goroutines + t, due);
+    }
+
+    /// Takes over what an entry has changed.
+    pub fn follow(
+        &mut self,
+        script: &Script,
+        machine: &Machine,
+        scheduler: &Scheduler,
+        entry: &Entry,
+    )
+        requires { due.CanFollow self.old scheduler.now entry.now }
+        ensures times { self.new.times ≡ due.followed self.old.goroutines script.now (state_of machine.now) (schedule_of scheduler.now) entry.now self.old.times }
+        ensures goroutines { self.new.goroutines ≡ self.old.goroutines }
+    {
+        match *entry {
+            Entry::Sleep { g, until: Some(_) } | Entry::Wake { g } => self.follow_sleep(machine, g),
+            Entry::New { t, .. }
+            | Entry::Stop { t, .. }
+            | Entry::Reset { t, .. }
+            | Entry::TRecv { t, .. }
+            | Entry::FireFunc { t, .. } => self.follow_timer(script, machine, scheduler, t),
+            _ => {}
+        }
+    }
+}
+
+/// Whether a declaration is an AfterFunc timer.
+fn is_func(script: &Script, t: u32) -> bool
+    ensures { result ≡ at.is_func script.now t }
+{
+    matches!(
+        script.decls.as_slice().get(t as usize),
+        Some(Decl {
+            what: What::AfterFunc { .. },
+            ..
+        })
+    )
+}
