@@ -54,7 +54,7 @@ seen-is b v script limits history state schedule =
 -- a book as it begins
 pub begun-kept : (b : Inside) → IsGood b.script → AreLimits b.limits → b.history.items ≡ [] → b.history.spare ≡ b.limits.entries + 1
     → state_of b.machine ≡ first_state b.script → b.machine.goroutines.spare ≡ b.limits.entries → schedule_of b.scheduler ≡ first_schedule b.script
-    → IsScheduler b.limits.entries b.scheduler → b.due_times.goroutines ≡ b.limits.entries + 1 → b.limits.entries + 1 + length b.script.decls ≤ length b.due_times.times
+    → IsScheduler b.limits.entries b.scheduler → b.due_times.declarations ≡ length b.script.decls → length b.script.decls + b.limits.entries + 2 ≤ length b.due_times.times
     → ((slot : ℕ) → key_of b.due_times.times slot ≡ None) → IsKept b
 begun-kept b good are empty spare state room schedule kept slots long none_due =
     let is : seen b ≡ first_view b.script b.limits = seen-is b (first_view b.script b.limits) refl refl empty state schedule in
@@ -132,8 +132,8 @@ pub record Applied (b : Inside) (e : Entry) (machine : Machine) (scheduler : Sch
   pub goroutines : length machine.goroutines.items + machine.goroutines.spare ≡ length b.machine.goroutines.items + b.machine.goroutines.spare
   pub schedule : schedule_of scheduler ≡ scheduled (schedule_of b.scheduler) e
   pub kept : (most : ℕ) → IsScheduler most b.scheduler → IsScheduler most scheduler
-  pub slots : due.goroutines ≡ b.due_times.goroutines
-  pub times : due.times ≡ followed b.due_times.goroutines b.script (state_of machine) (schedule_of scheduler) e b.due_times.times
+  pub declarations : due.declarations ≡ b.due_times.declarations
+  pub times : due.times ≡ followed b.due_times.declarations b.script (state_of machine) (schedule_of scheduler) e b.due_times.times
   pub items : history.items ≡ b.history.items ++ e ∷ []
   pub spare : history.spare + 1 ≡ b.history.spare
 
@@ -167,19 +167,19 @@ can_enter-follows b e scheduler can is =
     let fits : Fits b.script (after b.script (state_of b.machine) e) (scheduled (schedule_of b.scheduler) e) =
     fits-entered b.script (state_of b.machine) (schedule_of b.scheduler) e can.kept.lawful.fits can.may can.served in
     let queues : length scheduler.queues.queues ≡ length b.script.decls + 1 = ap (λ (m : Schedule). length m.queues) is ∙ fits.queues in
-    can_follow-reaches b.limits.entries b.script b.due_times scheduler e can.kept.times.goroutines can.kept.times.room can.kept.lawful.limits.most can.kept.lawful.good.few_names queues
+    can_follow-reaches b.limits.entries b.script b.due_times scheduler e can.kept.times.declarations can.kept.times.room can.kept.lawful.limits.most can.kept.lawful.good.few_names queues
     (reaches-entry b e can)
 
 times-applied : (b : Inside) (e : Entry) (machine : Machine) (scheduler : Scheduler) (times : DueTimes) (history : Contents Entry) → CanEnter b e
     → Applied b e machine scheduler times history → AreTimes b.limits.entries b.script (state_of machine) (schedule_of scheduler) times
 times-applied b e machine scheduler times history can done =
-    let later : times.times ≡ followed b.due_times.goroutines b.script (after b.script (state_of b.machine) e) (scheduled (schedule_of b.scheduler) e) e b.due_times.times =
+    let later : times.times ≡ followed b.due_times.declarations b.script (after b.script (state_of b.machine) e) (scheduled (schedule_of b.scheduler) e) e b.due_times.times =
     done.times
-    ∙ (ap (λ (s : State). followed b.due_times.goroutines b.script s (schedule_of scheduler) e b.due_times.times) done.state
-    ∙ ap (λ (m : Schedule). followed b.due_times.goroutines b.script (after b.script (state_of b.machine) e) m e b.due_times.times) done.schedule) in
+    ∙ (ap (λ (s : State). followed b.due_times.declarations b.script s (schedule_of scheduler) e b.due_times.times) done.state
+    ∙ ap (λ (m : Schedule). followed b.due_times.declarations b.script (after b.script (state_of b.machine) e) m e b.due_times.times) done.schedule) in
     subst (λ (s : State). AreTimes b.limits.entries b.script s (schedule_of scheduler) times) (sym done.state)
     (subst (λ (m : Schedule). AreTimes b.limits.entries b.script (after b.script (state_of b.machine) e) m times) (sym done.schedule)
-    (times-entered b.limits.entries b.script (state_of b.machine) (schedule_of b.scheduler) e b.due_times times can.kept.times can.may (reaches-entry b e can) later done.slots))
+    (times-entered b.limits.entries b.script (state_of b.machine) (schedule_of b.scheduler) e b.due_times times can.kept.times can.may (reaches-entry b e can) later done.declarations))
 
 -- where the run goes on
 seen-applied : (b : Inside) (e : Entry) (machine : Machine) (scheduler : Scheduler) (times : DueTimes) (history : Contents Entry) → Applied b e machine scheduler times history

@@ -146,12 +146,15 @@ sleeps-are s one i r e =
     ∙ sym (ap (λ (b : Bool). cond b (until_of r.mode) None) (eq-eqb r.world 0 in_world))
 
 -- who sleeps is a goroutine
-sleeps-inside : (s : State) (i n : ℕ) → sleeps_until s (i + 1) ≡ Some n → i < length s.goroutines
-sleeps-inside s i n e =
-    elim (goroutine_at s (i + 1))
-    as (λ o. goroutine_at s (i + 1) ≡ o → (elim (option_map (λ (r : Goroutine). r.mode) o) [ None ↦ None | Some mode ↦ until_of mode ]) ≡ Some n → i < length s.goroutines) [
+sleep-given : (s : State) (g n : ℕ) → IsOneWorld s → sleeps_until s g ≡ Some n → Has n (filter_map (sleep_of 0) s.goroutines)
+sleep-given s zero n one e = cc
+sleep-given s (suc i) n one e =
+    elim (goroutine_at s (suc i))
+    as (λ o. goroutine_at s (suc i) ≡ o → (elim (option_map (λ (r : Goroutine). r.mode) o) [ None ↦ None | Some mode ↦ until_of mode ]) ≡ Some n → Has n (filter_map (sleep_of 0) s.goroutines)) [
       | None ↦ λ q k. cc
-      | Some r ↦ λ q k. slice_get_within s.goroutines i r (rw add-one at q)
+      | Some r ↦ λ q k.
+          let in_world : r.world ≡ 0 = one.goroutines (suc i) r q in
+          given-into (sleep_of 0) s.goroutines i r n q (ap (λ (b : Bool). cond b (until_of r.mode) None) (eq-eqb r.world 0 in_world) ∙ k)
     ] refl e
 
 -- ---- timers
@@ -321,49 +324,52 @@ timer-of v t at true some lawful within is_it waits e = (is_it, e)
 timer-of v t at false true lawful within is_it waits e = awaited-of v t at lawful within waits e
 timer-of v t at false false lawful within is_it waits e = cc
 
-slot-of : (n : ℕ) (v : BookView) (slot at : ℕ) (below : Bool) → IsLawful v → nat_lt slot n ≡ below
-    → (if below then sleeps_until v.state (slot + 1) else timer_time v.script v.state v.schedule (slot - n)) ≡ Some at
-    → IsTimeOf v at (if below then Whose.Sleep (slot + 1) else if is_func v.script (slot - n) then Whose.Func (slot - n) else Whose.Timer (slot - n))
-slot-of n v slot at true lawful low e = e
-slot-of n v slot at false lawful low e =
-    let inside : slot - n < length v.state.timers = timer-inside v (slot - n) at e in
-    let within : slot - n < length v.script.decls = subst (λ k. slot - n < k) lawful.formed.timers inside in
-    elim (is_func v.script (slot - n)) as (λ (q : Bool). is_func v.script (slot - n) ≡ q → (if q || is_some (slice_get (waiting_in v.schedule.queues (queue_at (slot - n))) 0) then due_of v.state (slot - n) else None) ≡ Some at
-    → IsTimeOf v at (if q then Whose.Func (slot - n) else Whose.Timer (slot - n))) [
-      | true ↦ λ q k. timer-of v (slot - n) at true (is_some (slice_get (waiting_in v.schedule.queues (queue_at (slot - n))) 0)) lawful within q refl k
-      | false ↦ λ q k. timer-of v (slot - n) at false (is_some (slice_get (waiting_in v.schedule.queues (queue_at (slot - n))) 0)) lawful within q refl k
+slot-of : (n : ℕ) (v : BookView) (slot at : ℕ) (below : Bool) → IsLawful v
+    → (if below then timer_time v.script v.state v.schedule slot else sleeps_until v.state (slot - n)) ≡ Some at
+    → IsTimeOf v at (if below then if is_func v.script slot then Whose.Func slot else Whose.Timer slot else Whose.Sleep (slot - n))
+slot-of n v slot at false lawful e = e
+slot-of n v slot at true lawful e =
+    let inside : slot < length v.state.timers = timer-inside v slot at e in
+    let within : slot < length v.script.decls = subst (λ k. slot < k) lawful.formed.timers inside in
+    elim (is_func v.script slot) as (λ (q : Bool). is_func v.script slot ≡ q → (if q || is_some (slice_get (waiting_in v.schedule.queues (queue_at slot)) 0) then due_of v.state slot else None) ≡ Some at
+    → IsTimeOf v at (if q then Whose.Func slot else Whose.Timer slot)) [
+      | true ↦ λ q k. timer-of v slot at true (is_some (slice_get (waiting_in v.schedule.queues (queue_at slot)) 0)) lawful within q refl k
+      | false ↦ λ q k. timer-of v slot at false (is_some (slice_get (waiting_in v.schedule.queues (queue_at slot)) 0)) lawful within q refl k
     ] refl e
 
 -- ---- the slots have the counted times
 
 slot-counted : (n : ℕ) (v : BookView) (slot time : ℕ) → IsLawful v → NobodyRuns v → slot_time n v.script v.state v.schedule slot ≡ Some time → Has time (counted v.script v.state 0)
 slot-counted n v slot time lawful nobody e =
-    elim (nat_lt slot n) as (λ (q : Bool). (if q then sleeps_until v.state (slot + 1) else timer_time v.script v.state v.schedule (slot - n)) ≡ Some time → Has time (counted v.script v.state 0)) [
-      | true ↦ λ k. has-left time (filter_map (sleep_of 0) v.state.goroutines) (filter_map (counted_timer v.script v.state 0) (enumerate_from 0 v.state.timers))
-          (time-given (λ i. sleeps_until v.state (i + 1)) (sleep_of 0) v.state.goroutines slot time (sleeps-are v.state lawful.formed.world) (sleeps-inside v.state slot time k) k)
-      | false ↦ λ k.
-          let inside : slot - n < length v.state.timers = timer-inside v (slot - n) time k in
+    elim (nat_lt slot n) as (λ (q : Bool). (if q then timer_time v.script v.state v.schedule slot else sleeps_until v.state (slot - n)) ≡ Some time → Has time (counted v.script v.state 0)) [
+      | true ↦ λ k.
+          let inside : slot < length v.state.timers = timer-inside v slot time k in
           let size : length (enumerate_from 0 v.state.timers) ≡ length v.state.timers = length-enumerated 0 v.state.timers in
           has-right time (filter_map (sleep_of 0) v.state.goroutines) (filter_map (counted_timer v.script v.state 0) (enumerate_from 0 v.state.timers))
-          (time-given (timer_time v.script v.state v.schedule) (counted_timer v.script v.state 0) (enumerate_from 0 v.state.timers) (slot - n) time (timers-are v lawful nobody) (omega arith) k)
+          (time-given (timer_time v.script v.state v.schedule) (counted_timer v.script v.state 0) (enumerate_from 0 v.state.timers) slot time (timers-are v lawful nobody) (omega arith) k)
+      | false ↦ λ k. has-left time (filter_map (sleep_of 0) v.state.goroutines) (filter_map (counted_timer v.script v.state 0) (enumerate_from 0 v.state.timers))
+          (sleep-given v.state (slot - n) time lawful.formed.world k)
     ] e
 
-counted-slot : (n : ℕ) (v : BookView) (time : ℕ) → IsLawful v → NobodyRuns v → length v.state.goroutines ≤ n → Has time (counted v.script v.state 0)
-    → (slot : ℕ) × (slot_time n v.script v.state v.schedule slot ≡ Some time)
-counted-slot n v time lawful nobody few h =
+counted-slot : (v : BookView) (time : ℕ) → IsLawful v → NobodyRuns v → Has time (counted v.script v.state 0)
+    → (slot : ℕ) × (slot_time (length v.script.decls) v.script v.state v.schedule slot ≡ Some time)
+counted-slot v time lawful nobody h =
     elim (has-either time (filter_map (sleep_of 0) v.state.goroutines) (filter_map (counted_timer v.script v.state 0) (enumerate_from 0 v.state.timers)) h) [
       | inl k ↦
+          let n : ℕ = length v.script.decls in
           let found : HasTime (λ i. sleeps_until v.state (i + 1)) (length v.state.goroutines) time =
           given-time (λ i. sleeps_until v.state (i + 1)) (sleep_of 0) v.state.goroutines time (sleeps-are v.state lawful.formed.world) k in
-          let inside : found.place < length v.state.goroutines = found.inside in
-          let below : found.place < n = omega arith in
-          (found.place, slot-sleep n v.script v.state v.schedule found.place below ∙ found.time)
+          let behind : length v.script.decls ≤ length v.script.decls + (found.place + 1) = omega arith in
+          let number : length v.script.decls + (found.place + 1) - length v.script.decls ≡ found.place + 1 = omega arith in (
+            length v.script.decls + (found.place + 1),
+            slot-sleep (length v.script.decls) v.script v.state v.schedule (length v.script.decls + (found.place + 1)) behind ∙ (ap (sleeps_until v.state) number ∙ found.time),
+          )
       | inr k ↦
           let found : HasTime (timer_time v.script v.state v.schedule) (length (enumerate_from 0 v.state.timers)) time =
           given-time (timer_time v.script v.state v.schedule) (counted_timer v.script v.state 0) (enumerate_from 0 v.state.timers) time (timers-are v lawful nobody) k in
-          let behind : n ≤ n + found.place = omega arith in
-          let place : n + found.place - n ≡ found.place = omega arith in
-          (n + found.place, slot-timer n v.script v.state v.schedule (n + found.place) behind ∙ (ap (timer_time v.script v.state v.schedule) place ∙ found.time))
+          let inside : found.place < length v.state.timers = timer-inside v found.place time found.time in
+          let below : found.place < length v.script.decls = subst (λ k. found.place < k) lawful.formed.timers inside in
+          (found.place, slot-timer (length v.script.decls) v.script v.state v.schedule found.place below ∙ found.time)
     ]
 
 -- ---- the least of the counted times
@@ -377,24 +383,23 @@ no-number : (xs : List ℕ) → ((n : ℕ) → Has n xs → ⊥) → xs ≡ []
 no-number [] h = refl
 no-number (x ∷ xs) h = absurd (h x (inl refl))
 
-pub least-counted : (most : ℕ) (v : BookView) (d : DueTimes) (o : Option Due) → IsLawful v → NobodyRuns v → length v.state.goroutines ≤ most + 1
-    → AreTimes most v.script v.state v.schedule d → IsLeast v.script d o → LeastIs v o
-least-counted most v d None lawful nobody few are h =
+pub least-counted : (most : ℕ) (v : BookView) (d : DueTimes) (o : Option Due) → IsLawful v → NobodyRuns v → AreTimes most v.script v.state v.schedule d → IsLeast v.script d o → LeastIs v o
+least-counted most v d None lawful nobody are h =
     let none : counted v.script v.state 0 ≡ [] = no-number (counted v.script v.state 0) (λ n k.
-    let found : (slot : ℕ) × (slot_time (most + 1) v.script v.state v.schedule slot ≡ Some n) = counted-slot (most + 1) v n lawful nobody few k in
+    let found : (slot : ℕ) × (slot_time (length v.script.decls) v.script v.state v.schedule slot ≡ Some n) = counted-slot v n lawful nobody k in
     let off : ◌≡◌ {A = Option ℕ} None (Some n) = sym (h found.0) ∙ (are.each found.0 ∙ found.1) in
     cc) in
     record { none = (λ _. none, λ _. refl); least = tt; whose = tt }
-least-counted most v d (Some due) lawful nobody few are h =
+least-counted most v d (Some due) lawful nobody are h =
     let own : IsOfSlot v.script d due = h.0 in
-    let time : slot_time (most + 1) v.script v.state v.schedule own.slot ≡ Some due.at = sym (are.each own.slot) ∙ own.time in
-    let there : Has due.at (counted v.script v.state 0) = slot-counted (most + 1) v own.slot due.at lawful nobody time in
+    let time : slot_time (length v.script.decls) v.script v.state v.schedule own.slot ≡ Some due.at = sym (are.each own.slot) ∙ own.time in
+    let there : Has due.at (counted v.script v.state 0) = slot-counted (length v.script.decls) v own.slot due.at lawful nobody time in
     let lowest : (n : ℕ) → Has n (counted v.script v.state 0) → due.at ≤ n = λ n k.
-    (let found : (slot : ℕ) × (slot_time (most + 1) v.script v.state v.schedule slot ≡ Some n) = counted-slot (most + 1) v n lawful nobody few k in
+    (let found : (slot : ℕ) × (slot_time (length v.script.decls) v.script v.state v.schedule slot ≡ Some n) = counted-slot v n lawful nobody k in
     h.1 found.0 n (are.each found.0 ∙ found.1)) in
     record {
       none = (λ e. cc, λ e. absurd (some-has (counted v.script v.state 0) due.at there e));
       least = least-is (counted v.script v.state 0) due (there, lowest);
-      whose = subst (IsTimeOf v due.at) (ap (λ n. whose_slot n v.script own.slot) (sym are.goroutines) ∙ own.whose)
-          (slot-of (most + 1) v own.slot due.at (nat_lt own.slot (most + 1)) lawful refl time);
+      whose = subst (IsTimeOf v due.at) (ap (λ n. whose_slot n v.script own.slot) (sym are.declarations) ∙ own.whose)
+          (slot-of (length v.script.decls) v own.slot due.at (nat_lt own.slot (length v.script.decls)) lawful time);
     }

@@ -1,12 +1,12 @@
 -- What an entry does to the times by slot.
-use Rattle.std.proofs.Common.{◌≡◌, ◌≢◌, ℕ, zero, suc, ◌+◌, ◌-◌, ◌<◌, ◌≤◌, List, [], ◌∷◌, ◌++◌, length, set, refl, sym, ap, subst, ◌∙◌, arith, Option, None, Some, Bool, true, false, IsSomeAnd, ◌||◌, is_some, nat_lt, slice_get, if◌then◌else◌, drop, map, add-one}
+use Rattle.std.proofs.Common.{◌≡◌, ◌≢◌, ℕ, zero, suc, ◌+◌, ◌-◌, ◌<◌, ◌≤◌, List, [], ◌∷◌, ◌++◌, length, set, refl, sym, ap, subst, ◌∙◌, arith, Option, None, Some, Bool, true, false, IsSomeAnd, ◌||◌, is_some, nat_lt, slice_get, if◌then◌else◌, drop, map}
 use Rattle.gt_model.specs.declared.script.Script.{Script}
 use Rattle.gt_model.specs.declared.script.Instr.{Instr}
 use Rattle.gt_model.specs.declared.entry.Entry.{Entry}
 use Rattle.gt_model.specs.declared.entry.Party.{Party}
 use Rattle.gt_model.specs.declared.state.Timer.{Timer}
 use Rattle.gt_model.specs.declared.state.Mode.{Mode}
-use Rattle.gt_model.specs.Tables.{numbered, at, change_numbered}
+use Rattle.gt_model.specs.Tables.{at, change_numbered}
 use Rattle.gt_model.specs.declared.script.Decl.{Decl}
 use Rattle.gt_model.specs.declared.entry.Outcome.{Outcome}
 use Rattle.gt_model.proofs.Lookups.{Standing, standing}
@@ -33,7 +33,7 @@ use Rattle.gt_book.proofs.Times.{until-other, until-begun, until-stands, timer-s
 
 -- a goroutine of a run of so many entries
 abbrev IsGoroutine : ℕ → ℕ → Type 0
-IsGoroutine most g = (0 < g) × (g ≤ most + 1)
+IsGoroutine most g = g ≤ most + 1
 
 abbrev SleptReaches : ℕ → ℕ → Option ℕ → Type 0
 SleptReaches most g None = Unit {0}
@@ -56,15 +56,11 @@ Reaches most script (Entry.Clock world at) = Unit {0}
 Reaches most script (Entry.Panic p reason) = Unit {0}
 Reaches most script (Entry.Finish outcome) = Unit {0}
 
-number-some : {X : Type 0} (xs : List X) (g : ℕ) (x : X) → numbered xs g ≡ Some x → 0 < g
-number-some xs zero x e = cc
-number-some xs (suc i) x e = omega arith
-
 standing-goroutine : (most : ℕ) (script : Script) (s : State) (g : ℕ) (i : Instr) → length s.goroutines ≤ most + 1 → stands_at script s g ≡ Some i → IsGoroutine most g
 standing-goroutine most script s g i few stands =
     let st : Standing script s g i = standing script s g i stands in
     let low : g ≤ length s.goroutines = numbered-le s.goroutines g st.who st.there in
-    (number-some s.goroutines g st.who st.there, omega arith)
+    omega arith
 
 slept-reaches : (most : ℕ) (script : Script) (s : State) (g : ℕ) (i : Instr) (until : Option ℕ) → length s.goroutines ≤ most + 1 → stands_at script s g ≡ Some i → SleptReaches most g until
 slept-reaches most script s g i None few stands = tt
@@ -74,7 +70,7 @@ sleeping-goroutine : (most : ℕ) (script : Script) (s : State) (g : ℕ) (P : �
 sleeping-goroutine most script s g P few sleeps =
     let a : Asleep s g = sleeper s g P sleeps in
     let low : g ≤ length s.goroutines = numbered-le s.goroutines g a.who a.there in
-    (number-some s.goroutines g a.who a.there, omega arith)
+    omega arith
 
 declared : (script : Script) (s : State) (t : ℕ) → IsFormed script s → t < length s.timers → t < length script.decls
 declared script s t formed h = subst (λ n. t < n) formed.timers h
@@ -100,34 +96,35 @@ reaches-May most script s (Entry.Finish outcome) good formed few may = tt
 
 -- ---- what the times need
 
-pub timer-slot : (most : ℕ) (script : Script) (d : DueTimes) (m : Scheduler) (t : ℕ) → d.goroutines ≡ most + 1 → most + 1 + length script.decls ≤ length d.times
-    → most ≤ 200000 → length script.decls ≤ 4096 → length m.queues.queues ≡ length script.decls + 1 → t < length script.decls → HasTimerSlot d m t
-timer-slot most script d m t goroutines room limit names queues within =
-    record { room = omega arith; small = omega arith; queue = omega arith; few = omega arith }
+timer-slot : (most : ℕ) (script : Script) (d : DueTimes) (m : Scheduler) (t : ℕ) → length script.decls + most + 2 ≤ length d.times → length script.decls ≤ 4096
+    → length m.queues.queues ≡ length script.decls + 1 → t < length script.decls → HasTimerSlot d m t
+timer-slot most script d m t room names queues within = record { room = omega arith; queue = omega arith; few = omega arith }
 
-sleep-slot : (most : ℕ) (script : Script) (d : DueTimes) (g : ℕ) → most + 1 + length script.decls ≤ length d.times → IsGoroutine most g → HasSleepSlot d g
-sleep-slot most script d g room h = let some : 0 < g = h.0 in let low : g ≤ most + 1 = h.1 in record { number = some; room = omega arith }
+sleep-slot : (most : ℕ) (script : Script) (d : DueTimes) (g : ℕ) → d.declarations ≡ length script.decls → length script.decls + most + 2 ≤ length d.times → most ≤ 200000 → length script.decls ≤ 4096
+    → IsGoroutine most g → HasSleepSlot d g
+sleep-slot most script d g declarations room limit names h = let low : g ≤ most + 1 = h in record { room = omega arith; small = omega arith }
 
-slept-slot : (most : ℕ) (script : Script) (d : DueTimes) (g : ℕ) (until : Option ℕ) → most + 1 + length script.decls ≤ length d.times → SleptReaches most g until → HasSleptSlot d g until
-slept-slot most script d g None room h = tt
-slept-slot most script d g (Some until) room h = sleep-slot most script d g room h
+slept-slot : (most : ℕ) (script : Script) (d : DueTimes) (g : ℕ) (until : Option ℕ) → d.declarations ≡ length script.decls → length script.decls + most + 2 ≤ length d.times → most ≤ 200000
+    → length script.decls ≤ 4096 → SleptReaches most g until → HasSleptSlot d g until
+slept-slot most script d g None declarations room limit names h = tt
+slept-slot most script d g (Some until) declarations room limit names h = sleep-slot most script d g declarations room limit names h
 
-pub can_follow-reaches : (most : ℕ) (script : Script) (d : DueTimes) (m : Scheduler) (e : Entry) → d.goroutines ≡ most + 1 → most + 1 + length script.decls ≤ length d.times
+pub can_follow-reaches : (most : ℕ) (script : Script) (d : DueTimes) (m : Scheduler) (e : Entry) → d.declarations ≡ length script.decls → length script.decls + most + 2 ≤ length d.times
     → most ≤ 200000 → length script.decls ≤ 4096 → length m.queues.queues ≡ length script.decls + 1 → Reaches most script e → CanFollow d m e
-can_follow-reaches most script d m (Entry.Say g k) goroutines room limit names queues h = tt
-can_follow-reaches most script d m (Entry.Now g at) goroutines room limit names queues h = tt
-can_follow-reaches most script d m (Entry.Go g child f) goroutines room limit names queues h = tt
-can_follow-reaches most script d m (Entry.End g) goroutines room limit names queues h = tt
-can_follow-reaches most script d m (Entry.Sleep g until) goroutines room limit names queues h = slept-slot most script d g until room h
-can_follow-reaches most script d m (Entry.Wake g) goroutines room limit names queues h = sleep-slot most script d g room h
-can_follow-reaches most script d m (Entry.New g t due) goroutines room limit names queues h = timer-slot most script d m t goroutines room limit names queues h
-can_follow-reaches most script d m (Entry.Stop g t was) goroutines room limit names queues h = timer-slot most script d m t goroutines room limit names queues h
-can_follow-reaches most script d m (Entry.Reset g t was due) goroutines room limit names queues h = timer-slot most script d m t goroutines room limit names queues h
-can_follow-reaches most script d m (Entry.TRecv p t due next) goroutines room limit names queues h = timer-slot most script d m t goroutines room limit names queues h
-can_follow-reaches most script d m (Entry.FireFunc t child) goroutines room limit names queues h = timer-slot most script d m t goroutines room limit names queues h
-can_follow-reaches most script d m (Entry.Clock world to) goroutines room limit names queues h = tt
-can_follow-reaches most script d m (Entry.Panic p reason) goroutines room limit names queues h = tt
-can_follow-reaches most script d m (Entry.Finish outcome) goroutines room limit names queues h = tt
+can_follow-reaches most script d m (Entry.Say g k) declarations room limit names queues h = tt
+can_follow-reaches most script d m (Entry.Now g at) declarations room limit names queues h = tt
+can_follow-reaches most script d m (Entry.Go g child f) declarations room limit names queues h = tt
+can_follow-reaches most script d m (Entry.End g) declarations room limit names queues h = tt
+can_follow-reaches most script d m (Entry.Sleep g until) declarations room limit names queues h = slept-slot most script d g until declarations room limit names h
+can_follow-reaches most script d m (Entry.Wake g) declarations room limit names queues h = sleep-slot most script d g declarations room limit names h
+can_follow-reaches most script d m (Entry.New g t due) declarations room limit names queues h = timer-slot most script d m t room names queues h
+can_follow-reaches most script d m (Entry.Stop g t was) declarations room limit names queues h = timer-slot most script d m t room names queues h
+can_follow-reaches most script d m (Entry.Reset g t was due) declarations room limit names queues h = timer-slot most script d m t room names queues h
+can_follow-reaches most script d m (Entry.TRecv p t due next) declarations room limit names queues h = timer-slot most script d m t room names queues h
+can_follow-reaches most script d m (Entry.FireFunc t child) declarations room limit names queues h = timer-slot most script d m t room names queues h
+can_follow-reaches most script d m (Entry.Clock world to) declarations room limit names queues h = tt
+can_follow-reaches most script d m (Entry.Panic p reason) declarations room limit names queues h = tt
+can_follow-reaches most script d m (Entry.Finish outcome) declarations room limit names queues h = tt
 
 -- ---- the times after an entry
 
@@ -147,17 +144,17 @@ served-other queues g t u xs n =
 
 times-slept_entered : (most : ℕ) (script : Script) (s : State) (m : Schedule) (g : ℕ) (until : Option ℕ) (d e : DueTimes) → AreTimes most script s m d
     → May script s (Entry.Sleep g until) → Reaches most script (Entry.Sleep g until)
-    → e.times ≡ followed d.goroutines script (after script s (Entry.Sleep g until)) (scheduled m (Entry.Sleep g until)) (Entry.Sleep g until) d.times
-    → e.goroutines ≡ d.goroutines → AreTimes most script (after script s (Entry.Sleep g until)) (scheduled m (Entry.Sleep g until)) e
+    → e.times ≡ followed d.declarations script (after script s (Entry.Sleep g until)) (scheduled m (Entry.Sleep g until)) (Entry.Sleep g until) d.times
+    → e.declarations ≡ d.declarations → AreTimes most script (after script s (Entry.Sleep g until)) (scheduled m (Entry.Sleep g until)) e
 times-slept_entered most script s m g None d e are may reach times goroutines =
     times-stay most script s (after script s (Entry.Sleep g None)) m m d e are
     (record { sleeps = λ h. until-stands script s g h (Instr.Sleep may.0) (asleep script None) may.1.stands (λ r. refl); timers = λ t. refl }) times goroutines
 times-slept_entered most script s m g (Some until) d e are may reach times goroutines =
     times-slept most script s (after script s (Entry.Sleep g (Some until))) m (scheduled m (Entry.Sleep g (Some until))) g d e are
-    (record { sleeps = λ h n. until-other s.goroutines g h (asleep script (Some until)) n; timers = λ t. refl }) reach.0 reach.1 times goroutines
+    (record { sleeps = λ h n. until-other s.goroutines g h (asleep script (Some until)) n; timers = λ t. refl }) reach times goroutines
 
 pub times-entered : (most : ℕ) (script : Script) (s : State) (m : Schedule) (x : Entry) (d e : DueTimes) → AreTimes most script s m d → May script s x → Reaches most script x
-    → e.times ≡ followed d.goroutines script (after script s x) (scheduled m x) x d.times → e.goroutines ≡ d.goroutines → AreTimes most script (after script s x) (scheduled m x) e
+    → e.times ≡ followed d.declarations script (after script s x) (scheduled m x) x d.times → e.declarations ≡ d.declarations → AreTimes most script (after script s x) (scheduled m x) e
 times-entered most script s m (Entry.Say g k) d e are may reach times goroutines =
     times-stay most script s (after script s (Entry.Say g k)) m m d e are
     (record { sleeps = λ h. until-stands script s g h (Instr.Say k) (moved_on script) may.stands (λ r. refl); timers = λ t. refl }) times goroutines
@@ -180,7 +177,7 @@ times-entered most script s m (Entry.Wake g) d e are may reach times goroutines 
     (record {
       sleeps = λ h n. until-other s.goroutines g h (moved_on script) n;
       timers = λ t. timer-same script s (after script s (Entry.Wake g)) m (scheduled m (Entry.Wake g)) t refl (runs-other m.queues t (waiting_in m.queues run_queue ++ g ∷ []));
-    }) reach.0 reach.1 times goroutines
+    }) reach times goroutines
 times-entered most script s m (Entry.New g t due) d e are may reach times goroutines =
     times-timed most script s (after script s (Entry.New g t due)) m m t d e are
     (record {
@@ -238,7 +235,7 @@ times-taken most script s m g d are =
 
 -- a goroutine waits at a timer
 pub times-parked_at : (most : ℕ) (script : Script) (s : State) (m : Schedule) (g t : ℕ) (d e : DueTimes) → AreTimes most script s m d → t < length script.decls
-    → e.times ≡ with_timer d.goroutines script s (parked_at m g t) t d.times → e.goroutines ≡ d.goroutines → AreTimes most script s (parked_at m g t) e
+    → e.times ≡ with_timer script s (parked_at m g t) t d.times → e.declarations ≡ d.declarations → AreTimes most script s (parked_at m g t) e
 times-parked_at most script s m g t d e are within times goroutines =
     times-timed most script s s m (parked_at m g t) t d e are
     (record {
@@ -249,10 +246,10 @@ times-parked_at most script s m g t d e are within times goroutines =
 
 -- ---- the first times
 
-pub times-first : (most : ℕ) (script : Script) (d : DueTimes) → d.goroutines ≡ most + 1 → most + 1 + length script.decls ≤ length d.times → ((slot : ℕ) → key_of d.times slot ≡ None)
-    → AreTimes most script (first_state script) (first_schedule script) d
-times-first most script d goroutines room empty = record {
-  goroutines = goroutines;
+pub times-first : (most : ℕ) (script : Script) (d : DueTimes) → d.declarations ≡ length script.decls → length script.decls + most + 2 ≤ length d.times
+    → ((slot : ℕ) → key_of d.times slot ≡ None) → AreTimes most script (first_state script) (first_schedule script) d
+times-first most script d declarations room empty = record {
+  declarations = declarations;
   room = room;
   each = λ slot. empty slot ∙ sym (nothing slot);
 }
@@ -262,20 +259,19 @@ times-first most script d goroutines room empty = record {
     unmade (d ∷ ds) zero = refl
     unmade (d ∷ ds) (suc t) = unmade ds t
 
-    awake : (slot : ℕ) → sleeps_until (first_state script) (suc slot) ≡ None
+    awake : (g : ℕ) → sleeps_until (first_state script) g ≡ None
     awake zero = refl
-    awake (suc slot) = refl
+    awake (suc zero) = refl
+    awake (suc (suc g)) = refl
 
     unset : (b : Bool) (o : Option Timer) → o ≡ None → (if b then (elim o [ None ↦ None | Some r ↦ r.due ]) else None) ≡ None
     unset false o e = refl
     unset true o e = ap (λ (o : Option Timer). elim o as (λ x. Option ℕ) [ None ↦ None | Some r ↦ r.due ]) e
 
-    nothing : (slot : ℕ) → slot_time (most + 1) script (first_state script) (first_schedule script) slot ≡ None
+    nothing : (slot : ℕ) → slot_time (length script.decls) script (first_state script) (first_schedule script) slot ≡ None
     nothing slot =
-        let asleep : sleeps_until (first_state script) (slot + 1) ≡ None = rw add-one (awake slot) in
-        elim (nat_lt slot (most + 1))
-        as (λ (q : Bool). (if q then sleeps_until (first_state script) (slot + 1) else timer_time script (first_state script) (first_schedule script) (slot - (most + 1))) ≡ None) [
-          | true ↦ asleep
-          | false ↦ unset (is_func script (slot - (most + 1)) || is_some (slice_get (waiting_in (first_schedule script).queues (queue_at (slot - (most + 1)))) 0))
-              (timer_at (first_state script) (slot - (most + 1))) (unmade script.decls (slot - (most + 1)))
+        elim (nat_lt slot (length script.decls))
+        as (λ (q : Bool). (if q then timer_time script (first_state script) (first_schedule script) slot else sleeps_until (first_state script) (slot - length script.decls)) ≡ None) [
+          | true ↦ unset (is_func script slot || is_some (slice_get (waiting_in (first_schedule script).queues (queue_at slot)) 0)) (timer_at (first_state script) slot) (unmade script.decls slot)
+          | false ↦ awake (slot - length script.decls)
         ]

@@ -221,3 +221,8 @@ waits-rightly script s g t good formed h =
           }
       | Some reason ↦ λ q k. cc
     ] refl step.is
+
+-- the same by what is seen of the book
+pub waits-seen : (b : Inside) (v : BookView) (g t : ℕ) → seen b ≡ v → IsKept b → step_of v.script v.state g ≡ Some (Step.Waits t) → WaitsRightly b.script (state_of b.machine) g t
+waits-seen b v g t is kept step =
+    waits-rightly b.script (state_of b.machine) g t kept.lawful.good kept.lawful.formed (subst (λ (v : BookView). step_of v.script v.state g ≡ Some (Step.Waits t)) (sym is) step)

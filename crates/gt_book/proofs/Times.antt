@@ -112,99 +112,85 @@ pub record StayButTimer (script : Script) (s next : State) (m n : Schedule) (t :
   pub sleeps : (g : ℕ) → sleeps_until next g ≡ sleeps_until s g
   pub timers : (u : ℕ) → u ≢ t → timer_time script next n u ≡ timer_time script s m u
 
--- what a slot's time is, for a sleep and for a timer
-pub slot-sleep : (n : ℕ) (script : Script) (s : State) (m : Schedule) (slot : ℕ) → slot < n → slot_time n script s m slot ≡ sleeps_until s (slot + 1)
-slot-sleep n script s m slot h = ap (λ (b : Bool). if b then sleeps_until s (slot + 1) else timer_time script s m (slot - n)) (lt-ltb slot n h)
+-- what a slot's time is, for a timer and for a sleep
+pub slot-timer : (n : ℕ) (script : Script) (s : State) (m : Schedule) (slot : ℕ) → slot < n → slot_time n script s m slot ≡ timer_time script s m slot
+slot-timer n script s m slot h = ap (λ (b : Bool). if b then timer_time script s m slot else sleeps_until s (slot - n)) (lt-ltb slot n h)
 
-pub slot-timer : (n : ℕ) (script : Script) (s : State) (m : Schedule) (slot : ℕ) → n ≤ slot → slot_time n script s m slot ≡ timer_time script s m (slot - n)
-slot-timer n script s m slot h = ap (λ (b : Bool). if b then sleeps_until s (slot + 1) else timer_time script s m (slot - n)) (not_below slot n h)
+pub slot-sleep : (n : ℕ) (script : Script) (s : State) (m : Schedule) (slot : ℕ) → n ≤ slot → slot_time n script s m slot ≡ sleeps_until s (slot - n)
+slot-sleep n script s m slot h = ap (λ (b : Bool). if b then timer_time script s m slot else sleeps_until s (slot - n)) (not_below slot n h)
   where
     not_below : (a b : ℕ) → b ≤ a → nat_lt a b ≡ false
     not_below a b h = elim (nat_lt a b) as (λ q. nat_lt a b ≡ q → q ≡ false) [ true ↦ λ e. (let low : a < b = ltb-true a b e in absurd (omega arith)) | false ↦ λ e. refl ] refl
 
-slot-same : (n : ℕ) (script : Script) (s next : State) (m k : Schedule) (slot : ℕ) → sleeps_until next (slot + 1) ≡ sleeps_until s (slot + 1)
-    → timer_time script next k (slot - n) ≡ timer_time script s m (slot - n) → slot_time n script next k slot ≡ slot_time n script s m slot
-slot-same n script s next m k slot sleep timer =
-    ap (λ o. if nat_lt slot n then o else timer_time script next k (slot - n)) sleep
-    ∙ ap (λ o. if nat_lt slot n then sleeps_until s (slot + 1) else o) timer
-
 -- ---- the times then
 
 pub times-stay : (most : ℕ) (script : Script) (s next : State) (m n : Schedule) (d e : DueTimes) → AreTimes most script s m d → Stay script s next m n
-    → e.times ≡ d.times → e.goroutines ≡ d.goroutines → AreTimes most script next n e
-times-stay most script s next m n d e are stay times goroutines = record {
-  goroutines = goroutines ∙ are.goroutines;
+    → e.times ≡ d.times → e.declarations ≡ d.declarations → AreTimes most script next n e
+times-stay most script s next m n d e are stay times declarations = record {
+  declarations = declarations ∙ are.declarations;
   room = rw times are.room;
-  each = λ slot. ap (λ keys. key_of keys slot) times
-      ∙ (are.each slot ∙ sym (slot-same (most + 1) script s next m n slot (stay.sleeps (slot + 1)) (stay.timers (slot - (most + 1)))));
+  each = λ slot. ap (λ keys. key_of keys slot) times ∙ (are.each slot ∙ sym (same slot));
 }
+  where
+    same : (slot : ℕ) → slot_time (length script.decls) script next n slot ≡ slot_time (length script.decls) script s m slot
+    same slot =
+        ap (λ o. if nat_lt slot (length script.decls) then o else sleeps_until next (slot - length script.decls)) (stay.timers slot)
+        ∙ ap (λ o. if nat_lt slot (length script.decls) then timer_time script s m slot else o) (stay.sleeps (slot - length script.decls))
 
-times-set : (d e : DueTimes) (i : ℕ) (key : Option ℕ) (n : ℕ) → e.times ≡ set d.times i key → n ≤ length d.times → n ≤ length e.times
-times-set d e i key n is h = let same : length e.times ≡ length d.times = ap length is ∙ length-set d.times i key in omega arith
+-- where one slot is set, and the time of each other slot stays
+times-at : (most : ℕ) (script : Script) (s next : State) (m n : Schedule) (i : ℕ) (time : Option ℕ) (d e : DueTimes) → AreTimes most script s m d → i < length d.times
+    → e.times ≡ set d.times i time → e.declarations ≡ d.declarations → slot_time (length script.decls) script next n i ≡ time
+    → ((slot : ℕ) → slot ≢ i → slot_time (length script.decls) script next n slot ≡ slot_time (length script.decls) script s m slot) → AreTimes most script next n e
+times-at most script s next m n i time d e are inside times declarations own others =
+    let size : length e.times ≡ length d.times = ap length times ∙ length-set d.times i time in
+    let room : length script.decls + most + 2 ≤ length d.times = are.room in
+    record {
+      declarations = declarations ∙ are.declarations;
+      room = omega arith;
+      each = λ slot. ap (λ keys. key_of keys slot) times ∙ at slot;
+    }
+  where
+    at : (slot : ℕ) → key_of (set d.times i time) slot ≡ slot_time (length script.decls) script next n slot
+    at slot =
+        elim (cases_eq slot i) [
+          | inl is ↦ ap (key_of (set d.times i time)) is ∙ (key_of-set_same d.times i time inside ∙ sym (ap (slot_time (length script.decls) script next n) is ∙ own))
+          | inr differs ↦ key_of-set_other d.times i slot time differs ∙ (are.each slot ∙ sym (others slot differs))
+        ]
 
 pub times-slept : (most : ℕ) (script : Script) (s next : State) (m n : Schedule) (g : ℕ) (d e : DueTimes) → AreTimes most script s m d → StayButSleep script s next m n g
-    → 0 < g → g ≤ most + 1 → e.times ≡ with_sleep next g d.times → e.goroutines ≡ d.goroutines → AreTimes most script next n e
-times-slept most script s next m n g d e are stay some few times goroutines = record {
-  goroutines = goroutines ∙ are.goroutines;
-  room = times-set d e (g - 1) (sleeps_until next g) (most + 1 + length script.decls) times are.room;
-  each = λ slot. ap (λ keys. key_of keys slot) times ∙ at slot;
-}
+    → g ≤ most + 1 → e.times ≡ with_sleep d.declarations next g d.times → e.declarations ≡ d.declarations → AreTimes most script next n e
+times-slept most script s next m n g d e are stay few times declarations =
+    let room : length script.decls + most + 2 ≤ length d.times = are.room in
+    let inside : length script.decls + g < length d.times = omega arith in
+    times-at most script s next m n (length script.decls + g) (sleeps_until next g) d e are inside (times ∙ ap (λ k. with_sleep k next g d.times) are.declarations) declarations own others
   where
-    room : g - 1 < length d.times
-    room = let all : most + 1 + length script.decls ≤ length d.times = are.room in omega arith
+    own : slot_time (length script.decls) script next n (length script.decls + g) ≡ sleeps_until next g
+    own =
+        let behind : length script.decls ≤ length script.decls + g = omega arith in
+        let number : length script.decls + g - length script.decls ≡ g = omega arith in
+        slot-sleep (length script.decls) script next n (length script.decls + g) behind ∙ ap (sleeps_until next) number
 
-    own : (slot : ℕ) → slot ≡ g - 1 → key_of (with_sleep next g d.times) slot ≡ slot_time (most + 1) script next n slot
-    own slot is =
-        let number : slot + 1 ≡ g = omega arith in
-        let below : slot < most + 1 = omega arith in
-        ap (key_of (with_sleep next g d.times)) is
-        ∙ (key_of-set_same d.times (g - 1) (sleeps_until next g) room
-        ∙ (ap (sleeps_until next) (sym number) ∙ sym (slot-sleep (most + 1) script next n slot below)))
-
-    at : (slot : ℕ) → key_of (with_sleep next g d.times) slot ≡ slot_time (most + 1) script next n slot
-    at slot =
-        elim (cases_eq slot (g - 1)) [
-          | inl is ↦ own slot is
-          | inr other ↦
-              key_of-set_other d.times (g - 1) slot (sleeps_until next g) other
-              ∙ (are.each slot
-              ∙ sym (slot-same (most + 1) script s next m n slot (stay.sleeps (slot + 1) (λ e. other (omega arith))) (stay.timers (slot - (most + 1)))))
-        ]
-
-pub times-timed : (most : ℕ) (script : Script) (s next : State) (m n : Schedule) (t : ℕ) (d e : DueTimes) → AreTimes most script s m d → StayButTimer script s next m n t
-    → t < length script.decls → e.times ≡ with_timer d.goroutines script next n t d.times → e.goroutines ≡ d.goroutines → AreTimes most script next n e
-times-timed most script s next m n t d e are stay within times goroutines = record {
-  goroutines = goroutines ∙ are.goroutines;
-  room = times-set d e (d.goroutines + t) (timer_time script next n t) (most + 1 + length script.decls) times are.room;
-  each = λ slot. ap (λ keys. key_of keys slot) (times ∙ ap (λ k. with_timer k script next n t d.times) are.goroutines) ∙ at slot;
-}
-  where
-    room : most + 1 + t < length d.times
-    room = let all : most + 1 + length script.decls ≤ length d.times = are.room in omega arith
-
-    own : (slot : ℕ) → slot ≡ most + 1 + t → key_of (with_timer (most + 1) script next n t d.times) slot ≡ slot_time (most + 1) script next n slot
-    own slot is =
-        let behind : most + 1 ≤ slot = omega arith in
-        let place : slot - (most + 1) ≡ t = omega arith in
-        ap (key_of (with_timer (most + 1) script next n t d.times)) is
-        ∙ (key_of-set_same d.times (most + 1 + t) (timer_time script next n t) room
-        ∙ (ap (timer_time script next n) (sym place) ∙ sym (slot-timer (most + 1) script next n slot behind)))
-
-    other : (slot : ℕ) → slot ≢ most + 1 + t → slot_time (most + 1) script next n slot ≡ slot_time (most + 1) script s m slot
-    other slot differs =
-        elim (nat_lt slot (most + 1)) as (λ q. nat_lt slot (most + 1) ≡ q → slot_time (most + 1) script next n slot ≡ slot_time (most + 1) script s m slot) [
+    others : (slot : ℕ) → slot ≢ length script.decls + g → slot_time (length script.decls) script next n slot ≡ slot_time (length script.decls) script s m slot
+    others slot differs =
+        elim (nat_lt slot (length script.decls))
+        as (λ q. nat_lt slot (length script.decls) ≡ q → slot_time (length script.decls) script next n slot ≡ slot_time (length script.decls) script s m slot) [
           | true ↦ λ e.
-              let below : slot < most + 1 = ltb-true slot (most + 1) e in
-              slot-sleep (most + 1) script next n slot below ∙ (stay.sleeps (slot + 1) ∙ sym (slot-sleep (most + 1) script s m slot below))
+              let below : slot < length script.decls = ltb-true slot (length script.decls) e in
+              slot-timer (length script.decls) script next n slot below ∙ (stay.timers slot ∙ sym (slot-timer (length script.decls) script s m slot below))
           | false ↦ λ e.
-              let behind : most + 1 ≤ slot = ltb-false slot (most + 1) e in
-              slot-timer (most + 1) script next n slot behind
-              ∙ (stay.timers (slot - (most + 1)) (λ e. differs (omega arith)) ∙ sym (slot-timer (most + 1) script s m slot behind))
+              let behind : length script.decls ≤ slot = ltb-false slot (length script.decls) e in
+              slot-sleep (length script.decls) script next n slot behind
+              ∙ (stay.sleeps (slot - length script.decls) (λ e. differs (omega arith)) ∙ sym (slot-sleep (length script.decls) script s m slot behind))
         ] refl
 
-    at : (slot : ℕ) → key_of (with_timer (most + 1) script next n t d.times) slot ≡ slot_time (most + 1) script next n slot
-    at slot =
-        elim (cases_eq slot (most + 1 + t)) [
-          | inl is ↦ own slot is
-          | inr differs ↦ key_of-set_other d.times (most + 1 + t) slot (timer_time script next n t) differs ∙ (are.each slot ∙ sym (other slot differs))
-        ]
+pub times-timed : (most : ℕ) (script : Script) (s next : State) (m n : Schedule) (t : ℕ) (d e : DueTimes) → AreTimes most script s m d → StayButTimer script s next m n t
+    → t < length script.decls → e.times ≡ with_timer script next n t d.times → e.declarations ≡ d.declarations → AreTimes most script next n e
+times-timed most script s next m n t d e are stay within times declarations =
+    let room : length script.decls + most + 2 ≤ length d.times = are.room in
+    let inside : t < length d.times = omega arith in
+    times-at most script s next m n t (timer_time script next n t) d e are inside times declarations (slot-timer (length script.decls) script next n t within) others
+  where
+    others : (slot : ℕ) → slot ≢ t → slot_time (length script.decls) script next n slot ≡ slot_time (length script.decls) script s m slot
+    others slot differs =
+        ap (λ o. if nat_lt slot (length script.decls) then timer_time script next n slot else o) (stay.sleeps (slot - length script.decls))
+        ∙ ap (λ o. if nat_lt slot (length script.decls) then o else sleeps_until s (slot - length script.decls)) (stay.timers slot differs)

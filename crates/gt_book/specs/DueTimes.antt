@@ -1,4 +1,4 @@
--- The times that will unblock somebody, by slot: first the goroutines' sleeps, then the timers.
+-- The times that will unblock somebody, by slot: first the timers by declaration, then the sleeps by goroutine number.
 use Rattle.std.specs.Prelude.{ℕ, ◌+◌, ◌-◌, ◌^◌, ◌<◌, ◌≤◌, ◌≡◌, ◌||◌, nat_lt, if◌then◌else◌, MatchOption, is_some, List, length, set, slice_get}
 use Rattle.std.specs.declared.option.Option.{Option}
 use Rattle.std.specs.declared.option.Option.TheVariants.{None, Some}
@@ -18,21 +18,21 @@ abbrev pub timer_time : Script → State → Schedule → ℕ → Option ℕ
 timer_time script s m t =
     if is_func script t || is_some (slice_get (waiting_in m.queues (queue_at t)) 0) then due_of s t else None
 
--- the time of a slot, where there are n slots for sleeps
+-- the time of a slot, where there are n declarations
 abbrev pub slot_time : ℕ → Script → State → Schedule → ℕ → Option ℕ
-slot_time n script s m slot = if nat_lt slot n then sleeps_until s (slot + 1) else timer_time script s m (slot - n)
+slot_time n script s m slot = if nat_lt slot n then timer_time script s m slot else sleeps_until s (slot - n)
 
 -- whose slot it is
 abbrev pub whose_slot : ℕ → Script → ℕ → Whose
 whose_slot n script slot =
-    if nat_lt slot n then Whose.Sleep (slot + 1)
-    else if is_func script (slot - n) then Whose.Func (slot - n) else Whose.Timer (slot - n)
+    if nat_lt slot n then if is_func script slot then Whose.Func slot else Whose.Timer slot
+    else Whose.Sleep (slot - n)
 
 -- a time that stands in a slot, and whose slot it is
 pub record IsOfSlot (script : Script) (d : DueTimes) (due : Due) : Type 0 where
   pub slot : ℕ
   pub time : key_of d.times slot ≡ Some due.at
-  pub whose : whose_slot d.goroutines script slot ≡ due.whose
+  pub whose : whose_slot d.declarations script slot ≡ due.whose
 
 -- a time that stands there, such that none of them is less; none where no time stands there
 abbrev pub IsLeast : Script → DueTimes → Option Due → Type 0
@@ -41,15 +41,15 @@ IsLeast script d least =
     (λ due. IsOfSlot script d due × ((slot time : ℕ) → key_of d.times slot ≡ Some time → due.at ≤ time))
 
 -- the times after the one of a sleep, or of a timer, was looked up
-abbrev pub with_sleep : State → ℕ → List (Option ℕ) → List (Option ℕ)
-with_sleep s g times = set times (g - 1) (sleeps_until s g)
+abbrev pub with_sleep : ℕ → State → ℕ → List (Option ℕ) → List (Option ℕ)
+with_sleep n s g times = set times (n + g) (sleeps_until s g)
 
-abbrev pub with_timer : ℕ → Script → State → Schedule → ℕ → List (Option ℕ) → List (Option ℕ)
-with_timer n script s m t times = set times (n + t) (timer_time script s m t)
+abbrev pub with_timer : Script → State → Schedule → ℕ → List (Option ℕ) → List (Option ℕ)
+with_timer script s m t times = set times t (timer_time script s m t)
 
-abbrev pub with_slept : State → ℕ → Option ℕ → List (Option ℕ) → List (Option ℕ)
-with_slept s g None times = times
-with_slept s g (Some until) times = with_sleep s g times
+abbrev pub with_slept : ℕ → State → ℕ → Option ℕ → List (Option ℕ) → List (Option ℕ)
+with_slept n s g None times = times
+with_slept n s g (Some until) times = with_sleep n s g times
 
 -- the times after an entry, where s and m are the state and the schedule after it
 abbrev pub followed : ℕ → Script → State → Schedule → Entry → List (Option ℕ) → List (Option ℕ)
@@ -57,21 +57,21 @@ followed n script s m (Entry.Say g k) times = times
 followed n script s m (Entry.Now g at) times = times
 followed n script s m (Entry.Go g child f) times = times
 followed n script s m (Entry.End g) times = times
-followed n script s m (Entry.Sleep g until) times = with_slept s g until times
-followed n script s m (Entry.Wake g) times = with_sleep s g times
-followed n script s m (Entry.New g t due) times = with_timer n script s m t times
-followed n script s m (Entry.Stop g t was) times = with_timer n script s m t times
-followed n script s m (Entry.Reset g t was due) times = with_timer n script s m t times
-followed n script s m (Entry.TRecv p t due next) times = with_timer n script s m t times
-followed n script s m (Entry.FireFunc t child) times = with_timer n script s m t times
+followed n script s m (Entry.Sleep g until) times = with_slept n s g until times
+followed n script s m (Entry.Wake g) times = with_sleep n s g times
+followed n script s m (Entry.New g t due) times = with_timer script s m t times
+followed n script s m (Entry.Stop g t was) times = with_timer script s m t times
+followed n script s m (Entry.Reset g t was due) times = with_timer script s m t times
+followed n script s m (Entry.TRecv p t due next) times = with_timer script s m t times
+followed n script s m (Entry.FireFunc t child) times = with_timer script s m t times
 followed n script s m (Entry.Clock world at) times = times
 followed n script s m (Entry.Panic p reason) times = times
 followed n script s m (Entry.Finish outcome) times = times
 
 -- the goroutine has a slot
 pub record HasSleepSlot (d : DueTimes) (g : ℕ) : Type 0 where
-  pub number : 0 < g
-  pub room : g ≤ length d.times
+  pub room : d.declarations + g < length d.times
+  pub small : d.declarations + g < 2 ^ 32
 
 abbrev pub HasSleptSlot : DueTimes → ℕ → Option ℕ → Type 0
 HasSleptSlot d g None = Unit {0}
@@ -79,8 +79,7 @@ HasSleptSlot d g (Some until) = HasSleepSlot d g
 
 -- the timer has a slot, and a queue
 pub record HasTimerSlot (d : DueTimes) (m : Scheduler) (t : ℕ) : Type 0 where
-  pub room : d.goroutines + t < length d.times
-  pub small : d.goroutines + t < 2 ^ 32
+  pub room : t < length d.times
   pub queue : queue_at t < length m.queues.queues
   pub few : length m.queues.queues < 2 ^ 32
 
@@ -103,6 +102,6 @@ CanFollow d m (Entry.Finish outcome) = Unit {0}
 
 -- the times are those of a script in a state under a schedule, in a run of so many entries
 pub record AreTimes (most : ℕ) (script : Script) (s : State) (m : Schedule) (d : DueTimes) : Type 0 where
-  pub goroutines : d.goroutines ≡ most + 1
-  pub room : most + 1 + length script.decls ≤ length d.times
-  pub each : (slot : ℕ) → key_of d.times slot ≡ slot_time (most + 1) script s m slot
+  pub declarations : d.declarations ≡ length script.decls
+  pub room : length script.decls + most + 2 ≤ length d.times
+  pub each : (slot : ℕ) → key_of d.times slot ≡ slot_time (length script.decls) script s m slot

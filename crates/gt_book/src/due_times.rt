@@ -19,9 +19,9 @@ use std::alloc::Global;
 /// The ends of sleeps and the due times of timers. A channel timer stands here only while somebody waits at it.
 #[derive(Drop)]
 pub struct DueTimes {
-    /// How many goroutines there can be.
-    pub goroutines: u32,
-    /// By slot: the end of the sleep of each goroutine, and behind them the due time of each timer, by declaration.
+    /// How many declarations there are.
+    pub declarations: u32,
+    /// By slot: the due time of each timer, by declaration, and behind them the end of the sleep of each goroutine, by number.
     pub times: Tournament,
 }
 
@@ -30,19 +30,22 @@ impl DueTimes {
     pub fn begin(alloc: Global, script: &Script, most: u64) -> Result<DueTimes, NoMemory>
         requires most { most ≤ 200000 }
         requires good { IsGood script.now }
-        ensures goroutines { IfOk result (λ made. made.goroutines ≡ most + 1) }
-        ensures room { IfOk result (λ made. most + 1 + length script.now.decls ≤ length made.times) }
+        ensures declarations { IfOk result (λ made. made.declarations ≡ length script.now.decls) }
+        ensures room { IfOk result (λ made. length script.now.decls + most + 2 ≤ length made.times) }
         ensures empty { IfOk result (λ made. (slot : _) → key_of made.times slot ≡ None) }
     {
-        let goroutines = most as u32 + 1;
-        let slots = goroutines + script.decls.as_slice().len() as u32;
-        let times = Tournament::with_room(alloc, slots).map_err(|_| NoMemory)?;
-        Ok(DueTimes { goroutines, times })
+        let declarations = script.decls.as_slice().len() as u32;
+        let times = Tournament::with_room(alloc, declarations + most as u32 + 2).map_err(
+            |_| NoMemory,
+        )?;
+        Ok(DueTimes {
+            declarations,
+            times,
+        })
     }
 
     /// The least of the times, and whose it is.
     pub fn least(&self, script: &Script) -> Option<Due>
-        requires { self.now.goroutines + 1 < 2 ^ 32 }
         ensures { due.IsLeast script.now self.now result }
     {
         let first = self.times.least()?;
@@ -54,28 +57,24 @@ impl DueTimes {
 
     /// Whose slot it is.
     fn whose(&self, script: &Script, slot: u32) -> Whose
-        requires { self.now.goroutines + 1 < 2 ^ 32 }
-        ensures { result ≡ due.whose_slot self.now.goroutines script.now slot }
+        ensures { result ≡ due.whose_slot self.now.declarations script.now slot }
     {
-        if slot < self.goroutines {
-            return Whose::Sleep(slot + 1);
-        }
-        let t = slot - self.goroutines;
-        if is_func(script, t) {
-            Whose::Func(t)
+        if slot >= self.declarations {
+            Whose::Sleep(slot - self.declarations)
+        } else if is_func(script, slot) {
+            Whose::Func(slot)
         } else {
-            Whose::Timer(t)
+            Whose::Timer(slot)
         }
     }
 
     /// Takes over when the sleep of a goroutine ends, if it sleeps.
     fn follow_sleep(&mut self, machine: &Machine, g: u32)
-        requires number { 0 < g }
-        requires room { g ≤ length self.old.times }
-        ensures times { self.new.times ≡ due.with_sleep (state_of machine.now) g self.old.times }
-        ensures goroutines { self.new.goroutines ≡ self.old.goroutines }
+        requires { due.HasSleepSlot self.old g }
+        ensures times { self.new.times ≡ due.with_sleep self.old.declarations (state_of machine.now) g self.old.times }
+        ensures declarations { self.new.declarations ≡ self.old.declarations }
     {
-        self.times.set(g - 1, machine.until(g));
+        self.times.set(self.declarations + g, machine.until(g));
     }
 
     /// Takes over when a timer is due, if it will unblock somebody then.
@@ -86,16 +85,15 @@ impl DueTimes {
         scheduler: &Scheduler,
         t: u32,
     )
-        requires room { self.old.goroutines + t < length self.old.times }
-        requires small { self.old.goroutines + t < 2 ^ 32 }
+        requires room { t < length self.old.times }
         requires queue { queue_at t < length scheduler.now.queues.queues }
         requires few { length scheduler.now.queues.queues < 2 ^ 32 }
-        ensures times { self.new.times ≡ due.with_timer self.old.goroutines script.now (state_of machine.now) (schedule_of scheduler.now) t self.old.times }
-        ensures goroutines { self.new.goroutines ≡ self.old.goroutines }
+        ensures times { self.new.times ≡ due.with_timer script.now (state_of machine.now) (schedule_of scheduler.now) t self.old.times }
+        ensures declarations { self.new.declarations ≡ self.old.declarations }
     {
         let counts = is_func(script, t) || scheduler.first_waiting(t).is_some();
         let due = if counts { machine.due_of(t) } else { None };
-        self.times.set(self.goroutines + t, due);
+        self.times.set(t, due);
     }
 
     /// Takes over what an entry has changed.
@@ -107,8 +105,8 @@ impl DueTimes {
         entry: &Entry,
     )
         requires { due.CanFollow self.old scheduler.now entry.now }
-        ensures times { self.new.times ≡ due.followed self.old.goroutines script.now (state_of machine.now) (schedule_of scheduler.now) entry.now self.old.times }
-        ensures goroutines { self.new.goroutines ≡ self.old.goroutines }
+        ensures times { self.new.times ≡ due.followed self.old.declarations script.now (state_of machine.now) (schedule_of scheduler.now) entry.now self.old.times }
+        ensures declarations { self.new.declarations ≡ self.old.declarations }
     {
         match *entry {
             Entry::Sleep { g, until: Some(_) } | Entry::Wake { g } => self.follow_sleep(machine, g),

@@ -1,5 +1,5 @@
 -- A table that is made, and one in which the key of a slot changes.
-use Rattle.std.proofs.Common.{◌≡◌, ℕ, zero, suc, ◌+◌, ◌*◌, ◌/◌, ◌<◌, ◌≤◌, inl, inr, List, ◌++◌, Option, Some, None, map, length, set, take, drop, replicate, refl, sym, ap, ◌∙◌, arith}
+use Rattle.std.proofs.Common.{◌≡◌, ℕ, zero, suc, ◌+◌, ◌*◌, ◌/◌, ◌<◌, ◌≤◌, inl, inr, List, [], ◌∷◌, ◌++◌, Option, Some, None, map, length, set, take, drop, replicate, refl, sym, ap, ◌∙◌, arith}
 use Rattle.std.specs.Option.{option_map}
 use Rattle.std.proofs.lemmas.Bool.{cases_eq}
 use Rattle.std.proofs.lemmas.List.{length-set, length-replicate, length-drop, length-map, drop-set-add, map-set, drop_all, append-nil, take_all}
@@ -20,6 +20,11 @@ leaf_of-key slot (Some k) = refl
 leaf_of-own : (slot : ℕ) (key : Option ℕ) (w : Winner) → leaf_of slot key ≡ Some w → w.slot ≡ slot
 leaf_of-own slot None w h = cc
 leaf_of-own slot (Some k) w h = let same : record { key = k; slot = slot } ≡ w = cc in ap (λ (v : Winner). v.slot) (sym same)
+
+-- a list of nothing, item by item
+pub map-none : (xs : List ℕ) → map {B = Option Winner} (λ x. None) xs ≡ replicate (length xs) None
+map-none [] = refl
+map-none (x ∷ xs) = ap (λ l. None ∷ l) (map-none xs)
 
 node-replicate : (n k : ℕ) → node (replicate n None) k ≡ None
 node-replicate zero k = refl

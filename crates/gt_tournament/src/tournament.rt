@@ -1,10 +1,10 @@
 //! The table.
 
-ghost use Rattle.std.specs.Prelude.{◌≡◌, ◌≢◌, ℕ, ◌+◌, ◌^◌, ◌<◌, ◌≤◌, ◌↔◌, Some, None, IsNone, IfSome, IfOk, length, slice_set};
+ghost use Rattle.std.specs.Prelude.{◌≡◌, ◌≢◌, ℕ, ◌+◌, ◌^◌, ◌<◌, ◌≤◌, ◌↔◌, Some, None, IsNone, IfSome, IfOk, length, replicate, slice_set};
 ghost use Rattle.gt_tournament.specs.Keys.{key_of};
 
 use crate::matches::{Winner, replay};
-use std::alloc::Global;
+use std::alloc::{AllocError, Global};
 use std::marker::Model;
 
 /// No memory was left.
@@ -34,6 +34,13 @@ impl Model for Tournament {
     ghost invariant = { λ t. IsTree t.slots t.top t.nodes.items };
 }
 
+/// So many nodes that hold nothing.
+fn all_empty(alloc: Global, n: usize) -> Result<Vec<Option<Winner>>, AllocError>
+    ensures { IfOk result (λ nodes. nodes.items ≡ replicate n None) }
+{
+    (0..n).map(|_| None).collect(alloc)
+}
+
 impl Tournament {
     /// A table with at least `n` slots, none of which has a key. It alone takes memory.
     pub fn with_room(alloc: Global, n: u32) -> Result<Tournament, NoMemory>
@@ -41,7 +48,7 @@ impl Tournament {
         ensures room { IfOk result (λ made. n ≤ length made) }
     {
         let slots = (n as usize).next_power_of_two();
-        match vec![in alloc; None; 2 * slots] {
+        match all_empty(alloc, 2 * slots) {
             Ok(nodes) => Ok(Tournament {
                 slots,
                 top: slots,

@@ -18,8 +18,8 @@ invariant_of-result c =
     let room : c.in_ok-machine.machine.goroutines.spare ≡ c.args.limits.entries = search rules in
     let schedule : schedule_of c.in_ok-scheduler.scheduler ≡ first_schedule c.in_ok-script.script = search rules in
     let kept : IsScheduler c.args.limits.entries c.in_ok-scheduler.scheduler = search rules in
-    let slots : c.in_ok-due_times.due_times.goroutines ≡ c.args.limits.entries + 1 = search rules in
-    let long : c.args.limits.entries + 1 + length c.in_ok-script.script.decls ≤ length c.in_ok-due_times.due_times.times = search rules in
+    let slots : c.in_ok-due_times.due_times.declarations ≡ length c.in_ok-script.script.decls = search rules in
+    let long : length c.in_ok-script.script.decls + c.args.limits.entries + 2 ≤ length c.in_ok-due_times.due_times.times = search rules in
     let none_due : (slot : ℕ) → key_of c.in_ok-due_times.due_times.times slot ≡ None = search rules in
     begun-kept (record {
       script = c.in_ok-script.script;

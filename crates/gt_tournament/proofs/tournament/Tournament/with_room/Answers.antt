@@ -1,4 +1,4 @@
-use Rattle.std.proofs.Common.{rules, arith}
+use Rattle.std.proofs.Common.{arith}
 use Rattle.std.proofs.lemmas.Nat.{pow_pos}
 use Rattle.gt_tournament.proofs.Changes.{IsTree-empty, key_of-empty}
 use Rattle.gt_tournament.proofs.tournament.Tournament.with_room.Goals as goal
@@ -6,8 +6,8 @@ use Rattle.gt_tournament.proofs.tournament.Tournament.with_room.Goals as goal
 pub invariant_of-result : goal.invariant_of-result
 invariant_of-result c =
     let slots = c.next_power_of_two-slots.result in
-    IsTree-empty slots c.in-Ok.nodes.items (let x = c.next_power_of_two-slots.ensures.power in omega (arith, pow_pos x.0, x.1)) (c.in-Ok.ensures.items_if_clones_equal (search rules))
+    IsTree-empty slots c.in-Ok.nodes.items (let x = c.next_power_of_two-slots.ensures.power in omega (arith, pow_pos x.0, x.1)) c.in-Ok.ensures
 
 pub returns-in-Ok-clause-empty : goal.returns-in-Ok-clause-empty
 returns-in-Ok-clause-empty c =
-    key_of-empty c.next_power_of_two-slots.result c.in-Ok.nodes.items (c.in-Ok.ensures.items_if_clones_equal (search rules))
+    key_of-empty c.next_power_of_two-slots.result c.in-Ok.nodes.items c.in-Ok.ensures
