@@ -13,9 +13,9 @@ use Rattle.gt_model.specs.Good.{IsGood, AreLimits}
 use Rattle.gt_model.proofs.Formed.{formed-first}
 use Rattle.gt_room.specs.Contents.{Contents}
 use Rattle.gt_book.specs.declared.book.Book.TheInside.{Inside}
-use Rattle.gt_book.specs.declared.machine.Machine.{Machine}
+use Rattle.gt_machine.specs.declared.machine.Machine.{Machine}
 use Rattle.gt_book.specs.declared.scheduler.Scheduler.{Scheduler}
-use Rattle.gt_book.specs.Machine.{state_of}
+use Rattle.gt_machine.specs.Machine.{state_of}
 use Rattle.gt_book.specs.Queues.{as_number}
 use Rattle.gt_book.specs.Schedule.{Schedule, scheduled}
 use Rattle.gt_book.specs.declared.due_times.DueTimes.{DueTimes}
@@ -24,7 +24,8 @@ use Rattle.gt_tournament.specs.Keys.{key_of}
 use Rattle.gt_book.proofs.EntryTimes.{Reaches, reaches-May, can_follow-reaches, times-entered, times-finished, times-first}
 use Rattle.gt_book.specs.Scheduler.{schedule_of, IsScheduler, CanApply}
 use Rattle.gt_book.specs.Steps.{Served}
-use Rattle.gt_book.specs.View.{BookView, IsLawful, Fits, Enters, first_view, first_schedule, with_entries, outcome_of, outcome_in, due_outcome}
+use Rattle.gt_book.specs.View.{BookView, IsLawful, Fits, Enters, first_view, first_schedule, with_entries, outcome_of}
+use Rattle.gt_machine.specs.Outcomes.{outcome_in, due_outcome}
 use Rattle.gt_book.specs.Book.{seen, HasRooms, IsKept}
 use Rattle.gt_book.proofs.Entering.{IsEntered, entered_by, running-none, lawful-goes_on, lawful-finishes, enters-goes_on, enters-finishes, IsCounted, counted-May}
 use Rattle.gt_book.proofs.Fitting.{fits-first, fits-entered, receives-parked}

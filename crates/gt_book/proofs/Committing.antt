@@ -24,7 +24,7 @@ use Rattle.gt_book.specs.Steps.{step_of, step_or_panic, step_of_instr, plainly, 
 use Rattle.gt_book.specs.Least.{IsTimeOf}
 use Rattle.gt_book.specs.View.{BookView, IsLawful, Fits, outcome_of, is_parked, is_parked_at, is_at_receive}
 use Rattle.gt_book.specs.Queues.{as_number, times}
-use Rattle.gt_book.proofs.Machines.{world_of-zero, timer_within}
+use Rattle.gt_machine.proofs.Machines.{world_of-zero, timer_within}
 use Rattle.gt_book.proofs.Lists.{times-first_same}
 use Rattle.gt_book.proofs.Going.{IsStep, step-is}
 

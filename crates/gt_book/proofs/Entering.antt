@@ -19,7 +19,8 @@ use Rattle.gt_model.specs.Formed.{IsFormed}
 use Rattle.gt_model.proofs.Histories.{AllLegal-append, state_after-append}
 use Rattle.gt_model.proofs.Formed.{formed-after, formed-finish}
 use Rattle.gt_book.specs.Schedule.{Schedule, scheduled}
-use Rattle.gt_book.specs.View.{BookView, IsLawful, Fits, Agrees, Enters, with_entries, due_outcome, finish_by, outcome_of, outcome_in}
+use Rattle.gt_book.specs.View.{BookView, IsLawful, Fits, Agrees, Enters, with_entries, finish_by, outcome_of}
+use Rattle.gt_machine.specs.Outcomes.{due_outcome, outcome_in}
 
 -- an entry that may come while the run goes on is legal
 pub legal-May : (script : Script) (limits : Limits) (s : State) (e : Entry) → IsRunning limits s → May script s e → Legal script limits s e

@@ -24,7 +24,7 @@ use Rattle.gt_book.specs.declared.scheduler.Scheduler.{Scheduler}
 use Rattle.gt_book.specs.Schedule.{Schedule, run_queue, queue_at, leaves, scheduled, parked_at, taken}
 use Rattle.gt_book.specs.DueTimes.{timer_time, slot_time, with_timer, followed, CanFollow, HasSleepSlot, HasSleptSlot, HasTimerSlot, AreTimes}
 use Rattle.gt_book.proofs.Lists.{waiting-set_other}
-use Rattle.gt_book.proofs.Machines.{timer_within, func_within, setting_within}
+use Rattle.gt_machine.proofs.Machines.{timer_within, func_within, setting_within}
 use Rattle.gt_book.proofs.SchedulerNeeds.{numbered-le}
 use Rattle.gt_book.proofs.Fitting.{Asleep, sleeper}
 use Rattle.gt_book.proofs.Times.{until-other, until-begun, until-stands, timer-same, runs-other, at-set_other, at-change_other, times-stay, times-slept, times-timed}

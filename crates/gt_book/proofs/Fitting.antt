@@ -28,7 +28,7 @@ use Rattle.gt_book.specs.Queues.{as_number, times}
 use Rattle.gt_book.specs.Schedule.{Schedule, run_queue, queue_at, status_of, joins, leaves, queued, with_new, parked_at, taken, scheduled, next_park}
 use Rattle.gt_book.specs.View.{first_schedule, is_parked_at, is_parked, is_firm_at, WaitsAt, Agrees, is_at_receive, is_queued, Fits}
 use Rattle.gt_book.specs.Steps.{Served}
-use Rattle.gt_book.proofs.Machines.{declared_within}
+use Rattle.gt_machine.proofs.Machines.{declared_within}
 use Rattle.gt_book.proofs.Lists.{times-one_other, times-first_same, times-first_other, times-joins_same, times-joins_other, times-joins_by, times-leaves_same, times-leaves_other, times-leaves_by, waiting-set_same, waiting-set_other, numbered-change_same, numbered-change_other, numbered-push_same, numbered-push_other, HasNumber, has_number, numbered-next, list_all-from_numbered}
 
 -- ---- the facts of one goroutine

@@ -18,11 +18,11 @@ use Rattle.gt_model.proofs.Formed.{formed-finish}
 use Rattle.gt_model.proofs.Named.{names-Does}
 use Rattle.gt_queue.specs.Contents.{waiting_in}
 use Rattle.gt_book.specs.declared.book.Book.TheInside.{Inside}
-use Rattle.gt_book.specs.declared.machine.Machine.{Machine}
+use Rattle.gt_machine.specs.declared.machine.Machine.{Machine}
 use Rattle.gt_book.specs.declared.scheduler.Scheduler.{Scheduler}
 use Rattle.gt_book.specs.declared.status.RunStatus.{RunStatus}
 use Rattle.gt_book.specs.declared.step.Step.{Step}
-use Rattle.gt_book.specs.Machine.{state_of}
+use Rattle.gt_machine.specs.Machine.{state_of}
 use Rattle.gt_book.specs.Schedule.{Schedule, run_queue, status_of, taken}
 use Rattle.gt_book.specs.Scheduler.{schedule_of, IsScheduler}
 use Rattle.gt_book.specs.Steps.{step_of, step_or_panic, step_of_instr, plainly}
@@ -32,7 +32,7 @@ use Rattle.gt_book.proofs.Entering.{running-none, sound-more, sound-lawful, lawf
 use Rattle.gt_room.specs.Contents.{Contents}
 use Rattle.gt_book.proofs.Books.{Finished, seen-is, finished-rooms}
 use Rattle.gt_book.proofs.Fitting.{Known, known, fits-taken}
-use Rattle.gt_book.proofs.Machines.{timer_within}
+use Rattle.gt_machine.proofs.Machines.{timer_within}
 use Rattle.gt_book.specs.declared.due_times.DueTimes.{DueTimes}
 use Rattle.gt_book.specs.DueTimes.{AreTimes}
 use Rattle.gt_book.proofs.EntryTimes.{times-taken, times-finished}

@@ -1,5 +1,4 @@
 pub mod Entering
-pub mod Machines
 pub mod SchedulerQueues
 pub mod SchedulerCounts
 pub mod SchedulerNeeds

@@ -9,7 +9,8 @@ use Rattle.gt_model.specs.State.{State, goroutine_at, instr_at, stands, stands_a
 use Rattle.gt_book.specs.declared.answers.Did.{Did}
 use Rattle.gt_book.specs.declared.answers.TimerOp.{TimerOp}
 use Rattle.gt_book.specs.declared.step.Step.{Step}
-use Rattle.gt_book.specs.Steps.{Does, Steps, step_of, placed_at}
+use Rattle.gt_book.specs.Steps.{Does, Steps, step_of}
+use Rattle.gt_machine.specs.Places.{placed_at}
 use Rattle.gt_book.specs.View.{BookView, outcome_of}
 use Rattle.gt_book.proofs.Committing.{set-stands}
 

@@ -1,9 +1,10 @@
 -- What contracts see of a book, and what it keeps.
 use Rattle.std.specs.Prelude.{◌+◌, ◌≡◌, is_some, length}
 use Rattle.gt_book.specs.declared.book.Book.TheInside.{Inside}
-use Rattle.gt_book.specs.Machine.{state_of}
+use Rattle.gt_machine.specs.Machine.{state_of}
 use Rattle.gt_book.specs.Scheduler.{schedule_of, IsScheduler}
-use Rattle.gt_book.specs.View.{BookView, outcome_in, IsLawful}
+use Rattle.gt_book.specs.View.{BookView, IsLawful}
+use Rattle.gt_machine.specs.Outcomes.{outcome_in}
 use Rattle.gt_book.specs.Queues.{as_number}
 use Rattle.gt_book.specs.DueTimes.{AreTimes}
 

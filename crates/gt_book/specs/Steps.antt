@@ -7,7 +7,7 @@ use Rattle.gt_model.specs.declared.script.Instr.{Instr}
 use Rattle.gt_model.specs.declared.entry.Entry.{Entry}
 use Rattle.gt_model.specs.declared.entry.Party.{Party}
 use Rattle.gt_model.specs.declared.entry.Reason.{Reason}
-use Rattle.gt_model.specs.State.{State, goroutine_at, instr_at, clock, stands_at, clock_of, next_number, sleeps_until}
+use Rattle.gt_model.specs.State.{State, clock, stands_at, clock_of, next_number, sleeps_until}
 use Rattle.gt_model.specs.Panics.{fault}
 use Rattle.gt_model.specs.Legal.{May}
 use Rattle.gt_model.specs.After.{new_period}
@@ -26,10 +26,6 @@ use Rattle.gt_book.specs.View.{BookView, Enters, with_schedule, outcome_of, is_p
 -- a goroutine at its plain instruction
 abbrev pub plainly : ℕ → Party
 plainly g = record { g = g; case_no = 0 }
-
--- the instruction at a goroutine's place, whatever its mode
-abbrev pub placed_at : Script → State → ℕ → Option Instr
-placed_at script s g = elim (goroutine_at s g) [ None ↦ None | Some r ↦ instr_at script r.place ]
 
 -- an instruction without a panic
 abbrev pub step_of_instr : State → ℕ → Instr → Step

@@ -1,5 +1,5 @@
 -- What a contract sees of a book.
-use Rattle.std.specs.Prelude.{ℕ, ◌+◌, ◌<◌, ◌≡◌, ◌==◌, ◌&&◌, if◌then◌else◌, Bool, true, false, is_some, IsTrue, MatchOption, List, [], ◌∷◌, ◌++◌, length, replicate, count_by}
+use Rattle.std.specs.Prelude.{ℕ, ◌+◌, ◌<◌, ◌≡◌, ◌&&◌, Bool, true, false, is_some, IsTrue, MatchOption, List, [], ◌∷◌, ◌++◌, length, replicate, count_by}
 use Rattle.std.specs.declared.option.Option.{Option}
 use Rattle.std.specs.declared.option.Option.TheVariants.{None, Some}
 use Rattle.gt_model.specs.declared.script.Script.{Script}
@@ -7,7 +7,6 @@ use Rattle.gt_model.specs.declared.script.Instr.{Instr}
 use Rattle.gt_model.specs.declared.entry.Entry.{Entry}
 use Rattle.gt_model.specs.declared.entry.Limits.{Limits}
 use Rattle.gt_model.specs.declared.entry.Outcome.{Outcome}
-use Rattle.gt_model.specs.declared.state.Ending.{Ending}
 use Rattle.gt_model.specs.declared.state.Goroutine.{Goroutine}
 use Rattle.gt_model.specs.declared.state.Mode.{Mode}
 use Rattle.gt_model.specs.State.{State, goroutine_at, timer_at, instr_at, stands_at}
@@ -17,6 +16,7 @@ use Rattle.gt_model.specs.Finish.{IsRunning}
 use Rattle.gt_model.specs.History.{AllLegal, state_after}
 use Rattle.gt_model.specs.Formed.{IsFormed}
 use Rattle.gt_model.specs.Ready.{is_firm}
+use Rattle.gt_machine.specs.Outcomes.{outcome_in, due_outcome}
 use Rattle.gt_book.specs.declared.status.RunStatus.{RunStatus}
 use Rattle.gt_model.specs.Counted.{receives}
 use Rattle.gt_queue.specs.Contents.{waiting_in}
@@ -42,10 +42,6 @@ abbrev pub with_schedule : BookView → Schedule → BookView
 with_schedule b m = record b { schedule = m }
 
 -- the outcome of the run, if it has one
-abbrev pub outcome_in : Ending → Option Outcome
-outcome_in (Ending.Finished outcome) = Some outcome
-outcome_in _ = None
-
 abbrev pub outcome_of : BookView → Option Outcome
 outcome_of b = outcome_in b.state.ending
 
@@ -65,15 +61,6 @@ first_view script limits = record {
   state = first_state script;
   schedule = first_schedule script;
 }
-
--- the outcome that a run has in a state, if one is due: main has ended, a goroutine has panicked, or the limit is reached
-abbrev pub due_outcome : Limits → State → Option Outcome
-due_outcome limits s = elim s.ending [
-  | Ending.MainEnded ↦ Some Outcome.Exit
-  | Ending.Panicked ↦ Some Outcome.Panic
-  | Ending.Running ↦ if s.entries == limits.entries then Some Outcome.Limit else None
-  | Ending.Finished outcome ↦ None
-]
 
 abbrev pub finish_by : Option Outcome → List Entry
 finish_by None = []

@@ -10,19 +10,20 @@ ghost use Rattle.gt_model.specs.Counted.{counted};
 ghost use Rattle.gt_model.specs.Tables.{least};
 ghost use Rattle.gt_model.specs.declared.entry.Entry.{Entry};
 ghost use Rattle.gt_model.specs.declared.entry.Outcome.{Outcome};
+ghost use Rattle.gt_machine.specs.Places.{placed_at};
 ghost use Rattle.gt_queue.specs.Contents.{waiting_in};
 ghost use Rattle.gt_book.specs.declared.status.RunStatus.{RunStatus};
 ghost use Rattle.gt_book.specs.Schedule.{queue_at, status_of};
 ghost use Rattle.gt_book.specs.Least.{NobodyRuns, IsTimeOf};
-ghost use Rattle.gt_book.specs.Steps.{Takes, Steps, step_of, Served, MayCommit, Commits, is_gone, entry_of, placed_at, plainly, Clocks};
+ghost use Rattle.gt_book.specs.Steps.{Takes, Steps, step_of, Served, MayCommit, Commits, is_gone, entry_of, plainly, Clocks};
 ghost use Rattle.gt_book.specs.View.{first_view, outcome_of, with_entries, is_parked_at, Enters, IsLawful, NoneFirm};
 
 use crate::answers::{Commit, Did, Due, Op, Pick, TimerOp};
 use crate::due_times::DueTimes;
-use crate::machine::{Machine, PROGRAM};
 use crate::scheduler::Scheduler;
 use crate::status::RunStatus;
-use crate::step::{Step, plainly};
+use crate::step::{Step, next_step, plainly};
+use gt_machine::{Machine, PROGRAM};
 use gt_model::{CAP, Entry, Instr, Limits, NoMemory, Outcome, Party, Script};
 use gt_room::Room;
 use std::alloc::Global;
@@ -118,9 +119,7 @@ impl Book {
         requires { IsSome (at.goroutine_at self.now.state g) }
         ensures { placed_at self.now.script self.now.state g ≡ Some result.now }
     {
-        let place = self.machine.goroutines.at(g as usize - 1).place;
-        let func = &self.script.funcs.as_slice()[place.func as usize];
-        &func.code.as_slice()[place.at as usize]
+        self.machine.instr_of(&self.script, g)
     }
 
     /// One above the greatest number of a timer's record: the declarations have the first numbers, and the sleeps of goroutines those behind them.
@@ -256,7 +255,7 @@ impl Book {
         requires { status_of self.now.schedule g ≡ Some RunStatus.InHand }
         ensures { step_of self.now.script self.now.state g ≡ Some result }
     {
-        self.machine.next_step(&self.script, g).unwrap()
+        next_step(&self.machine, &self.script, g).unwrap()
     }
 
     /// Whether an operation comes too late.

@@ -4,14 +4,14 @@ ghost use Rattle.std.specs.Prelude.{◌≡◌, ◌+◌, ◌<◌, ◌≤◌, ◌^
 ghost use Rattle.gt_model.specs.Good.{IsGood};
 ghost use Rattle.gt_model.specs.State as at;
 ghost use Rattle.gt_tournament.specs.Keys.{key_of};
-ghost use Rattle.gt_book.specs.Machine.{state_of};
+ghost use Rattle.gt_machine.specs.Machine.{state_of};
 ghost use Rattle.gt_book.specs.Schedule.{queue_at};
 ghost use Rattle.gt_book.specs.Scheduler.{schedule_of};
 ghost use Rattle.gt_book.specs.DueTimes as due;
 
 use crate::answers::{Due, Whose};
-use crate::machine::Machine;
 use crate::scheduler::Scheduler;
+use gt_machine::Machine;
 use gt_model::{Decl, Entry, NoMemory, Script, What};
 use gt_tournament::Tournament;
 use std::alloc::Global;

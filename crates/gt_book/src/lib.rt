@@ -4,13 +4,11 @@
 mod answers;
 mod book;
 mod due_times;
-mod machine;
 mod scheduler;
 mod status;
 mod step;
 #[cfg(test)]
 mod tests;
-mod timers;
 
 pub use answers::{Commit, Did, Due, Op, Pick, TimerOp, Whose};
 pub use book::Book;

@@ -3,11 +3,11 @@
 ghost use Rattle.std.specs.Prelude.{◌≡◌, ◌<◌, ◌-◌, ◌^◌, length};
 ghost use Rattle.gt_model.specs.State as at;
 ghost use Rattle.gt_model.specs.Formed.{IsFormed};
-ghost use Rattle.gt_book.specs.Machine.{state_of};
+ghost use Rattle.gt_machine.specs.Machine.{state_of};
 ghost use Rattle.gt_book.specs.Steps.{step_of, step_of_instr, plainly};
 
 use crate::answers::TimerOp;
-use crate::machine::Machine;
+use gt_machine::Machine;
 use gt_model::{Entry, Instr, Party, Script};
 
 /// What a goroutine does next.
@@ -28,43 +28,44 @@ pub fn plainly(g: u32) -> Party
     Party { g, case_no: 0 }
 }
 
-impl Machine {
-    /// What an instruction without misuse is for goroutine `g`.
-    fn step_of_instr(&self, g: u32, instr: Instr) -> Step
-        requires world { at.world_of (state_of self.now) g ≡ 0 }
-        requires few { length self.now.goroutines.items < 2 ^ 32 - 1 }
-        ensures { result ≡ step_of_instr (state_of self.now) g instr }
-    {
-        match instr {
-            Instr::Say { n } => Step::Makes(Entry::Say { g, n }),
-            Instr::Now => Step::Makes(Entry::Now { g, at: self.clock }),
-            Instr::Sleep { d: 0 } => Step::Makes(Entry::Sleep { g, until: None }),
-            Instr::Sleep { d } => Step::Needs(TimerOp::Sleep(d)),
-            Instr::Go { f } => Step::Makes(Entry::Go {
-                g,
-                child: self.goroutine_count() + 1,
-                f,
-            }),
-            Instr::New { t, .. } | Instr::Reset { t, .. } => Step::Needs(TimerOp::Set(t)),
-            Instr::Stop { t } => Step::Needs(TimerOp::Stop(t)),
-            Instr::Recv { o } => Step::Waits(o),
-            Instr::Finish => Step::Makes(Entry::End { g }),
-        }
+/// What an instruction without misuse is for goroutine `g`.
+fn step_of_instr(machine: &Machine, g: u32, instr: Instr) -> Step
+    requires world { at.world_of (state_of machine.now) g ≡ 0 }
+    requires few { length machine.now.goroutines.items < 2 ^ 32 - 1 }
+    ensures { result ≡ step_of_instr (state_of machine.now) g instr }
+{
+    match instr {
+        Instr::Say { n } => Step::Makes(Entry::Say { g, n }),
+        Instr::Now => Step::Makes(Entry::Now {
+            g,
+            at: machine.clock,
+        }),
+        Instr::Sleep { d: 0 } => Step::Makes(Entry::Sleep { g, until: None }),
+        Instr::Sleep { d } => Step::Needs(TimerOp::Sleep(d)),
+        Instr::Go { f } => Step::Makes(Entry::Go {
+            g,
+            child: machine.goroutine_count() + 1,
+            f,
+        }),
+        Instr::New { t, .. } | Instr::Reset { t, .. } => Step::Needs(TimerOp::Set(t)),
+        Instr::Stop { t } => Step::Needs(TimerOp::Stop(t)),
+        Instr::Recv { o } => Step::Waits(o),
+        Instr::Finish => Step::Makes(Entry::End { g }),
     }
+}
 
-    /// What goroutine `g` does next. None where it stands at no instruction.
-    pub fn next_step(&self, script: &Script, g: u32) -> Option<Step>
-        requires formed { IsFormed script.now (state_of self.now) }
-        requires few { length self.now.goroutines.items < 2 ^ 32 - 1 }
-        ensures { result ≡ step_of script.now (state_of self.now) g }
-    {
-        let instr = self.stands_at(script, g)?;
-        Some(match self.fault(&instr) {
-            Some(reason) => Step::Makes(Entry::Panic {
-                p: plainly(g),
-                reason,
-            }),
-            None => self.step_of_instr(g, instr),
-        })
-    }
+/// What goroutine `g` does next. None where it stands at no instruction.
+pub fn next_step(machine: &Machine, script: &Script, g: u32) -> Option<Step>
+    requires formed { IsFormed script.now (state_of machine.now) }
+    requires few { length machine.now.goroutines.items < 2 ^ 32 - 1 }
+    ensures { result ≡ step_of script.now (state_of machine.now) g }
+{
+    let instr = machine.stands_at(script, g)?;
+    Some(match machine.fault(&instr) {
+        Some(reason) => Step::Makes(Entry::Panic {
+            p: plainly(g),
+            reason,
+        }),
+        None => step_of_instr(machine, g, instr),
+    })
 }

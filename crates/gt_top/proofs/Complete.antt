@@ -11,7 +11,8 @@ use Rattle.gt_model.specs.History.{History, AllLegal, AllJump, state_after}
 use Rattle.gt_model.specs.Named.{AllNamed}
 use Rattle.gt_model.proofs.Named.{AllNamed-legal}
 use Rattle.gt_laws.proofs.Laws.{each-in_order, each-in_time, each-fresh}
-use Rattle.gt_book.specs.View.{BookView, IsLawful, outcome_in, outcome_of}
+use Rattle.gt_book.specs.View.{BookView, IsLawful, outcome_of}
+use Rattle.gt_machine.specs.Outcomes.{outcome_in}
 use Rattle.gt_top.specs.Answer.{IsRun}
 use Rattle.gt_top.specs.Run.{IsComplete}
 

@@ -7,7 +7,8 @@ use Rattle.gt_book.specs.declared.answers.Op.{Op}
 use Rattle.gt_book.specs.declared.answers.TimerOp.{TimerOp}
 use Rattle.gt_book.specs.declared.status.RunStatus.{RunStatus}
 use Rattle.gt_book.specs.Schedule.{status_of}
-use Rattle.gt_book.specs.Steps.{MayCommit, Steps, placed_at}
+use Rattle.gt_book.specs.Steps.{MayCommit, Steps}
+use Rattle.gt_machine.specs.Places.{placed_at}
 use Rattle.gt_book.specs.View.{BookView, IsLawful, outcome_of}
 use Rattle.gt_book.proofs.Committing.{may-new}
 use Rattle.gt_book.proofs.Setting.{NeedsOnly, steps-timer, new-placed}

@@ -1,6 +1,6 @@
 use Rattle.std.proofs.Common.{◌≡◌, ◌∙◌, ap, Some}
 use Rattle.gt_model.specs.declared.script.Instr.{Instr}
-use Rattle.gt_book.specs.Steps.{placed_at}
+use Rattle.gt_machine.specs.Places.{placed_at}
 use Rattle.gt_book.proofs.Committing.{may-new, may-reset}
 use Rattle.gt_book.proofs.Setting.{new-placed, reset-placed}
 use Rattle.gt_top.proofs.runner.setting.Goals as goal

@@ -2,7 +2,7 @@ use Rattle.std.proofs.Common.{rules, sym, subst, ◌≡◌, ◌+◌, ◌≤◌, 
 use Rattle.gt_model.specs.Good.{IsGood}
 use Rattle.gt_model.specs.After.{first_state}
 use Rattle.gt_tournament.specs.Keys.{key_of}
-use Rattle.gt_book.specs.Machine.{state_of}
+use Rattle.gt_machine.specs.Machine.{state_of}
 use Rattle.gt_book.specs.Scheduler.{schedule_of, IsScheduler}
 use Rattle.gt_book.specs.View.{first_schedule}
 use Rattle.gt_book.proofs.Books.{begun-kept}

@@ -1,7 +1,8 @@
 use Rattle.std.proofs.Common.{arith, ◌<◌, ◌+◌, None, ◌≡◌, ◌∙◌, sym, subst}
-use Rattle.gt_book.specs.View.{due_outcome, Enters}
+use Rattle.gt_book.specs.View.{Enters}
+use Rattle.gt_machine.specs.Outcomes.{due_outcome}
 use Rattle.gt_book.specs.Book.{seen}
-use Rattle.gt_book.specs.Machine.{state_of}
+use Rattle.gt_machine.specs.Machine.{state_of}
 use Rattle.gt_book.proofs.Books.{CanEnter, can_enter-seen, with_parts, Applied, can_enter-applies, can_enter-room, can_enter-follows, kept-applied, kept-finished, enters-finished}
 use Rattle.gt_book.proofs.book.Book.enter.Goals as goal
 

@@ -1,7 +1,7 @@
 use Rattle.std.proofs.Common.{rules, subst, sym, ap, ◌∙◌, ◌≡◌, ◌+◌, ◌<◌, ◌≤◌, Some, length, length-set, arith}
 use Rattle.gt_book.specs.declared.status.RunStatus.{RunStatus}
 use Rattle.gt_book.specs.declared.step.Step.{Step}
-use Rattle.gt_book.specs.Machine.{state_of}
+use Rattle.gt_machine.specs.Machine.{state_of}
 use Rattle.gt_book.specs.Schedule.{Schedule, queue_at, status_of, parked_at}
 use Rattle.gt_book.specs.DueTimes.{with_timer}
 use Rattle.gt_book.proofs.EntryTimes.{times-parked_at}

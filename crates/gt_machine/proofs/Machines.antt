@@ -1,7 +1,7 @@
 -- Goroutines by number and by place; what stands where in a formed state.
-use Rattle.std.proofs.Common.{◌≡◌, ℕ, zero, suc, ◌-◌, ◌+◌, ◌^◌, ◌<◌, ◌≤◌, List, [], ◌∷◌, ◌++◌, map, length, get_or, refl, sym, subst, ◌∙◌, ap, set, slice_get, Option, None, Some, option_map, sub-one, IsSomeAnd, IsTrue, Bool, true, false, is_some, ◌||◌, arith}
+use Rattle.std.proofs.Common.{◌≡◌, ℕ, zero, suc, ◌-◌, ◌+◌, ◌^◌, ◌<◌, ◌≤◌, List, [], ◌∷◌, ◌++◌, map, length, get_or, refl, sym, subst, ◌∙◌, ap, set, slice_get, Option, None, Some, option_map, sub-one, IsSomeAnd, IsTrue, Bool, false, ◌||◌, arith}
 use Rattle.std.specs.Prelude.{replicate}
-use Rattle.std.proofs.lemmas.Option.{get_or_from_slice_get, slice_get_within, slice_get-get_or}
+use Rattle.std.proofs.lemmas.Option.{get_or_from_slice_get, slice_get_within}
 use Rattle.std.proofs.lemmas.List.Sums.{get_or-le-sum_by}
 use Rattle.std.proofs.Math.ListN.{length-append}
 use Rattle.gt_model.specs.declared.script.Script.{Script}
@@ -9,18 +9,16 @@ use Rattle.gt_model.specs.declared.script.Decl.{Decl}
 use Rattle.gt_model.specs.declared.script.Func.{Func}
 use Rattle.gt_model.specs.declared.script.What.{What}
 use Rattle.gt_model.specs.declared.script.Instr.{Instr}
-use Rattle.gt_model.specs.declared.script.Place.{Place}
 use Rattle.gt_model.specs.declared.entry.Party.{Party}
 use Rattle.gt_model.specs.declared.state.Goroutine.{Goroutine}
 use Rattle.gt_model.specs.declared.state.Mode.{Mode}
 use Rattle.gt_model.specs.declared.state.Timer.{Timer}
 use Rattle.gt_model.specs.Tables.{numbered, change_numbered}
-use Rattle.gt_model.specs.State.{State, code_of, instr_at, goroutine_at, stands, stands_at, until_of, sleeps_until, world_of, timer_at, what_at, is_timer, is_func, names_timer, names_func}
+use Rattle.gt_model.specs.State.{State, code_of, goroutine_at, stands, stands_at, until_of, sleeps_until, world_of, timer_at, what_at, is_timer, is_func, names_timer, names_func}
 use Rattle.gt_model.specs.After.{timer_world}
 use Rattle.gt_model.specs.Good.{IsGood, is_setting, instruction_count}
 use Rattle.gt_model.specs.Legal.{operation, operation_at}
 use Rattle.gt_model.specs.Formed.{IsFormed, IsPlacedIn}
-use Rattle.gt_book.specs.Steps.{placed_at}
 use Rattle.gt_model.proofs.Tables.{change_numbered-set}
 use Rattle.gt_model.proofs.Changes.{length-change_numbered}
 
@@ -164,48 +162,3 @@ pub room_begun : (gs hs : List Goroutine) (r : Goroutine) (x y : ℕ) → hs ≡
 room_begun gs hs r x y e k =
     let more : length hs ≡ length gs + 1 = ap length e ∙ length-append gs (r ∷ []) in
     omega arith
-
--- ---- the instruction at a place
-
--- the goroutine and its function that were looked up, where the number is a goroutine's
-pub record FoundCode (script : Script) (s : State) (g : ℕ) (r : Goroutine) (func : Func) : Type 0 where
-  pub there : goroutine_at s g ≡ Some r
-  pub code : code_of script r.place.func ≡ func.code
-
-some-numbered : {X : Type 0} (xs : List X) (g : ℕ) (x : X) → is_some (numbered xs g) ≡ true → slice_get xs (g - 1) ≡ Some x → numbered xs g ≡ Some x
-some-numbered xs zero x h e = cc
-some-numbered xs (suc i) x h e = rw sub-one at e
-
-placed-below : (n place : ℕ) (mode : Mode) → IsPlacedIn n place mode → place < n
-placed-below n place Mode.At h = h
-placed-below n place (Mode.Sleeping until) h = let inside : place + 1 < n = h in omega arith
-placed-below n place Mode.Ended h = h
-
-function-inside : (script : Script) (place : Place) (mode : Mode) → IsPlacedIn (length (code_of script place.func)) place.at mode → place.func < length script.funcs
-function-inside script place mode h =
-    let below : place.at < length (code_of script place.func) = placed-below (length (code_of script place.func)) place.at mode h in
-    elim (slice_get script.funcs place.func)
-    as (λ o. slice_get script.funcs place.func ≡ o → place.at < length (elim o as (λ (x : Option Func). List Instr) [ None ↦ [] | Some func ↦ func.code ]) → place.func < length script.funcs) [
-      | None ↦ λ e k. absurd (omega arith)
-      | Some func ↦ λ e k. slice_get_within script.funcs place.func func e
-    ] refl below
-
-pub found_code : (script : Script) (s : State) (g : ℕ) (r : Goroutine) (func : Func) → IsFormed script s → is_some (goroutine_at s g) ≡ true → slice_get s.goroutines (g - 1) ≡ Some r
-    → func ≡ get_or script.funcs r.place.func func → FoundCode script s g r func
-found_code script s g r func formed some e read =
-    let there : goroutine_at s g ≡ Some r = some-numbered s.goroutines g r some e in
-    record {
-      there = there;
-      code = ap (λ (o : Option Func). elim o as (λ x. List Instr) [ None ↦ [] | Some func ↦ func.code ])
-          (slice_get-get_or script.funcs r.place.func func (function-inside script r.place r.mode (formed.placed g r there)) ∙ ap Some (sym read));
-    }
-
-pub code-inside : (script : Script) (s : State) (g : ℕ) (r : Goroutine) (func : Func) → IsFormed script s → FoundCode script s g r func → r.place.at < length func.code
-code-inside script s g r func formed found =
-    subst (λ (code : List Instr). r.place.at < length code) found.code (placed-below (length (code_of script r.place.func)) r.place.at r.mode (formed.placed g r found.there))
-
-pub code-read : (script : Script) (s : State) (g : ℕ) (r : Goroutine) (func : Func) (d : Instr) → IsFormed script s → FoundCode script s g r func
-    → placed_at script s g ≡ Some (get_or func.code r.place.at d)
-code-read script s g r func d formed found =
-    ap (λ (o : Option Goroutine). elim o as (λ x. Option Instr) [ None ↦ None | Some r ↦ instr_at script r.place ]) found.there
-    ∙ (ap (λ (code : List Instr). slice_get code r.place.at) found.code ∙ slice_get-get_or func.code r.place.at d (code-inside script s g r func formed found))

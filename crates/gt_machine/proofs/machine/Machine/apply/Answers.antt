@@ -9,9 +9,9 @@ use Rattle.gt_model.specs.After.{after, moved_on, in_mode, with_new, with_due}
 use Rattle.gt_model.specs.Legal.{May}
 use Rattle.gt_model.proofs.Changes.{length-change_numbered}
 use Rattle.gt_model.proofs.Named.{named-May}
-use Rattle.gt_book.specs.Machine.{state_of, counted}
-use Rattle.gt_book.proofs.Machines.{inside_standing, inside_sleeping, inside_receiving, timer_within, func_within, setting_within, timer_world-zero, room_changed, room_begun}
-use Rattle.gt_book.proofs.machine.Machine.apply.Goals as goal
+use Rattle.gt_machine.specs.Machine.{state_of, counted}
+use Rattle.gt_machine.proofs.Machines.{inside_standing, inside_sleeping, inside_receiving, timer_within, func_within, setting_within, timer_world-zero, room_changed, room_begun}
+use Rattle.gt_machine.proofs.machine.Machine.apply.Goals as goal
 
 pub pass-requires-clause-inside : goal.pass-requires-clause-inside
 pass-requires-clause-inside c =

@@ -1,6 +1,6 @@
-//! The state of the one-thread machine, as the book keeps it: one world, whose objects are found by their places.
+//! The tables.
 
-ghost use Rattle.std.specs.Prelude.{◌≡◌, ◌+◌, ◌<◌, ◌≤◌, ◌++◌, ◌∷◌, [], IfOk, IsSomeAnd, IsTrue, is_some, length, ◌^◌, ◌-◌, set, slice_get, replicate};
+ghost use Rattle.std.specs.Prelude.{◌≡◌, ◌+◌, ◌<◌, ◌≤◌, ◌++◌, ◌∷◌, [], IfOk, IsSome, IsSomeAnd, IsTrue, Some, is_some, length, ◌^◌, ◌-◌, set, slice_get, replicate};
 ghost use Rattle.std.specs.Option.{option_map};
 ghost use Rattle.gt_model.specs.Tables.{numbered, change, change_numbered};
 ghost use Rattle.gt_model.specs.Good.{IsGood};
@@ -9,8 +9,9 @@ ghost use Rattle.gt_model.specs.Panics as panics;
 ghost use Rattle.gt_model.specs.After.{after, moved_on, in_mode, begun, set_due, set_again, moves, ends, with_new, with_goroutine, with_timer, with_due, first_state};
 ghost use Rattle.gt_model.specs.Legal.{May};
 ghost use Rattle.gt_model.specs.Formed.{IsFormed};
-ghost use Rattle.gt_book.specs.Machine.{state_of, counted};
-ghost use Rattle.gt_book.specs.View as view;
+ghost use Rattle.gt_machine.specs.Machine.{state_of, counted};
+ghost use Rattle.gt_machine.specs.Outcomes as outcomes;
+ghost use Rattle.gt_machine.specs.Places.{placed_at};
 
 use crate::timers::{set_anew, with_due};
 use gt_model::{
@@ -112,7 +113,7 @@ fn unmade(alloc: Global, n: usize) -> Result<Vec<Option<Timer>>, NoMemory>
 }
 
 impl Machine {
-    ghost use Rattle.gt_book.specs.Machine.{state_of};
+    ghost use Rattle.gt_machine.specs.Machine.{state_of};
 
     /// The first state of a script, with room for the goroutines of a run of so many entries. It takes their memory here.
     pub fn begin(alloc: Global, script: &Script, most: u64) -> Result<Machine, NoMemory>
@@ -304,7 +305,7 @@ impl Machine {
 }
 
 impl Machine {
-    ghost use Rattle.gt_book.specs.Machine.{state_of};
+    ghost use Rattle.gt_machine.specs.Machine.{state_of};
 
     /// Goroutine g; none where no goroutine has that number.
     fn goroutine(&self, g: u32) -> Option<Goroutine>
@@ -342,6 +343,17 @@ impl Machine {
             ) => instr_at(script, place),
             _ => None,
         }
+    }
+
+    /// The instruction at the place of goroutine g, whether it stands there, sleeps or has ended.
+    pub fn instr_of<'a>(&self, script: &'a Script, g: u32) -> &'a Instr
+        requires formed { IsFormed script.now (state_of self.now) }
+        requires there { IsSome (at.goroutine_at (state_of self.now) g) }
+        ensures { placed_at script.now (state_of self.now) g ≡ Some result.now }
+    {
+        let place = self.goroutines.at(g as usize - 1).place;
+        let func = &script.funcs.as_slice()[place.func as usize];
+        &func.code.as_slice()[place.at as usize]
     }
 
     /// Why a goroutine panics that stands at this instruction; none where it does not.
@@ -393,7 +405,7 @@ impl Machine {
     /// The outcome with which the run is to end now: main has ended, a goroutine has panicked, or as many entries were made
     /// as the limit allows. None where the run goes on, and where it has ended.
     pub fn due_outcome(&self, limits: Limits) -> Option<Outcome>
-        ensures { result ≡ view.due_outcome limits (state_of self.now) }
+        ensures { result ≡ outcomes.due_outcome limits (state_of self.now) }
     {
         match self.ending {
             Ending::MainEnded => Some(Outcome::Exit),
@@ -405,7 +417,7 @@ impl Machine {
 
     /// The outcome of the run; none while it has not ended.
     pub fn outcome(&self) -> Option<Outcome>
-        ensures { result ≡ view.outcome_in self.now.ending }
+        ensures { result ≡ outcomes.outcome_in self.now.ending }
     {
         match self.ending {
             Ending::Finished(outcome) => Some(outcome),

@@ -1,6 +1,6 @@
 use Rattle.std.proofs.Common.{rules, refl, [], ◌≡◌, length, None, replicate}
-use Rattle.gt_book.proofs.Machines.{all_unmade}
-use Rattle.gt_book.proofs.machine.Machine.begin.Goals as goal
+use Rattle.gt_machine.proofs.Machines.{all_unmade}
+use Rattle.gt_machine.proofs.machine.Machine.begin.Goals as goal
 
 pub returns-clause-state : goal.returns-clause-state
 returns-clause-state c =
