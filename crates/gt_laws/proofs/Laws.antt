@@ -1,5 +1,5 @@
 -- The laws of complete histories.
-use Rattle.std.proofs.Common.{◌≡◌, ℕ, zero, suc, true, ◌<◌, ◌≤◌, List, [], ◌∷◌, ◌++◌, set, slice_index, refl, sym, ap, subst, ◌∙◌, Option, None, Some, is_some, IsTrue, IsSomeAnd}
+use Rattle.std.proofs.Common.{◌≡◌, ℕ, zero, suc, ◌+◌, true, ◌<◌, ◌≤◌, List, [], ◌∷◌, ◌++◌, set, slice_index, refl, sym, ap, subst, ◌∙◌, Option, None, Some, is_some, IsTrue, IsSomeAnd}
 use Rattle.std.proofs.lemmas.Bool.{leb-true}
 use Rattle.gt_model.specs.declared.script.Script.{Script}
 use Rattle.gt_model.specs.declared.script.Instr.{Instr}
@@ -8,20 +8,22 @@ use Rattle.gt_model.specs.declared.entry.Party.{Party}
 use Rattle.gt_model.specs.declared.entry.Limits.{Limits}
 use Rattle.gt_model.specs.declared.entry.Outcome.{Outcome}
 use Rattle.gt_model.specs.declared.state.Timer.{Timer}
-use Rattle.gt_model.specs.State.{State, stands_at, clock, clock_of, goroutine_at, timer_at, due_of, sleeps_until}
+use Rattle.gt_model.specs.State.{State, stands_at, clock, clock_of, goroutine_at, timer_at, due_of, sleeps_until, until_of}
 use Rattle.gt_model.specs.Ready.{is_due}
 use Rattle.gt_model.specs.Good.{IsGood}
 use Rattle.gt_model.specs.After.{after, first_state}
-use Rattle.gt_model.specs.Legal.{May, operation, operation_at}
+use Rattle.gt_model.specs.Legal.{May, operation, operation_at, due_at, sleep_end}
 use Rattle.gt_model.specs.Finish.{Legal}
 use Rattle.gt_model.specs.Formed.{IsFormed}
 use Rattle.gt_model.specs.History.{History, AllLegal, state_after}
 use Rattle.gt_model.proofs.Formed.{formed-first, formed-Legal, formed-history}
+use Rattle.gt_model.proofs.Lookups.{Standing, standing}
 use Rattle.gt_laws.specs.Told.{clock_by, clock_from, clock_told}
 use Rattle.gt_laws.specs.Laws.{AtEach, InOrder, InTime, IsFresh}
 use Rattle.gt_laws.proofs.Timers.{due-told}
-use Rattle.gt_laws.proofs.Sleeps.{until-told}
+use Rattle.gt_laws.proofs.Sleeps.{until_in, until-in, until-told}
 use Rattle.gt_laws.proofs.Calls.{stands-told}
+use Rattle.gt_laws.proofs.Starts.{started-told}
 
 -- ---- the clock
 
@@ -55,6 +57,11 @@ own-clock script s g formed =
       | Some r ↦ λ is. ap (clock s) (formed.world.goroutines g r is)
     ] refl
 
+now-told : (script : Script) (limits : Limits) (h : List Entry) (g : ℕ) → IsGood script → AllLegal script limits (first_state script) h
+    → clock_of (state_after script (first_state script) h) g ≡ clock_told h
+now-told script limits h g good legal =
+    own-clock script (state_after script (first_state script) h) g (formed-history script limits h good legal) ∙ clock-told script limits h good legal
+
 -- ---- an entry with those before it
 
 -- an entry of a legal history, in the state in which it comes
@@ -85,9 +92,8 @@ has-come (Some r) clocks h one = come r.due (clocks 0) (subst (λ (w : ℕ). is_
 in-time : (script : Script) (limits : Limits) (front : List Entry) (e : Entry) → IsGood script → Comes script limits front e → InTime front e
 in-time script limits front (Entry.Wake g) good c =
     let s : State = state_after script (first_state script) front in
-    let now : clock_of s g ≡ clock_told front = own-clock script s g (formed-history script limits front good c.before) ∙ clock-told script limits front good c.before in
     subst (λ (o : Option ℕ). IsSomeAnd o (λ until. until ≤ clock_told front)) (until-told script limits front g c.before)
-    (subst (λ now. IsSomeAnd (sleeps_until s g) (λ until. until ≤ now)) now c.legal.1)
+    (subst (λ now. IsSomeAnd (sleeps_until s g) (λ until. until ≤ now)) (now-told script limits front g good c.before) c.legal.1)
 in-time script limits front (Entry.FireFunc t child) good c =
     let s : State = state_after script (first_state script) front in
     let formed : IsFormed script s = formed-history script limits front good c.before in
@@ -95,18 +101,14 @@ in-time script limits front (Entry.FireFunc t child) good c =
     (subst (λ now. IsSomeAnd (due_of s t) (λ due. due ≤ now)) (clock-told script limits front good c.before)
     (has-come (timer_at s t) (clock s) c.legal.1.1 (formed.world.timers t)))
 in-time script limits front (Entry.TRecv p t due next) good c =
-    let s : State = state_after script (first_state script) front in
-    let now : clock_of s p.g ≡ clock_told front = own-clock script s p.g (formed-history script limits front good c.before) ∙ clock-told script limits front good c.before in
-    subst (λ now. due ≤ now) now c.legal.1.3
-in-time script limits front (Entry.Now g at) good c =
-    let s : State = state_after script (first_state script) front in
-    c.legal.1.1 ∙ (own-clock script s g (formed-history script limits front good c.before) ∙ clock-told script limits front good c.before)
+    subst (λ now. due ≤ now) (now-told script limits front p.g good c.before) c.legal.1.3
+in-time script limits front (Entry.Now g at) good c = c.legal.1.1 ∙ now-told script limits front g good c.before
 in-time script limits front (Entry.Clock zero to) good c = subst (λ now. now < to) (clock-told script limits front good c.before) c.legal.1.0
 in-time script limits front (Entry.Clock (suc world) to) good c = absurd c.legal.1
 in-time script limits front _ good c = tt
 
 fresh : (script : Script) (limits : Limits) (front : List Entry) (e : Entry) → IsGood script → Comes script limits front e → IsFresh front e
-fresh script limits front (Entry.TRecv p t due next) good c = sym (due-told script limits front t good c.before) ∙ c.legal.1.2
+fresh script limits front (Entry.TRecv p t due next) good c = (sym (due-told script limits front t good c.before) ∙ c.legal.1.2, c.legal.1.4)
 fresh script limits front (Entry.Stop g t was) good c = c.legal.1.1 ∙ ap (λ (o : Option ℕ). Some (is_some o)) (due-told script limits front t good c.before)
 fresh script limits front (Entry.Reset g t was due) good c = c.legal.1.2 ∙ ap (λ (o : Option ℕ). Some (is_some o)) (due-told script limits front t good c.before)
 fresh script limits front _ good c = tt
@@ -129,19 +131,40 @@ receives script s p o e =
       | Some i ↦ λ h. ap Some (is-recv i p.case_no o h)
     ] e
 
-in-order : (script : Script) (limits : Limits) (front : List Entry) (e : Entry) → Comes script limits front e → InOrder script front e
-in-order script limits front (Entry.Say g n) c = stands-told script limits front g (Instr.Say n) c.before c.legal.1.stands
-in-order script limits front (Entry.Now g at) c = stands-told script limits front g Instr.Now c.before c.legal.1.0.stands
-in-order script limits front (Entry.Go g child f) c = stands-told script limits front g (Instr.Go f) c.before c.legal.1.0.stands
-in-order script limits front (Entry.End g) c = stands-told script limits front g Instr.Finish c.before c.legal.1.stands
-in-order script limits front (Entry.Sleep g until) c = (c.legal.1.0, stands-told script limits front g (Instr.Sleep c.legal.1.0) c.before c.legal.1.1.stands)
-in-order script limits front (Entry.New g t due) c = (c.legal.1.0, stands-told script limits front g (Instr.New t c.legal.1.0) c.before c.legal.1.1.stands)
-in-order script limits front (Entry.Stop g t was) c = stands-told script limits front g (Instr.Stop t) c.before c.legal.1.0.stands
-in-order script limits front (Entry.Reset g t was due) c =
-    (c.legal.1.0, stands-told script limits front g (Instr.Reset t c.legal.1.0) c.before c.legal.1.1.stands)
-in-order script limits front (Entry.TRecv p t due next) c =
+-- who stands at an instruction is awake
+awake : (script : Script) (s : State) (g : ℕ) (i : Instr) → stands_at script s g ≡ Some i → sleeps_until s g ≡ None
+awake script s g i e =
+    let who : Standing script s g i = standing script s g i e in
+    until-in s g ∙ (ap until_in who.there ∙ ap until_of who.at)
+
+in-order : (script : Script) (limits : Limits) (front : List Entry) (e : Entry) → IsGood script → Comes script limits front e → InOrder script front e
+in-order script limits front (Entry.Say g n) good c = stands-told script limits front g (Instr.Say n) c.before c.legal.1.stands
+in-order script limits front (Entry.Now g at) good c = stands-told script limits front g Instr.Now c.before c.legal.1.0.stands
+in-order script limits front (Entry.Go g child f) good c =
+    (stands-told script limits front g (Instr.Go f) c.before c.legal.1.0.stands, c.legal.1.1 ∙ ap (λ n. n + 1) (started-told script front))
+in-order script limits front (Entry.End g) good c = stands-told script limits front g Instr.Finish c.before c.legal.1.stands
+in-order script limits front (Entry.Sleep g until) good c =
+    let i : Instr = Instr.Sleep c.legal.1.0 in (
+      c.legal.1.0,
+      stands-told script limits front g i c.before c.legal.1.1.stands,
+      sym (until-told script limits front g c.before) ∙ awake script (state_after script (first_state script) front) g i c.legal.1.1.stands,
+      c.legal.1.2 ∙ ap (λ now. sleep_end now c.legal.1.0) (now-told script limits front g good c.before),
+    )
+in-order script limits front (Entry.New g t due) good c = (
+  c.legal.1.0,
+  stands-told script limits front g (Instr.New t c.legal.1.0) c.before c.legal.1.1.stands,
+  c.legal.1.2 ∙ ap (λ now. due_at now c.legal.1.0) (now-told script limits front g good c.before),
+)
+in-order script limits front (Entry.Stop g t was) good c = stands-told script limits front g (Instr.Stop t) c.before c.legal.1.0.stands
+in-order script limits front (Entry.Reset g t was due) good c = (
+  c.legal.1.0,
+  stands-told script limits front g (Instr.Reset t c.legal.1.0) c.before c.legal.1.1.stands,
+  c.legal.1.3 ∙ ap (λ now. due_at now c.legal.1.0) (now-told script limits front g good c.before),
+)
+in-order script limits front (Entry.TRecv p t due next) good c =
     stands-told script limits front p.g (Instr.Recv t) c.before (receives script (state_after script (first_state script) front) p t c.legal.1.0.stands)
-in-order script limits front _ c = tt
+in-order script limits front (Entry.FireFunc t child) good c = c.legal.1.2 ∙ ap (λ n. n + 1) (started-told script front)
+in-order script limits front _ good c = tt
 
 pub each-in_order : (script : Script) (limits : Limits) (h : List Entry) (outcome : Outcome) → IsGood script → History script limits h outcome → AtEach (InOrder script) h
-each-in_order script limits h outcome good history front e rest is = in-order script limits front e (comes script limits h outcome front e rest history is)
+each-in_order script limits h outcome good history front e rest is = in-order script limits front e good (comes script limits h outcome front e rest history is)

@@ -2,4 +2,5 @@ pub mod Places
 pub mod Timers
 pub mod Sleeps
 pub mod Calls
+pub mod Starts
 pub mod Laws

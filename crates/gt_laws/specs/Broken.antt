@@ -24,6 +24,32 @@ twice = Entry.Say 1 1 ∷ Entry.Say 1 1 ∷ Entry.End 1 ∷ []
 abbrev pub left_out : List Entry
 left_out = Entry.Say 1 1 ∷ Entry.End 1 ∷ []
 
+-- func main / sleep 9ns / end; func main / go main / end
+abbrev pub one_sleep : Script
+one_sleep = record {
+  decls = (record { name = codes "main"; what = What.Function }) ∷ [];
+  funcs = (record { decl = 0; code = Instr.Sleep 9 ∷ Instr.Finish ∷ [] }) ∷ [];
+  main = 0;
+}
+
+abbrev pub one_start : Script
+one_start = record {
+  decls = (record { name = codes "main"; what = What.Function }) ∷ [];
+  funcs = (record { decl = 0; code = Instr.Go 0 ∷ Instr.Finish ∷ [] }) ∷ [];
+  main = 0;
+}
+
+-- it falls asleep while it sleeps; the sleep is shorter than its call says
+abbrev pub asleep_twice : List Entry
+asleep_twice = Entry.Sleep 1 (Some 9) ∷ Entry.Sleep 1 (Some 9) ∷ []
+
+abbrev pub cut_short : List Entry
+cut_short = Entry.Sleep 1 (Some 4) ∷ Entry.Clock 0 4 ∷ Entry.Wake 1 ∷ []
+
+-- who is started has a number that is taken
+abbrev pub number_twice : List Entry
+number_twice = Entry.Go 1 1 0 ∷ Entry.Go 1 2 0 ∷ Entry.End 1 ∷ []
+
 -- a sleep that ends too early
 abbrev pub early : List Entry
 early = Entry.Sleep 1 (Some 5000000) ∷ Entry.Clock 0 4999999 ∷ Entry.Wake 1 ∷ []

@@ -1,10 +1,11 @@
 -- What each complete history keeps, read from its entries alone.
-use Rattle.std.specs.Prelude.{ℕ, ◌≡◌, ◌<◌, ◌≤◌, List, ◌∷◌, ◌++◌, is_some, IsSomeAnd}
-use Rattle.std.specs.declared.option.Option.TheVariants.{Some}
+use Rattle.std.specs.Prelude.{ℕ, ◌+◌, ◌≡◌, ◌<◌, ◌≤◌, List, ◌∷◌, ◌++◌, is_some, IsSomeAnd}
+use Rattle.std.specs.declared.option.Option.TheVariants.{None, Some}
 use Rattle.gt_model.specs.declared.script.Script.{Script}
 use Rattle.gt_model.specs.declared.script.Instr.{Instr}
 use Rattle.gt_model.specs.declared.entry.Entry.{Entry}
-use Rattle.gt_laws.specs.Told.{clock_told, due_told, instr_told, until_told}
+use Rattle.gt_model.specs.Legal.{due_at, sleep_end}
+use Rattle.gt_laws.specs.Told.{clock_told, due_told, instr_told, started_told, until_told}
 
 -- it holds of each entry of a history, with the entries before it
 abbrev pub AtEach : (List Entry → Entry → Type 0) → List Entry → Type 0
@@ -20,23 +21,27 @@ InTime front (Entry.Now g at) = at ≡ clock_told front
 InTime front (Entry.Clock world to) = clock_told front < to
 InTime front _ = Unit {0}
 
--- No value of a setting that was ended: what is received is the value of the last setting, which no stop, no reset and no receive ended. And
--- stops and resets answer whether there is such a setting
+-- No value of a setting that was ended: what is received is the value of the last setting, which no stop, no reset and no receive ended, and
+-- this receive ends it. And stops and resets answer whether there is such a setting
 abbrev pub IsFresh : List Entry → Entry → Type 0
-IsFresh front (Entry.TRecv p t due next) = due_told t front ≡ Some due
+IsFresh front (Entry.TRecv p t due next) = (due_told t front ≡ Some due) × (next ≡ None)
 IsFresh front (Entry.Stop g t was) = was ≡ Some (is_some (due_told t front))
 IsFresh front (Entry.Reset g t was due) = was ≡ Some (is_some (due_told t front))
 IsFresh front _ = Unit {0}
 
--- Each goroutine's calls, once and in order: an entry is the call of the instruction to which the goroutine's earlier entries have led it
+-- Each goroutine's calls, once and in order: an entry is the call of the instruction to which the goroutine's earlier entries have led it, and who
+-- falls asleep was awake. Who is started has the next number, so no number is given twice. A sleep ends, and a setting is due, as long after the
+-- program's clock as the instruction says
 abbrev pub InOrder : Script → List Entry → Entry → Type 0
 InOrder script front (Entry.Say g n) = instr_told script g front ≡ Some (Instr.Say n)
 InOrder script front (Entry.Now g at) = instr_told script g front ≡ Some Instr.Now
-InOrder script front (Entry.Go g child f) = instr_told script g front ≡ Some (Instr.Go f)
+InOrder script front (Entry.Go g child f) = (instr_told script g front ≡ Some (Instr.Go f)) × (child ≡ started_told front + 1)
 InOrder script front (Entry.End g) = instr_told script g front ≡ Some Instr.Finish
-InOrder script front (Entry.Sleep g until) = (d : ℕ) × (instr_told script g front ≡ Some (Instr.Sleep d))
-InOrder script front (Entry.New g t due) = (d : ℕ) × (instr_told script g front ≡ Some (Instr.New t d))
+InOrder script front (Entry.Sleep g until) =
+    (d : ℕ) × (instr_told script g front ≡ Some (Instr.Sleep d)) × (until_told g front ≡ None) × (until ≡ sleep_end (clock_told front) d)
+InOrder script front (Entry.New g t due) = (d : ℕ) × (instr_told script g front ≡ Some (Instr.New t d)) × (due ≡ due_at (clock_told front) d)
 InOrder script front (Entry.Stop g t was) = instr_told script g front ≡ Some (Instr.Stop t)
-InOrder script front (Entry.Reset g t was due) = (d : ℕ) × (instr_told script g front ≡ Some (Instr.Reset t d))
+InOrder script front (Entry.Reset g t was due) = (d : ℕ) × (instr_told script g front ≡ Some (Instr.Reset t d)) × (due ≡ due_at (clock_told front) d)
 InOrder script front (Entry.TRecv p t due next) = instr_told script p.g front ≡ Some (Instr.Recv t)
+InOrder script front (Entry.FireFunc t child) = child ≡ started_told front + 1
 InOrder script front _ = Unit {0}

@@ -1,5 +1,5 @@
 -- What the entries of a history tell so far, read by themselves: the machine's state is not named here.
-use Rattle.std.specs.Prelude.{ℕ, zero, ◌==◌, if◌then◌else◌, Bool, List, [], ◌∷◌}
+use Rattle.std.specs.Prelude.{ℕ, zero, ◌+◌, ◌==◌, if◌then◌else◌, Bool, List, [], ◌∷◌}
 use Rattle.std.specs.declared.option.Option.{Option}
 use Rattle.std.specs.declared.option.Option.TheVariants.{None, Some}
 use Rattle.std.specs.Option.{option_map, option_and_then}
@@ -50,6 +50,19 @@ until_from g told (e ∷ h) = until_from g (until_by g e told) h
 
 abbrev pub until_told : ℕ → List Entry → Option ℕ
 until_told g h = until_from g None h
+
+-- how many goroutines there are: main's, and one more at each start
+abbrev pub started_by : Entry → ℕ → ℕ
+started_by (Entry.Go g child f) n = n + 1
+started_by (Entry.FireFunc t child) n = n + 1
+started_by _ n = n
+
+abbrev pub started_from : ℕ → List Entry → ℕ
+started_from n [] = n
+started_from n (e ∷ h) = started_from (started_by e n) h
+
+abbrev pub started_told : List Entry → ℕ
+started_told h = started_from 1 h
 
 -- Where goroutine g is in its code: at main's first instruction, or at that of the function with which it was started; then where its last call has
 -- led it. After its end it is nowhere

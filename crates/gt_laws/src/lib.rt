@@ -14,7 +14,7 @@ ghost use Rattle.gt_model.specs.Finish.{IsIdle};
 ghost use Rattle.gt_laws.specs.Laws.{AtEach, InOrder, InTime, IsFresh};
 ghost use Rattle.gt_laws.specs.Broken as broken;
 
-/// Each goroutine makes its calls once and in order.
+/// Each goroutine makes its calls once and in order, and each call gives the number, the end of the sleep or the due time that it should.
 pub fn calls_come_in_order()
     ensures { (script : Script) (limits : Limits) (h : List Entry) (outcome : Outcome)
         → IsGood script → History script limits h outcome → AtEach (InOrder script) h }
@@ -26,7 +26,7 @@ pub fn nothing_comes_early()
         → IsGood script → History script limits h outcome → AtEach InTime h }
 {}
 
-/// No value of a setting that a stop, a reset or a receive ended is received.
+/// No value of a setting that a stop, a reset or a receive ended is received, and none twice.
 pub fn no_value_is_stale()
     ensures { (script : Script) (limits : Limits) (h : List Entry) (outcome : Outcome)
         → IsGood script → History script limits h outcome → AtEach IsFresh h }
@@ -37,11 +37,15 @@ pub fn a_quiet_program_is_idle()
     ensures { (script : Script) (s : State) → IsQuiet script s → IsIdle script s }
 {}
 
-/// Calls in another order, calls made twice and calls left out are no histories.
+/// Calls in another order, calls made twice and calls left out are no histories. Nor is a sleep within a sleep, one that is cut short, or a number
+/// given twice.
 pub fn calls_out_of_order_break_the_law()
     ensures swapped { ¬ AtEach (InOrder broken.two_calls) broken.swapped }
     ensures twice { ¬ AtEach (InOrder broken.two_calls) broken.twice }
     ensures left_out { ¬ AtEach (InOrder broken.two_calls) broken.left_out }
+    ensures asleep_twice { ¬ AtEach (InOrder broken.one_sleep) broken.asleep_twice }
+    ensures cut_short { ¬ AtEach (InOrder broken.one_sleep) broken.cut_short }
+    ensures number_twice { ¬ AtEach (InOrder broken.one_start) broken.number_twice }
 {}
 
 /// A sleep that ends early is no history.

@@ -1,5 +1,9 @@
-use Rattle.std.proofs.Common.{[], ◌∷◌, refl}
+use Rattle.std.proofs.Common.{◌≡◌, ℕ, [], ◌∷◌, Some, refl, sym, subst}
+use Rattle.gt_model.specs.declared.script.Instr.{Instr}
 use Rattle.gt_model.specs.declared.entry.Entry.{Entry}
+use Rattle.gt_model.specs.Legal.{sleep_end}
+use Rattle.gt_laws.specs.Laws.{InOrder}
+use Rattle.gt_laws.specs.Broken.{one_sleep, one_start}
 use Rattle.gt_laws.proofs.calls_out_of_order_break_the_law.Goals as goal
 
 pub returns-clause-swapped : goal.returns-clause-swapped
@@ -10,3 +14,21 @@ returns-clause-twice c = λ h. cc (h (Entry.Say 1 1 ∷ []) (Entry.Say 1 1) (Ent
 
 pub returns-clause-left_out : goal.returns-clause-left_out
 returns-clause-left_out c = λ h. cc (h (Entry.Say 1 1 ∷ []) (Entry.End 1) [] refl)
+
+pub returns-clause-asleep_twice : goal.returns-clause-asleep_twice
+returns-clause-asleep_twice c = λ h.
+    let again : InOrder one_sleep (Entry.Sleep 1 (Some 9) ∷ []) (Entry.Sleep 1 (Some 9)) = h (Entry.Sleep 1 (Some 9) ∷ []) (Entry.Sleep 1 (Some 9)) [] refl in
+    cc again.2
+
+pub returns-clause-cut_short : goal.returns-clause-cut_short
+returns-clause-cut_short c = λ h.
+    let short : InOrder one_sleep [] (Entry.Sleep 1 (Some 4)) = h [] (Entry.Sleep 1 (Some 4)) (Entry.Clock 0 4 ∷ Entry.Wake 1 ∷ []) refl in
+    let called : Some (Instr.Sleep 9) ≡ Some (Instr.Sleep short.0) = short.1 in
+    let length : 9 ≡ short.0 = cc in
+    let until : Some 4 ≡ sleep_end 0 9 = subst (λ (d : ℕ). Some 4 ≡ sleep_end 0 d) (sym length) short.3 in
+    cc until
+
+pub returns-clause-number_twice : goal.returns-clause-number_twice
+returns-clause-number_twice c = λ h.
+    let start : InOrder one_start [] (Entry.Go 1 1 0) = h [] (Entry.Go 1 1 0) (Entry.Go 1 2 0 ∷ Entry.End 1 ∷ []) refl in
+    cc start.1
