@@ -1,6 +1,6 @@
 -- What an operation needs that is committed while the run goes on.
 use Rattle.std.proofs.Common.{◌≡◌, ℕ, zero, suc, ◌+◌, ◌<◌, ◌≤◌, min, length, refl, sym, ap, subst, ◌∙◌, arith, slice_get, Option, None, Some, Bool, true, false, not, ◌&&◌, ◌||◌, IsTrue, IsSomeAnd, is_some, is_none, drop, inl, inr, ◌⊎◌}
-use Rattle.std.proofs.lemmas.Bool.{le-leb, eqb-true}
+use Rattle.std.proofs.lemmas.Bool.{le-leb}
 use Rattle.gt_model.specs.declared.time.TheConstants.{CAP}
 use Rattle.gt_model.specs.declared.script.Script.{Script}
 use Rattle.gt_model.specs.declared.script.Instr.{Instr}
@@ -24,7 +24,9 @@ use Rattle.gt_book.specs.Steps.{step_of, step_or_panic, step_of_instr, plainly, 
 use Rattle.gt_book.specs.Least.{IsTimeOf}
 use Rattle.gt_book.specs.View.{BookView, IsLawful, Fits, outcome_of, is_parked, is_parked_at, is_at_receive}
 use Rattle.gt_book.specs.Queues.{as_number, times}
-use Rattle.gt_machine.proofs.Machines.{world_of-zero, timer_within}
+use Rattle.gt_model.proofs.Declared.{timer_within}
+use Rattle.gt_model.proofs.Lookups.{receives-recv}
+use Rattle.gt_model.proofs.Formed.{world_of-zero}
 use Rattle.gt_book.proofs.Lists.{times-first_same}
 use Rattle.gt_book.proofs.Going.{IsStep, step-is}
 
@@ -81,15 +83,11 @@ set-made s t at e =
       | Some r ↦ λ h. refl
     ] e
 
-receives-recv : (t : ℕ) (i : Instr) → receives t i ≡ true → i ≡ Instr.Recv t
-receives-recv t (Instr.Recv o) h = ap Instr.Recv (eqb-true o t h)
-receives-recv t _ h = cc
-
 at_receive-stands : (script : Script) (s : State) (g t : ℕ) → is_at_receive script s g t ≡ true → stands_at script s g ≡ Some (Instr.Recv t)
 at_receive-stands script s g t h =
     elim (stands_at script s g) as (λ o. (elim o [ None ↦ false | Some i ↦ receives t i ]) ≡ true → o ≡ Some (Instr.Recv t)) [
       | None ↦ λ k. cc
-      | Some i ↦ λ k. ap Some (receives-recv t i k)
+      | Some i ↦ λ k. ap Some (receives-recv i t k)
     ] h
 
 left-true : (a b : Bool) → (a && b) ≡ true → a ≡ true

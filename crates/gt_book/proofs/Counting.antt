@@ -2,7 +2,7 @@
 use Rattle.std.proofs.Common.{◌≡◌, ◌≢◌, ◌⊎◌, ℕ, zero, suc, ◌+◌, ◌<◌, ◌-◌, ◌≤◌, add-one, nat_lt, if◌then◌else◌, List, [], ◌∷◌, ◌++◌, length, refl, sym, ap, subst, ◌∙◌, arith, slice_get, Option, None, Some, Bool, true, false, ◌&&◌, ◌||◌, cond, min, is_some, inl, inr, MatchOption, IsNone, IfSome, ◌↔◌, eq-eqb}
 use Rattle.std.specs.List.{list_any, filter_map, cons_option, enumerate_from}
 use Rattle.std.specs.Option.{option_map}
-use Rattle.std.proofs.lemmas.Bool.{and_parts, eqb-true}
+use Rattle.std.proofs.lemmas.Bool.{and_parts}
 use Rattle.gt_model.specs.declared.script.Script.{Script}
 use Rattle.gt_model.specs.declared.script.Instr.{Instr}
 use Rattle.gt_model.specs.declared.state.Goroutine.{Goroutine}
@@ -13,7 +13,7 @@ use Rattle.gt_model.specs.State.{State, goroutine_at, timer_at, stands, stands_a
 use Rattle.gt_model.specs.Counted.{sleep_of, receives, awaits, is_awaited, counted_timer, counted}
 use Rattle.gt_model.specs.Quiet.{IsOneWorld}
 use Rattle.gt_model.proofs.Named.{names-instr_at}
-use Rattle.gt_model.proofs.Lookups.{any-numbered, Standing, standing}
+use Rattle.gt_model.proofs.Lookups.{any-numbered, receives-recv, Standing, standing}
 use Rattle.gt_queue.specs.Contents.{waiting_in}
 use Rattle.gt_book.specs.declared.answers.Due.{Due}
 use Rattle.gt_book.specs.declared.answers.Whose.{Whose}
@@ -26,7 +26,7 @@ use Rattle.gt_book.specs.DueTimes.{timer_time, slot_time, whose_slot, IsOfSlot, 
 use Rattle.gt_book.specs.declared.due_times.DueTimes.{DueTimes}
 use Rattle.gt_book.proofs.Times.{slot-sleep, slot-timer}
 use Rattle.std.proofs.lemmas.Option.{slice_get_within}
-use Rattle.gt_book.proofs.Lists.{HasNumber}
+use Rattle.gt_model.proofs.Items.{HasNumber}
 use Rattle.gt_book.proofs.Fitting.{has_status, none-queued, first-waiting, none-waiting}
 use Rattle.gt_book.proofs.SchedulerCounts.{count-numbered}
 
@@ -194,17 +194,6 @@ awaits-is script s g t r one e =
     ∙ sym (ap (λ (o : Option Goroutine). elim (elim o as (λ _. Option Instr) [ None ↦ None | Some r ↦ stands script r ]) as (λ _. Bool) [ None ↦ false | Some i ↦ receives t i ]) e)
 
 -- who stands at a receive
-receives-recv : (i : Instr) (t : ℕ) → receives t i ≡ true → i ≡ Instr.Recv t
-receives-recv (Instr.Recv o) t e = ap Instr.Recv (eqb-true o t e)
-receives-recv (Instr.Say n) t e = cc
-receives-recv Instr.Now t e = cc
-receives-recv (Instr.Sleep d) t e = cc
-receives-recv (Instr.Go f) t e = cc
-receives-recv (Instr.New u d) t e = cc
-receives-recv (Instr.Stop u) t e = cc
-receives-recv (Instr.Reset u d) t e = cc
-receives-recv Instr.Finish t e = cc
-
 at_receive : (script : Script) (s : State) (g t : ℕ) → is_at_receive script s g t ≡ true → Standing script s g (Instr.Recv t)
 at_receive script s g t e =
     standing script s g (Instr.Recv t)

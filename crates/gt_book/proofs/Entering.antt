@@ -6,9 +6,6 @@ use Rattle.gt_model.specs.declared.entry.Entry.{Entry}
 use Rattle.gt_model.specs.declared.entry.Limits.{Limits}
 use Rattle.gt_model.specs.declared.entry.Outcome.{Outcome}
 use Rattle.gt_model.specs.declared.state.Ending.{Ending}
-use Rattle.gt_model.specs.declared.state.Goroutine.{Goroutine}
-use Rattle.gt_model.specs.declared.state.Mode.{Mode}
-use Rattle.gt_book.specs.declared.status.RunStatus.{RunStatus}
 use Rattle.gt_model.specs.State.{State}
 use Rattle.gt_model.specs.After.{after, first_state}
 use Rattle.gt_model.specs.Legal.{May}
@@ -18,9 +15,10 @@ use Rattle.gt_model.specs.Good.{IsGood, AreLimits}
 use Rattle.gt_model.specs.Formed.{IsFormed}
 use Rattle.gt_model.proofs.Histories.{AllLegal-append, state_after-append}
 use Rattle.gt_model.proofs.Formed.{formed-after, formed-finish}
-use Rattle.gt_book.specs.Schedule.{Schedule, scheduled}
-use Rattle.gt_book.specs.View.{BookView, IsLawful, Fits, Agrees, Enters, with_entries, finish_by, outcome_of}
+use Rattle.gt_book.specs.Schedule.{scheduled}
+use Rattle.gt_book.specs.View.{BookView, IsLawful, Fits, Enters, with_entries, finish_by, outcome_of}
 use Rattle.gt_machine.specs.Outcomes.{due_outcome, outcome_in}
+use Rattle.gt_book.proofs.Fitting.{fits-finish}
 
 -- an entry that may come while the run goes on is legal
 pub legal-May : (script : Script) (limits : Limits) (s : State) (e : Entry) → IsRunning limits s → May script s e → Legal script limits s e
@@ -193,31 +191,6 @@ lawful-goes_on b e entered none =
     lawful-sound (with_entries b (e ∷ [])) entered.sound
     (subst (λ (ending : Ending). MatchOption (outcome_in ending) (IsRunning b.limits s) (λ outcome. Unit {0})) (sym running.ending) running)
 
--- a finish changes nothing of what agrees
-agrees-finish : (script : Script) (s : State) (outcome : Outcome) (r : Goroutine) (mode : Mode) (status : RunStatus)
-    → Agrees script s r mode status → Agrees script (after script s (Entry.Finish outcome)) r mode status
-agrees-finish script s outcome r Mode.At RunStatus.Queued h = h
-agrees-finish script s outcome r Mode.At RunStatus.InHand h = h
-agrees-finish script s outcome r Mode.At (RunStatus.Parked since) h = record { timer = h.timer; at = h.at; made = h.made }
-agrees-finish script s outcome r Mode.At RunStatus.Ended h = h
-agrees-finish script s outcome r (Mode.Sleeping until) RunStatus.Queued h = h
-agrees-finish script s outcome r (Mode.Sleeping until) RunStatus.InHand h = h
-agrees-finish script s outcome r (Mode.Sleeping until) (RunStatus.Parked since) h = h
-agrees-finish script s outcome r (Mode.Sleeping until) RunStatus.Ended h = h
-agrees-finish script s outcome r Mode.Ended RunStatus.Queued h = h
-agrees-finish script s outcome r Mode.Ended RunStatus.InHand h = h
-agrees-finish script s outcome r Mode.Ended (RunStatus.Parked since) h = h
-agrees-finish script s outcome r Mode.Ended RunStatus.Ended h = h
-
-pub fits-finish : (script : Script) (s : State) (outcome : Outcome) (m : Schedule) → Fits script s m → Fits script (after script s (Entry.Finish outcome)) m
-fits-finish script s outcome m fits = record {
-  as_many = fits.as_many;
-  queues = fits.queues;
-  agree = λ g r status there is. agrees-finish script s outcome r r.mode status (fits.agree g r status there is);
-  queued = fits.queued;
-  waiting = fits.waiting;
-}
-
 -- where an outcome is due, the book that ends with it is lawful
 pub lawful-finishes : (b : BookView) (e : Entry) (outcome : Outcome) → IsEntered b e → due_outcome b.limits (after b.script b.state e) ≡ Some outcome
     → IsLawful (with_entries b (e ∷ Entry.Finish outcome ∷ []))
@@ -226,7 +199,7 @@ lawful-finishes b e outcome entered due =
     let one : BookView = with_entries b (e ∷ []) in
     let finished : IsSound (with_entries one (Entry.Finish outcome ∷ [])) =
     sound-more one (Entry.Finish outcome) entered.sound (due-Finishes b.script b.limits s outcome due)
-    (formed-finish b.script s outcome entered.sound.formed) (fits-finish b.script s outcome (scheduled b.schedule e) entered.sound.fits) in
+    (formed-finish b.script s outcome entered.sound.formed) (fits-finish b.script s (scheduled b.schedule e) outcome entered.sound.fits) in
     subst IsLawful (with_entries-finish b e outcome) (lawful-sound (with_entries one (Entry.Finish outcome ∷ [])) finished tt)
 
 -- what the change is

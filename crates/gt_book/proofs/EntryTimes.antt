@@ -9,7 +9,7 @@ use Rattle.gt_model.specs.declared.state.Mode.{Mode}
 use Rattle.gt_model.specs.Tables.{at, change_numbered}
 use Rattle.gt_model.specs.declared.script.Decl.{Decl}
 use Rattle.gt_model.specs.declared.entry.Outcome.{Outcome}
-use Rattle.gt_model.proofs.Lookups.{Standing, standing}
+use Rattle.gt_model.proofs.Lookups.{Standing, standing, Asleep, sleeper}
 use Rattle.gt_tournament.specs.Keys.{key_of}
 use Rattle.gt_book.specs.View.{first_schedule}
 use Rattle.gt_model.specs.State.{State, stands_at, sleeps_until, timer_at, is_func, clock_of, world_of, func_of}
@@ -24,10 +24,10 @@ use Rattle.gt_book.specs.declared.scheduler.Scheduler.{Scheduler}
 use Rattle.gt_book.specs.Schedule.{Schedule, run_queue, queue_at, leaves, scheduled, parked_at, taken}
 use Rattle.gt_book.specs.DueTimes.{timer_time, slot_time, with_timer, followed, CanFollow, HasSleepSlot, HasSleptSlot, HasTimerSlot, AreTimes}
 use Rattle.gt_book.proofs.Lists.{waiting-set_other}
-use Rattle.gt_machine.proofs.Machines.{timer_within, func_within, setting_within}
+use Rattle.gt_model.proofs.Declared.{timer_within, func_within, setting_within}
 use Rattle.gt_book.proofs.SchedulerNeeds.{numbered-le}
-use Rattle.gt_book.proofs.Fitting.{Asleep, sleeper}
-use Rattle.gt_book.proofs.Times.{until-other, until-begun, until-stands, timer-same, runs-other, at-set_other, at-change_other, times-stay, times-slept, times-timed}
+use Rattle.gt_model.proofs.Items.{at-set_other, at-change_other}
+use Rattle.gt_book.proofs.Times.{until-other, until-begun, until-stands, timer-same, runs-other, times-stay, times-slept, times-timed}
 
 -- ---- the slot that an entry reaches
 

@@ -1,5 +1,5 @@
 -- Every change keeps a schedule that fits its state.
-use Rattle.std.proofs.Common.{◌≡◌, ◌≢◌, ℕ, zero, suc, ◌+◌, ◌<◌, ◌≤◌, add-one, List, [], ◌∷◌, ◌++◌, replicate, length, set, drop, refl, sym, ap, subst, ◌∙◌, arith, slice_get, Option, None, Some, Bool, true, false, not, ◌&&◌, ◌||◌, eqb, IsTrue, IsSomeAnd, is_some, is_none, inl, inr, option_map}
+use Rattle.std.proofs.Common.{◌≡◌, ◌≢◌, ℕ, zero, suc, ◌+◌, ◌<◌, ◌≤◌, add-one, List, [], ◌∷◌, ◌++◌, replicate, length, set, drop, refl, sym, ap, subst, ◌∙◌, arith, slice_get, Option, None, Some, Bool, true, false, not, ◌&&◌, ◌||◌, eqb, IsTrue, is_some, is_none, inl, inr}
 use Rattle.std.proofs.lemmas.Bool.{cases_eq, cases_lt, eq-eqb, ne_eqb}
 use Rattle.std.proofs.lemmas.List.{get_or_past, length-set, length-replicate}
 use Rattle.std.proofs.Math.ListN.{length-append}
@@ -13,14 +13,14 @@ use Rattle.gt_model.specs.declared.state.Goroutine.{Goroutine}
 use Rattle.gt_model.specs.declared.state.Timer.{Timer}
 use Rattle.gt_model.specs.declared.state.Mode.{Mode}
 use Rattle.gt_model.specs.Tables.{numbered, change, change_numbered, at}
-use Rattle.gt_model.specs.State.{State, goroutine_at, timer_at, instr_at, stands, stands_at, until_of, sleeps_until, clock_of, world_of, next_number, func_of, names_timer}
+use Rattle.gt_model.specs.State.{State, goroutine_at, timer_at, instr_at, stands, stands_at, clock_of, world_of, next_number, func_of, names_timer}
 use Rattle.gt_model.specs.After.{after, first_state, moves, took, new_period, moved_on, in_mode, asleep, begun, set_due, set_again, timer_world}
 use Rattle.gt_model.specs.Legal.{May, operation, operation_at}
 use Rattle.gt_model.specs.Panics.{fault, when}
 use Rattle.gt_model.specs.Ready.{is_firm, goes_on}
 use Rattle.gt_model.specs.Counted.{receives}
 use Rattle.gt_model.specs.Quiet.{none_firm}
-use Rattle.gt_model.proofs.Lookups.{Standing, standing}
+use Rattle.gt_model.proofs.Lookups.{Standing, standing, Asleep, sleeper}
 use Rattle.gt_model.proofs.Changes.{length-change_numbered}
 use Rattle.gt_queue.specs.Contents.{waiting_in, without}
 use Rattle.gt_book.specs.declared.status.RunStatus.{RunStatus}
@@ -28,8 +28,10 @@ use Rattle.gt_book.specs.Queues.{as_number, times}
 use Rattle.gt_book.specs.Schedule.{Schedule, run_queue, queue_at, status_of, joins, leaves, queued, with_new, parked_at, taken, scheduled, next_park}
 use Rattle.gt_book.specs.View.{first_schedule, is_parked_at, is_parked, is_firm_at, WaitsAt, Agrees, is_at_receive, is_queued, Fits}
 use Rattle.gt_book.specs.Steps.{Served}
-use Rattle.gt_machine.proofs.Machines.{declared_within}
-use Rattle.gt_book.proofs.Lists.{times-one_other, times-first_same, times-first_other, times-joins_same, times-joins_other, times-joins_by, times-leaves_same, times-leaves_other, times-leaves_by, waiting-set_same, waiting-set_other, numbered-change_same, numbered-change_other, numbered-push_same, numbered-push_other, HasNumber, has_number, numbered-next, list_all-from_numbered}
+use Rattle.gt_model.proofs.Declared.{declared_within}
+use Rattle.gt_model.proofs.Items.{numbered-change_same, numbered-change_other, numbered-push_same, numbered-push_other, HasNumber, has_number, numbered-next}
+use Rattle.gt_book.proofs.Lists.{times-one_other, times-first_same, times-first_other, times-joins_same, times-joins_other, times-joins_by, times-leaves_same, times-leaves_other, times-leaves_by, waiting-set_same, waiting-set_other, list_all-from_numbered}
+use Rattle.gt_book.proofs.SchedulerQueues.{first-queued}
 
 -- ---- the facts of one goroutine
 
@@ -174,13 +176,6 @@ known script s m g x fits e =
       one = one-was script s m.queues g (goroutine_at s g) (Some found.item) (status_of m g) (Some x) there e (fits-one script s m g fits);
     }
 
-queued-is : (o : Option RunStatus) → is_queued o ≡ true → o ≡ Some RunStatus.Queued
-queued-is None h = cc
-queued-is (Some RunStatus.Queued) h = refl
-queued-is (Some RunStatus.InHand) h = cc
-queued-is (Some (RunStatus.Parked since)) h = cc
-queued-is (Some RunStatus.Ended) h = cc
-
 number-one : (b : Bool) (n : ℕ) → n + 1 ≡ as_number b → b ≡ true
 number-one true n e = refl
 number-one false n e = absurd (omega arith)
@@ -216,12 +211,6 @@ fits-first script =
 
 -- ---- the run queue
 
-pub first-queued : (script : Script) (s : State) (m : Schedule) (g : ℕ) → Fits script s m → slice_get (waiting_in m.queues run_queue) 0 ≡ Some g → status_of m g ≡ Some RunStatus.Queued
-first-queued script s m g fits e =
-    queued-is (status_of m g)
-    (number-one (is_queued (status_of m g)) (times g (drop 1 (waiting_in m.queues run_queue)))
-    (sym (times-first_same g (waiting_in m.queues run_queue) e) ∙ fits.queued g))
-
 pub none-queued : (script : Script) (s : State) (m : Schedule) → Fits script s m → waiting_in m.queues run_queue ≡ [] → (g : ℕ) → status_of m g ≢ Some RunStatus.Queued
 none-queued script s m fits e g h =
     let none : times g (waiting_in m.queues run_queue) ≡ 0 = ap (times g) e in
@@ -245,7 +234,7 @@ no_run_queue t e = absurd (omega arith)
 
 pub fits-taken : (script : Script) (s : State) (m : Schedule) (g : ℕ) → Fits script s m → slice_get (waiting_in m.queues run_queue) 0 ≡ Some g → Fits script s (taken m g)
 fits-taken script s m g fits e =
-    let in_queue : status_of m g ≡ Some RunStatus.Queued = first-queued script s m g fits e in
+    let in_queue : status_of m g ≡ Some RunStatus.Queued = first-queued m g fits.queued e in
     let k : Known script s m g RunStatus.Queued = known script s m g RunStatus.Queued fits in_queue in
     let within : 0 < length m.queues = omega (arith, fits.queues) in
     let rest : List ℕ = drop 1 (waiting_in m.queues run_queue) in
@@ -482,25 +471,6 @@ again-keeps due period (Some r) h = refl
 nowhere : (a b : Bool) → b ≡ false → as_number (a && b) ≡ 0
 nowhere true b e = ap as_number e
 nowhere false b e = refl
-
-pub record Asleep (s : State) (g : ℕ) : Type 0 where
-  pub who : Goroutine
-  pub there : goroutine_at s g ≡ Some who
-  pub until : ℕ
-  pub sleeps : who.mode ≡ Mode.Sleeping until
-
-pub sleeper : (s : State) (g : ℕ) (P : ℕ → Type 0) → IsSomeAnd (sleeps_until s g) P → Asleep s g
-sleeper s g P h =
-    elim (goroutine_at s g)
-    as (λ o. goroutine_at s g ≡ o → IsSomeAnd (elim (option_map (λ (r : Goroutine). r.mode) o) [ None ↦ None | Some mode ↦ until_of mode ]) P → Asleep s g) [
-      | None ↦ λ e k. absurd k
-      | Some r ↦ λ e k.
-          elim r.mode as (λ mode. r.mode ≡ mode → IsSomeAnd (until_of mode) P → Asleep s g) [
-            | Mode.At ↦ λ q l. absurd l
-            | Mode.Sleeping until ↦ λ q l. record { who = r; there = e; until = until; sleeps = q }
-            | Mode.Ended ↦ λ q l. absurd l
-          ] refl k
-    ] refl h
 
 awaits-sleeping : (script : Script) (r : Goroutine) (t until : ℕ) → r.mode ≡ Mode.Sleeping until → awaits_at script (Some r) t ≡ false
 awaits-sleeping script r t until e =

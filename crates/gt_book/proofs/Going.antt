@@ -28,11 +28,12 @@ use Rattle.gt_book.specs.Scheduler.{schedule_of, IsScheduler}
 use Rattle.gt_book.specs.Steps.{step_of, step_or_panic, step_of_instr, plainly}
 use Rattle.gt_book.specs.View.{BookView, IsLawful, Fits, Agrees, with_entries, with_schedule, outcome_of}
 use Rattle.gt_book.specs.Book.{seen, IsKept}
-use Rattle.gt_book.proofs.Entering.{running-none, sound-more, sound-lawful, lawful-sound, fits-finish}
+use Rattle.gt_book.proofs.Fitting.{fits-finish}
+use Rattle.gt_book.proofs.Entering.{running-none, sound-more, sound-lawful, lawful-sound}
 use Rattle.gt_room.specs.Contents.{Contents}
 use Rattle.gt_book.proofs.Books.{Finished, seen-is, finished-rooms}
 use Rattle.gt_book.proofs.Fitting.{Known, known, fits-taken}
-use Rattle.gt_machine.proofs.Machines.{timer_within}
+use Rattle.gt_model.proofs.Declared.{timer_within}
 use Rattle.gt_book.specs.declared.due_times.DueTimes.{DueTimes}
 use Rattle.gt_book.specs.DueTimes.{AreTimes}
 use Rattle.gt_book.proofs.EntryTimes.{times-taken, times-finished}
@@ -78,7 +79,7 @@ pub lawful-deadlock : (v : BookView) → IsLawful v → outcome_of v ≡ None �
 lawful-deadlock v lawful none idle uncounted =
     lawful-sound (with_entries v (Entry.Finish Outcome.Deadlock ∷ []))
     (sound-more v (Entry.Finish Outcome.Deadlock) (sound-lawful v lawful) (running-none v lawful none, idle, uncounted)
-    (formed-finish v.script v.state Outcome.Deadlock lawful.formed) (fits-finish v.script v.state Outcome.Deadlock v.schedule lawful.fits))
+    (formed-finish v.script v.state Outcome.Deadlock lawful.formed) (fits-finish v.script v.state v.schedule Outcome.Deadlock lawful.fits))
     tt
 
 abbrev pub ended : Inside → Machine → Contents Entry → Inside

@@ -12,7 +12,7 @@ use Rattle.gt_book.specs.declared.status.RunStatus.{RunStatus}
 use Rattle.gt_book.specs.Schedule.{Schedule, status_of, scheduled, schedule_after, slept, parked, parked_at, taken}
 use Rattle.gt_book.specs.View.{BookView, Enters, AreWoken, finish_by, finish_due, is_queued, queued_count}
 use Rattle.gt_machine.specs.Outcomes.{due_outcome}
-use Rattle.gt_book.proofs.Lists.{numbered-change_same, numbered-change_other}
+use Rattle.gt_model.proofs.Items.{numbered-change_same, numbered-change_other}
 use Rattle.gt_book.proofs.SchedulerCounts.{count-change_numbered}
 
 -- ---- the moves of the program's clock

@@ -13,9 +13,10 @@ use Rattle.gt_book.specs.declared.scheduler.Scheduler.{Scheduler}
 use Rattle.gt_book.specs.Queues.{as_number, times}
 use Rattle.gt_book.specs.Schedule.{Schedule, status_of, queue_at}
 use Rattle.gt_book.specs.View.{Fits, is_parked, is_parked_at, is_at_receive}
-use Rattle.gt_book.proofs.Lists.{HasNumber}
-use Rattle.gt_book.proofs.Fitting.{Asleep, sleeper, asleep-parked, has_status, nowhere-new, nowhere-asleep}
-use Rattle.gt_machine.proofs.Machines.{declared_within}
+use Rattle.gt_model.proofs.Items.{HasNumber}
+use Rattle.gt_model.proofs.Lookups.{Asleep, sleeper}
+use Rattle.gt_book.proofs.Fitting.{asleep-parked, has_status, nowhere-new, nowhere-asleep}
+use Rattle.gt_model.proofs.Declared.{declared_within}
 use Rattle.gt_book.specs.Scheduler.{schedule_of, IsScheduler, IsInHand, CanAdd, IsAsleep, WaitsFor, CanSleep, CanApply}
 
 pub numbered-le : {X : Type 0} (xs : List X) (g : ℕ) (x : X) → numbered xs g ≡ Some x → g ≤ length xs

@@ -8,7 +8,7 @@ use Rattle.gt_model.specs.declared.script.Script.{Script}
 use Rattle.gt_model.specs.declared.script.Instr.{Instr}
 use Rattle.gt_model.specs.declared.state.Goroutine.{Goroutine}
 use Rattle.gt_model.specs.declared.state.Timer.{Timer}
-use Rattle.gt_model.specs.Tables.{numbered, at, flatten, change, change_numbered}
+use Rattle.gt_model.specs.Tables.{numbered, change_numbered}
 use Rattle.gt_model.specs.State.{State, stands_at, timer_at, until_of, sleeps_until, due_of, is_func}
 use Rattle.gt_model.proofs.Lookups.{Standing, standing}
 use Rattle.gt_queue.specs.Contents.{waiting_in}
@@ -16,7 +16,8 @@ use Rattle.gt_tournament.specs.Keys.{key_of}
 use Rattle.gt_book.specs.declared.due_times.DueTimes.{DueTimes}
 use Rattle.gt_book.specs.Schedule.{Schedule, run_queue, queue_at}
 use Rattle.gt_book.specs.DueTimes.{timer_time, slot_time, with_sleep, with_timer, AreTimes}
-use Rattle.gt_book.proofs.Lists.{waiting-set_other, numbered-change_same, numbered-change_other, numbered-push_same, numbered-push_other, numbered-next, change-other}
+use Rattle.gt_model.proofs.Items.{numbered-change_same, numbered-change_other, numbered-push_same, numbered-push_other, numbered-next}
+use Rattle.gt_book.proofs.Lists.{waiting-set_other}
 use Rattle.gt_book.proofs.Fitting.{no_run_queue}
 
 -- ---- slots of a list
@@ -33,19 +34,6 @@ key_of-set_same keys i key h = key_of-get_or (set keys i key) i ∙ get_or-set_s
 
 key_of-set_other : (keys : List (Option ℕ)) (i j : ℕ) (key : Option ℕ) → j ≢ i → key_of (set keys i key) j ≡ key_of keys j
 key_of-set_other keys i j key n = key_of-get_or (set keys i key) j ∙ (get_or-set_other keys i j key None n ∙ sym (key_of-get_or keys j))
-
-flatten-unwrap : {X : Type 0} (o : Option (Option X)) → flatten o ≡ unwrap_or o None
-flatten-unwrap None = refl
-flatten-unwrap (Some x) = refl
-
-at-get_or : {X : Type 0} (xs : List (Option X)) (i : ℕ) → at xs i ≡ get_or xs i None
-at-get_or xs i = flatten-unwrap (slice_get xs i) ∙ unwrap_or-slice_get xs i None
-
-pub at-set_other : {X : Type 0} (xs : List (Option X)) (i j : ℕ) (x : Option X) → j ≢ i → at (set xs i x) j ≡ at xs j
-at-set_other xs i j x n = at-get_or (set xs i x) j ∙ (get_or-set_other xs i j x None n ∙ sym (at-get_or xs j))
-
-pub at-change_other : {X : Type 0} (xs : List (Option X)) (i j : ℕ) (f : Option X → Option X) → j ≢ i → at (change xs i f) j ≡ at xs j
-at-change_other xs i j f n = ap flatten (change-other xs i j f n)
 
 -- ---- the end of a sleep, by the list of goroutines
 

@@ -1,5 +1,5 @@
 -- The places that a history tells are those of the machine's goroutines.
-use Rattle.std.proofs.Common.{◌≡◌, ℕ, zero, suc, ◌==◌, List, [], ◌∷◌, ◌++◌, length, refl, sym, ap, subst, ◌∙◌, if◌then◌else◌, Option, None, Some, IsSomeAnd, add-one}
+use Rattle.std.proofs.Common.{◌≡◌, ℕ, zero, suc, ◌+◌, ◌==◌, List, [], ◌∷◌, ◌++◌, length, refl, sym, ap, subst, ◌∙◌, if◌then◌else◌, Option, None, Some}
 use Rattle.std.specs.Option.{option_map, option_and_then}
 use Rattle.gt_model.specs.declared.script.Script.{Script}
 use Rattle.gt_model.specs.declared.script.Instr.{Instr}
@@ -10,16 +10,17 @@ use Rattle.gt_model.specs.declared.state.Goroutine.{Goroutine}
 use Rattle.gt_model.specs.declared.state.Mode.{Mode}
 use Rattle.gt_model.specs.Tables.{numbered, change_numbered}
 use Rattle.gt_model.specs.Places.{first_place, place_after}
-use Rattle.gt_model.specs.State.{State, goroutine_at, instr_at, stands_at, sleeps_until, until_of, world_of, next_number, func_of}
+use Rattle.gt_model.specs.State.{State, goroutine_at, instr_at, stands_at, world_of, func_of}
 use Rattle.gt_model.specs.After.{after, first_state, moved_on, asleep, took, in_mode, begun, timer_world}
 use Rattle.gt_model.specs.Legal.{May}
 use Rattle.gt_model.specs.Finish.{Legal}
 use Rattle.gt_model.specs.History.{AllLegal, state_after}
 use Rattle.gt_model.proofs.Changes.{length-change_numbered}
-use Rattle.gt_model.proofs.Lookups.{Standing, standing}
+use Rattle.gt_model.proofs.Lookups.{Standing, standing, Asleep, sleeper}
 use Rattle.gt_laws.specs.Told.{goes_on, place_by, place_from, place_told, instr_told}
-use Rattle.gt_laws.proofs.Places.{by-number, numbered-same, numbered-other, numbered-end, numbered-front}
-use Rattle.gt_laws.proofs.Sleeps.{until_in, until-in, Operates, operates}
+use Rattle.gt_model.proofs.Items.{numbered-change_same, numbered-change_other, numbered-push_same, numbered-push_other}
+use Rattle.gt_laws.proofs.Numbers.{by-number}
+use Rattle.gt_laws.proofs.Sleeps.{Operates, operates}
 
 -- where a goroutine is that has not ended
 abbrev pub place_in_mode : Place → Mode → Option Place
@@ -36,8 +37,8 @@ place_in (Some r) = place_in_mode r.place r.mode
 put : (gs : List Goroutine) (h g : ℕ) (f : Goroutine → Goroutine) (r : Goroutine) (place : Option Place) → numbered gs h ≡ Some r → place_in (Some (f r)) ≡ place
     → place_in (numbered (change_numbered gs h f) g) ≡ (if h == g then place else place_in (numbered gs g))
 put gs h g f r place there is = by-number h g (λ b. place_in (numbered (change_numbered gs h f) g) ≡ (if b then place else place_in (numbered gs g)))
-    (λ same. subst (λ g. place_in (numbered (change_numbered gs h f) g) ≡ place) same (ap place_in (numbered-same gs h f r there) ∙ is))
-    (λ other. ap place_in (numbered-other gs h g f other))
+    (λ same. subst (λ g. place_in (numbered (change_numbered gs h f) g) ≡ place) same (ap place_in (numbered-change_same gs h f r there) ∙ is))
+    (λ other. ap place_in (numbered-change_other gs h g f other))
 
 goes : (script : Script) (gs : List Goroutine) (h g : ℕ) (f : Goroutine → Goroutine) (r : Goroutine) → numbered gs h ≡ Some r → place_in (Some r) ≡ Some r.place
     → place_in (Some (f r)) ≡ Some (place_after script r.place)
@@ -55,11 +56,11 @@ stays gs h g f r there is = put gs h g f r (place_in (Some r)) there is
     (λ same. subst (λ g. place_in (Some r) ≡ place_in (numbered gs g)) same (sym (ap place_in there)))
     (λ other. refl)
 
-starts : (gs : List Goroutine) (child g : ℕ) (r : Goroutine) → child ≡ suc (length gs)
+starts : (gs : List Goroutine) (child g : ℕ) (r : Goroutine) → child ≡ length gs + 1
     → place_in (numbered (gs ++ r ∷ []) g) ≡ (if child == g then place_in (Some r) else place_in (numbered gs g))
 starts gs child g r is = by-number child g (λ b. place_in (numbered (gs ++ r ∷ []) g) ≡ (if b then place_in (Some r) else place_in (numbered gs g)))
-    (λ same. subst (λ g. place_in (numbered (gs ++ r ∷ []) g) ≡ place_in (Some r)) (sym is ∙ same) (ap place_in (numbered-end gs r)))
-    (λ other. ap place_in (numbered-front gs g r (λ e. other (is ∙ e))))
+    (λ same. ap place_in (numbered-push_same gs r g (sym same ∙ is)))
+    (λ other. ap place_in (numbered-push_other gs r g (λ e. other (e ∙ sym is))))
 
 -- ---- who makes an entry
 
@@ -72,28 +73,10 @@ moves script s h g i e =
     let st : Standing script s h i = standing script s h i e in
     goes script s.goroutines h g (moved_on script) st.who st.there (stands-place st.who st.at) refl
 
--- a goroutine that sleeps
-record Sleeper (s : State) (g : ℕ) : Type 0 where
-  who : Goroutine
-  there : goroutine_at s g ≡ Some who
-  place : place_in (Some who) ≡ Some who.place
-
-sleeps-place : (place : Place) (mode : Mode) (P : ℕ → Type 0) → IsSomeAnd (until_of mode) P → place_in_mode place mode ≡ Some place
-sleeps-place place Mode.At P h = refl
-sleeps-place place (Mode.Sleeping until) P h = refl
-sleeps-place place Mode.Ended P h = absurd h
-
-sleeper : (s : State) (g : ℕ) (P : ℕ → Type 0) → IsSomeAnd (sleeps_until s g) P → Sleeper s g
-sleeper s g P h =
-    elim (goroutine_at s g) as (λ o. goroutine_at s g ≡ o → IsSomeAnd (until_in o) P → Sleeper s g) [
-      | None ↦ λ is k. absurd k
-      | Some r ↦ λ is k. record { who = r; there = is; place = sleeps-place r.place r.mode P k }
-    ] refl (subst (λ (o : Option ℕ). IsSomeAnd o P) (until-in s g) h)
+sleeps-place : (r : Goroutine) (until : ℕ) → r.mode ≡ Mode.Sleeping until → place_in (Some r) ≡ Some r.place
+sleeps-place r until sleeps = ap (place_in_mode r.place) sleeps
 
 -- ---- one entry, and a history
-
-one-more : (s : State) (child : ℕ) → child ≡ next_number s → child ≡ suc (length s.goroutines)
-one-more s child is = is ∙ add-one (length s.goroutines)
 
 tells-place : (script : Script) (s : State) (e : Entry) (g : ℕ) → May script s e
     → place_in (goroutine_at (after script s e) g) ≡ place_by script g e (place_in (goroutine_at s g))
@@ -101,7 +84,7 @@ tells-place script s (Entry.Say h n) g may = moves script s h g (Instr.Say n) ma
 tells-place script s (Entry.Now h at) g may = moves script s h g Instr.Now may.0.stands
 tells-place script s (Entry.Go h child f) g may =
     starts (change_numbered s.goroutines h (moved_on script)) child g (begun script (world_of s h) f)
-    (one-more s child may.1 ∙ ap suc (sym (length-change_numbered s.goroutines h (moved_on script))))
+    (may.1 ∙ ap (λ n. n + 1) (sym (length-change_numbered s.goroutines h (moved_on script))))
     ∙ ap (λ (o : Option Place). if child == g then Some (first_place script f) else o) (moves script s h g (Instr.Go f) may.0.stands)
 tells-place script s (Entry.End h) g may =
     let st : Standing script s h Instr.Finish = standing script s h Instr.Finish may.stands in
@@ -113,8 +96,8 @@ tells-place script s (Entry.Sleep h (Some until)) g may =
     let st : Standing script s h (Instr.Sleep may.0) = standing script s h (Instr.Sleep may.0) may.1.stands in
     stays s.goroutines h g (asleep script (Some until)) st.who st.there (sym (stands-place st.who st.at))
 tells-place script s (Entry.Wake h) g may =
-    let r : Sleeper s h = sleeper s h _ may in
-    goes script s.goroutines h g (moved_on script) r.who r.there r.place refl
+    let r : Asleep s h = sleeper s h _ may in
+    goes script s.goroutines h g (moved_on script) r.who r.there (sleeps-place r.who r.until r.sleeps) refl
 tells-place script s (Entry.New h t due) g may = moves script s h g (Instr.New t may.0) may.1.stands
 tells-place script s (Entry.Stop h t was) g may = moves script s h g (Instr.Stop t) may.0.stands
 tells-place script s (Entry.Reset h t was due) g may = moves script s h g (Instr.Reset t may.0) may.1.stands
@@ -122,7 +105,7 @@ tells-place script s (Entry.TRecv p t due next) g may =
     let r : Operates script s p.g = operates script s p t may.0.stands in
     let st : Standing script s p.g r.instr = standing script s p.g r.instr r.stands in
     goes script s.goroutines p.g g (took script p.case_no) st.who st.there (stands-place st.who st.at) refl
-tells-place script s (Entry.FireFunc t child) g may = starts s.goroutines child g (begun script (timer_world s t) (func_of script t)) (one-more s child may.2)
+tells-place script s (Entry.FireFunc t child) g may = starts s.goroutines child g (begun script (timer_world s t) (func_of script t)) may.2
 tells-place script s (Entry.Clock world to) g may = refl
 tells-place script s (Entry.Panic p reason) g may = refl
 tells-place script s (Entry.Finish outcome) g may = absurd may

@@ -1,4 +1,4 @@
-pub mod Places
+pub mod Numbers
 pub mod Timers
 pub mod Sleeps
 pub mod Calls

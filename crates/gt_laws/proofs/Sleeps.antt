@@ -1,5 +1,5 @@
 -- The ends of sleeps that a history tells are those of the machine's state.
-use Rattle.std.proofs.Common.{◌≡◌, ℕ, zero, suc, ◌==◌, List, [], ◌∷◌, ◌++◌, refl, sym, ap, subst, ◌∙◌, if◌then◌else◌, Option, None, Some, slice_get, IsSomeAnd}
+use Rattle.std.proofs.Common.{◌≡◌, ℕ, zero, suc, ◌==◌, List, [], ◌∷◌, ◌++◌, refl, sym, ap, subst, ◌∙◌, if◌then◌else◌, Option, None, Some, slice_get}
 use Rattle.std.specs.Option.{option_map}
 use Rattle.gt_model.specs.declared.script.Script.{Script}
 use Rattle.gt_model.specs.declared.script.Instr.{Instr}
@@ -14,9 +14,10 @@ use Rattle.gt_model.specs.After.{after, first_state, moved_on, asleep, took, in_
 use Rattle.gt_model.specs.Legal.{May, operation, operation_at}
 use Rattle.gt_model.specs.Finish.{Legal}
 use Rattle.gt_model.specs.History.{AllLegal, state_after}
-use Rattle.gt_model.proofs.Lookups.{Standing, standing}
+use Rattle.gt_model.proofs.Lookups.{Standing, standing, Asleep, sleeper}
 use Rattle.gt_laws.specs.Told.{until_by, until_from, until_told}
-use Rattle.gt_laws.proofs.Places.{by-number, numbered-same, numbered-other}
+use Rattle.gt_model.proofs.Items.{numbered-change_same, numbered-change_other}
+use Rattle.gt_laws.proofs.Numbers.{by-number}
 
 -- the time until which a goroutine sleeps, if there is one and it does
 abbrev pub until_in : Option Goroutine → Option ℕ
@@ -33,8 +34,8 @@ until-in s g = elim (goroutine_at s g) as (λ o. (elim (option_map (λ (r : Goro
 put : (gs : List Goroutine) (h g : ℕ) (f : Goroutine → Goroutine) (r : Goroutine) (until : Option ℕ) → numbered gs h ≡ Some r → until_of (f r).mode ≡ until
     → until_in (numbered (change_numbered gs h f) g) ≡ (if h == g then until else until_in (numbered gs g))
 put gs h g f r until there is = by-number h g (λ b. until_in (numbered (change_numbered gs h f) g) ≡ (if b then until else until_in (numbered gs g)))
-    (λ same. subst (λ g. until_in (numbered (change_numbered gs h f) g) ≡ until) same (ap until_in (numbered-same gs h f r there) ∙ is))
-    (λ other. ap until_in (numbered-other gs h g f other))
+    (λ same. subst (λ g. until_in (numbered (change_numbered gs h f) g) ≡ until) same (ap until_in (numbered-change_same gs h f r there) ∙ is))
+    (λ other. ap until_in (numbered-change_other gs h g f other))
 
 -- goroutine h is changed, and sleeps neither before nor after
 stays : (gs : List Goroutine) (h g : ℕ) (f : Goroutine → Goroutine) (r : Goroutine) → numbered gs h ≡ Some r → r.mode ≡ Mode.At → until_of (f r).mode ≡ None
@@ -74,18 +75,6 @@ operates script s p o e =
       | Some i ↦ λ is h. record { instr = i; stands = is }
     ] refl e
 
--- a goroutine that sleeps
-record Sleeper (s : State) (g : ℕ) : Type 0 where
-  who : Goroutine
-  there : goroutine_at s g ≡ Some who
-
-sleeper : (s : State) (g : ℕ) (P : ℕ → Type 0) → IsSomeAnd (sleeps_until s g) P → Sleeper s g
-sleeper s g P h =
-    elim (goroutine_at s g) as (λ o. goroutine_at s g ≡ o → IsSomeAnd (until_in o) P → Sleeper s g) [
-      | None ↦ λ is k. absurd k
-      | Some r ↦ λ is k. record { who = r; there = is }
-    ] refl (subst (λ (o : Option ℕ). IsSomeAnd o P) (until-in s g) h)
-
 -- ---- one entry, and a history
 
 tells-until : (script : Script) (s : State) (e : Entry) (g : ℕ) → May script s e
@@ -104,7 +93,7 @@ tells-until script s (Entry.Sleep h (Some until)) g may =
     let st : Standing script s h (Instr.Sleep may.0) = standing script s h (Instr.Sleep may.0) may.1.stands in
     put s.goroutines h g (asleep script (Some until)) st.who (Some until) st.there refl
 tells-until script s (Entry.Wake h) g may =
-    let r : Sleeper s h = sleeper s h _ may in
+    let r : Asleep s h = sleeper s h _ may in
     put s.goroutines h g (moved_on script) r.who None r.there refl
 tells-until script s (Entry.New h t due) g may = moves-on script s h g (Instr.New t may.0) may.1.stands
 tells-until script s (Entry.Stop h t was) g may = moves-on script s h g (Instr.Stop t) may.0.stands

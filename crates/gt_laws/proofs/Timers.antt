@@ -1,6 +1,5 @@
 -- The due times that a history tells are those of the machine's state.
-use Rattle.std.proofs.Common.{◌≡◌, ℕ, zero, suc, ◌<◌, ◌==◌, ◌||◌, List, [], ◌∷◌, length, map, set, refl, sym, ap, subst, ◌∙◌, arith, if◌then◌else◌, Option, None, Some, Bool, true, false, is_some, is_none, IsTrue, slice_get}
-use Rattle.std.specs.Option.{option_map}
+use Rattle.std.proofs.Common.{◌≡◌, ℕ, zero, suc, ◌<◌, ◌==◌, List, [], ◌∷◌, length, map, set, refl, sym, ap, subst, ◌∙◌, if◌then◌else◌, Option, None, Some, Bool, true, false, is_some, is_none}
 use Rattle.gt_model.specs.declared.script.Script.{Script}
 use Rattle.gt_model.specs.declared.script.Decl.{Decl}
 use Rattle.gt_model.specs.declared.script.Instr.{Instr}
@@ -9,18 +8,20 @@ use Rattle.gt_model.specs.declared.entry.Limits.{Limits}
 use Rattle.gt_model.specs.declared.entry.Reason.{Reason}
 use Rattle.gt_model.specs.declared.state.Timer.{Timer}
 use Rattle.gt_model.specs.Tables.{at, change}
-use Rattle.gt_model.specs.State.{State, goroutine_at, timer_at, due_of, stands, what_at, names_timer, names_func}
+use Rattle.gt_model.specs.State.{State, goroutine_at, timer_at, due_of, stands}
 use Rattle.gt_model.specs.Panics.{panic_of, fault, fault_at, when}
-use Rattle.gt_model.specs.Good.{IsGood, is_setting}
+use Rattle.gt_model.specs.Good.{IsGood}
 use Rattle.gt_model.specs.After.{after, set_due, set_again, first_state}
 use Rattle.gt_model.specs.Legal.{May, Does}
 use Rattle.gt_model.specs.Finish.{Legal}
 use Rattle.gt_model.specs.Formed.{IsFormed}
 use Rattle.gt_model.specs.History.{AllLegal, state_after}
 use Rattle.gt_model.proofs.Named.{named-May}
+use Rattle.gt_model.proofs.Declared.{setting_within}
 use Rattle.gt_model.proofs.Formed.{formed-first, formed-Legal}
 use Rattle.gt_laws.specs.Told.{due_by, due_from, due_told}
-use Rattle.gt_laws.proofs.Places.{at-set-same, at-set-other, at-change-same, at-change-other, by-number}
+use Rattle.gt_model.proofs.Items.{at-set_same, at-set_other, at-change_same, at-change_other}
+use Rattle.gt_laws.proofs.Numbers.{by-number}
 
 -- the due time of a timer, if it was made
 abbrev pub due_in : Option Timer → Option ℕ
@@ -30,33 +31,19 @@ due_in (Some r) = r.due
 due-in : (s : State) (t : ℕ) → due_of s t ≡ due_in (timer_at s t)
 due-in s t = elim (timer_at s t) as (λ o. (elim o as (λ o. Option ℕ) [ None ↦ None | Some r ↦ r.due ]) ≡ due_in o) [ None ↦ refl | Some r ↦ refl ]
 
--- ---- what is declared has a place
-
-declared : (script : Script) (t : ℕ) → IsTrue (is_setting script t) → is_some (what_at script t) ≡ true
-declared script t h =
-    elim (what_at script t) as (λ o. (names_timer o || names_func o) ≡ true → is_some o ≡ true) [ None ↦ λ q. cc | Some what ↦ λ q. refl ] h
-
-placed : (decls : List Decl) (t : ℕ) → is_some (option_map (λ (d : Decl). d.what) (slice_get decls t)) ≡ true → t < length decls
-placed [] t h = cc
-placed (d ∷ ds) zero h = omega arith
-placed (d ∷ ds) (suc t) h = let below : t < length ds = placed ds t h in omega arith
-
-within : (script : Script) (s : State) (t : ℕ) → IsFormed script s → IsTrue (is_setting script t) → t < length s.timers
-within script s t formed h = rw formed.timers (placed script.decls t (declared script t h))
-
 -- ---- a change of the timers
 
 due-set : (timers : List (Option Timer)) (u t : ℕ) (r : Timer) → u < length timers
     → due_in (at (set timers u (Some r)) t) ≡ (if u == t then r.due else due_in (at timers t))
 due-set timers u t r h = by-number u t (λ b. due_in (at (set timers u (Some r)) t) ≡ (if b then r.due else due_in (at timers t)))
-    (λ same. subst (λ t. due_in (at (set timers u (Some r)) t) ≡ r.due) same (ap due_in (at-set-same timers u (Some r) h)))
-    (λ other. ap due_in (at-set-other timers u t (Some r) other))
+    (λ same. subst (λ t. due_in (at (set timers u (Some r)) t) ≡ r.due) same (ap due_in (at-set_same timers u (Some r) h)))
+    (λ other. ap due_in (at-set_other timers u t (Some r) other))
 
 due-change : (timers : List (Option Timer)) (u t : ℕ) (f : Option Timer → Option Timer) (due : Option ℕ) → f None ≡ None → due_in (f (at timers u)) ≡ due
     → due_in (at (change timers u f) t) ≡ (if u == t then due else due_in (at timers t))
 due-change timers u t f due none is = by-number u t (λ b. due_in (at (change timers u f) t) ≡ (if b then due else due_in (at timers t)))
-    (λ same. subst (λ t. due_in (at (change timers u f) t) ≡ due) same (ap due_in (at-change-same timers u f none) ∙ is))
-    (λ other. ap due_in (at-change-other timers u t f other))
+    (λ same. subst (λ t. due_in (at (change timers u f) t) ≡ due) same (ap due_in (at-change_same timers u f none) ∙ is))
+    (λ other. ap due_in (at-change_other timers u t f other))
 
 unset : (o : Option Timer) → due_in (set_due None o) ≡ None
 unset None = refl
@@ -102,7 +89,7 @@ tells-due script s (Entry.End g) t good formed may = refl
 tells-due script s (Entry.Sleep g until) t good formed may = refl
 tells-due script s (Entry.Wake g) t good formed may = refl
 tells-due script s (Entry.New g u due) t good formed may =
-    due-set s.timers u t _ (within script s u formed (named-May script s (Entry.New g u due) good may).1)
+    due-set s.timers u t _ (setting_within script s u formed (named-May script s (Entry.New g u due) good may).1)
 tells-due script s (Entry.Stop g u was) t good formed may = due-change s.timers u t (set_due None) None refl (unset (at s.timers u))
 tells-due script s (Entry.Reset g u was due) t good formed may =
     due-change s.timers u t _ (Some due) refl (set-anew (at s.timers u) due _ (made script s g u may.0 may.1))

@@ -1,5 +1,5 @@
 -- Goroutines by number and by place; what stands where in a formed state.
-use Rattle.std.proofs.Common.{◌≡◌, ℕ, zero, suc, ◌-◌, ◌+◌, ◌^◌, ◌<◌, ◌≤◌, List, [], ◌∷◌, ◌++◌, map, length, get_or, refl, sym, subst, ◌∙◌, ap, set, slice_get, Option, None, Some, option_map, sub-one, IsSomeAnd, IsTrue, Bool, false, ◌||◌, arith}
+use Rattle.std.proofs.Common.{◌≡◌, ℕ, zero, suc, ◌-◌, ◌+◌, ◌^◌, ◌<◌, ◌≤◌, List, [], ◌∷◌, ◌++◌, map, length, get_or, refl, sym, subst, ◌∙◌, ap, set, slice_get, Option, None, Some, option_map, sub-one, IsSomeAnd, arith}
 use Rattle.std.specs.Prelude.{replicate}
 use Rattle.std.proofs.lemmas.Option.{get_or_from_slice_get, slice_get_within}
 use Rattle.std.proofs.lemmas.List.Sums.{get_or-le-sum_by}
@@ -7,16 +7,14 @@ use Rattle.std.proofs.Math.ListN.{length-append}
 use Rattle.gt_model.specs.declared.script.Script.{Script}
 use Rattle.gt_model.specs.declared.script.Decl.{Decl}
 use Rattle.gt_model.specs.declared.script.Func.{Func}
-use Rattle.gt_model.specs.declared.script.What.{What}
 use Rattle.gt_model.specs.declared.script.Instr.{Instr}
 use Rattle.gt_model.specs.declared.entry.Party.{Party}
 use Rattle.gt_model.specs.declared.state.Goroutine.{Goroutine}
 use Rattle.gt_model.specs.declared.state.Mode.{Mode}
 use Rattle.gt_model.specs.declared.state.Timer.{Timer}
 use Rattle.gt_model.specs.Tables.{numbered, change_numbered}
-use Rattle.gt_model.specs.State.{State, code_of, goroutine_at, stands, stands_at, until_of, sleeps_until, world_of, timer_at, what_at, is_timer, is_func, names_timer, names_func}
-use Rattle.gt_model.specs.After.{timer_world}
-use Rattle.gt_model.specs.Good.{IsGood, is_setting, instruction_count}
+use Rattle.gt_model.specs.State.{State, code_of, goroutine_at, stands, stands_at, until_of, sleeps_until}
+use Rattle.gt_model.specs.Good.{IsGood, instruction_count}
 use Rattle.gt_model.specs.Legal.{operation, operation_at}
 use Rattle.gt_model.specs.Formed.{IsFormed, IsPlacedIn}
 use Rattle.gt_model.proofs.Tables.{change_numbered-set}
@@ -31,31 +29,6 @@ numbered_below xs (suc i) x P h e = rw sub-one at e
 pub set_numbered : {X : Type 0} (xs : List X) (g : ℕ) (f : X → X) (x : X) (P : X → Type 0)
     → IsSomeAnd (numbered xs g) P → slice_get xs (g - 1) ≡ Some x → set xs (g - 1) (f x) ≡ change_numbered xs g f
 set_numbered xs g f x P h e = sym (change_numbered-set xs g f x (numbered_below xs g x P h e))
-
--- the item with a number, which is there
-pub record HasNumber {X : Type 0} (xs : List X) (g : ℕ) : Type 0 where
-  pub item : X
-  pub there : slice_get xs (g - 1) ≡ Some item
-
-pub has_number : {X : Type 0} (xs : List X) (g : ℕ) (P : X → Type 0) → IsSomeAnd (numbered xs g) P → HasNumber xs g
-has_number xs zero P h = absurd h
-has_number xs (suc i) P h =
-    elim (slice_get xs i) as (λ o. slice_get xs i ≡ o → IsSomeAnd o P → HasNumber xs (suc i)) [
-      | None ↦ λ e k. absurd k
-      | Some x ↦ λ e k. record { item = x; there = rw sub-one e }
-    ] refl h
-
--- the same by places
-pub record HasPlace {X : Type 0} (xs : List X) (i : ℕ) : Type 0 where
-  pub item : X
-  pub there : slice_get xs i ≡ Some item
-
-pub has_place : {X : Type 0} (xs : List X) (i : ℕ) (P : X → Type 0) → IsSomeAnd (slice_get xs i) P → HasPlace xs i
-has_place xs i P h =
-    elim (slice_get xs i) as (λ o. slice_get xs i ≡ o → IsSomeAnd o P → HasPlace xs i) [
-      | None ↦ λ e k. absurd k
-      | Some x ↦ λ e k. record { item = x; there = e }
-    ] refl h
 
 -- ---- places in the code of a good script
 
@@ -112,38 +85,6 @@ inside_receiving script s p t good formed h =
       | None ↦ λ e k. cc
       | Some i ↦ λ e k. inside_standing script s p.g i good formed e
     ] refl h
-
--- ---- places of timers
-
-pub declared_within : (script : Script) (t : ℕ) (P : Option What → Bool) → P None ≡ false → IsTrue (P (what_at script t)) → t < length script.decls
-declared_within script t P h k =
-    elim (slice_get script.decls t) as (λ o. slice_get script.decls t ≡ o → IsTrue (P (option_map (λ (d : Decl). d.what) o)) → t < length script.decls) [
-      | None ↦ λ e l. cc
-      | Some d ↦ λ e l. slice_get_within script.decls t d e
-    ] refl k
-
-pub timer_within : (script : Script) (s : State) (t : ℕ) → IsFormed script s → IsTrue (is_timer script t) → t < length s.timers
-timer_within script s t formed h = rw formed.timers (declared_within script t names_timer refl h)
-
-pub func_within : (script : Script) (s : State) (t : ℕ) → IsFormed script s → IsTrue (is_func script t) → t < length s.timers
-func_within script s t formed h = rw formed.timers (declared_within script t names_func refl h)
-
-pub setting_within : (script : Script) (s : State) (t : ℕ) → IsFormed script s → IsTrue (is_setting script t) → t < length s.timers
-setting_within script s t formed h = rw formed.timers (declared_within script t (λ o. names_timer o || names_func o) refl h)
-
--- ---- everything is of the program's world
-
-pub world_of-zero : (script : Script) (s : State) (g : ℕ) → IsFormed script s → world_of s g ≡ 0
-world_of-zero script s g formed = elim (goroutine_at s g) as (λ o. goroutine_at s g ≡ o → (elim o [ None ↦ 0 | Some r ↦ r.world ]) ≡ 0) [
-  | None ↦ λ e. refl
-  | Some r ↦ λ e. formed.world.goroutines g r e
-] refl
-
-pub timer_world-zero : (script : Script) (s : State) (t : ℕ) → IsFormed script s → timer_world s t ≡ 0
-timer_world-zero script s t formed = elim (timer_at s t) as (λ o. timer_at s t ≡ o → (elim o [ None ↦ 0 | Some r ↦ r.world ]) ≡ 0) [
-  | None ↦ λ e. refl
-  | Some r ↦ λ e. formed.world.timers t r e
-] refl
 
 -- ---- the first timers
 

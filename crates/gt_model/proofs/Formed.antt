@@ -28,6 +28,7 @@ use Rattle.gt_model.specs.History.{AllLegal, Reached, state_after}
 use Rattle.gt_model.specs.Formed.{IsFormed, IsPlaced, IsPlacedIn}
 use Rattle.gt_model.proofs.GoodCode.{HasItem, has_item, all_at}
 use Rattle.gt_model.proofs.Lookups.{Standing, standing}
+use Rattle.gt_model.proofs.Items.{at-is}
 use Rattle.gt_model.proofs.Changes.{AllAt, AllNumbered, all-change, all-set, all_numbered-change, all_numbered-append, length-change, length-change_numbered}
 
 -- ---- the facts of a state, part by part
@@ -52,13 +53,9 @@ pub record AreTimers (script : Script) (ts : List (Option Timer)) : Type 0 where
   pub count : length ts ≡ length script.decls
   pub each : AllAt (λ (o : Option Timer). IfSome o IsFormedTimer) ts
 
-flat : {X : Type 0} (o : Option (Option X)) (x : X) → flatten o ≡ Some x → o ≡ Some (Some x)
-flat None x e = cc
-flat (Some o) x e = ap Some e
-
 formed-parts : (script : Script) (s : State) → AreClocks s.clocks → AreGoroutines script s.goroutines → length s.goroutines ≤ s.entries + 1 → AreTimers script s.timers → IsFormed script s
 formed-parts script s clocks gs few ts =
-    let timer : (t : ℕ) (r : Timer) → timer_at s t ≡ Some r → IsFormedTimer r = λ t r e. ts.each t (Some r) (flat (slice_get s.timers t) r e) in
+    let timer : (t : ℕ) (r : Timer) → timer_at s t ≡ Some r → IsFormedTimer r = λ t r e. ts.each t (Some r) (at-is s.timers t r e) in
     record {
       world = record { goroutines = λ g r e. (gs.each g r e).world; timers = λ t r e. (timer t r e).world };
       one_clock = clocks.one;
@@ -236,13 +233,13 @@ sleep_end-time : (now d : ℕ) → IfSome (sleep_end now d) (λ until. until ≤
 sleep_end-time now zero = tt
 sleep_end-time now (suc d) = due_at-time now (suc d)
 
-world_of-zero : (script : Script) (s : State) (g : ℕ) → IsFormed script s → world_of s g ≡ 0
+pub world_of-zero : (script : Script) (s : State) (g : ℕ) → IsFormed script s → world_of s g ≡ 0
 world_of-zero script s g formed = elim (goroutine_at s g) as (λ o. goroutine_at s g ≡ o → (elim o [ None ↦ 0 | Some r ↦ r.world ]) ≡ 0) [
   | None ↦ λ e. refl
   | Some r ↦ λ e. formed.world.goroutines g r e
 ] refl
 
-timer_world-zero : (script : Script) (s : State) (t : ℕ) → IsFormed script s → timer_world s t ≡ 0
+pub timer_world-zero : (script : Script) (s : State) (t : ℕ) → IsFormed script s → timer_world s t ≡ 0
 timer_world-zero script s t formed = elim (timer_at s t) as (λ o. timer_at s t ≡ o → (elim o [ None ↦ 0 | Some r ↦ r.world ]) ≡ 0) [
   | None ↦ λ e. refl
   | Some r ↦ λ e. formed.world.timers t r e

@@ -6,3 +6,5 @@ pub mod Quiet
 pub mod Formed
 pub mod Named
 pub mod Changes
+pub mod Items
+pub mod Declared

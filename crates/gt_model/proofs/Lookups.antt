@@ -1,16 +1,25 @@
--- What holds of each item of a list holds of one; a goroutine where it stands.
-use Rattle.std.proofs.Common.{◌≡◌, ℕ, zero, suc, List, [], ◌∷◌, refl, slice_get, None, Some, Bool, true, false, not, ◌||◌}
-use Rattle.std.specs.List.{list_any}
+-- What holds of each item of a list holds of one; a goroutine where it stands, and one that sleeps.
+use Rattle.std.proofs.Common.{◌≡◌, ℕ, zero, suc, List, [], ◌∷◌, refl, ap, slice_get, None, Some, option_map, Bool, true, false, not, eqb-true, ◌||◌, IsSomeAnd}
+use Rattle.std.specs.List.{list_any, list_all}
+use Rattle.std.proofs.lemmas.Bool.{and_parts}
 use Rattle.gt_model.specs.declared.script.Script.{Script}
 use Rattle.gt_model.specs.declared.script.Instr.{Instr}
 use Rattle.gt_model.specs.declared.state.Goroutine.{Goroutine}
 use Rattle.gt_model.specs.declared.state.Mode.{Mode}
 use Rattle.gt_model.specs.Tables.{numbered}
-use Rattle.gt_model.specs.State.{State, goroutine_at, stands, stands_at, instr_at}
+use Rattle.gt_model.specs.State.{State, goroutine_at, stands, stands_at, instr_at, until_of, sleeps_until}
+use Rattle.gt_model.specs.Counted.{receives}
 
 pub not_both : (a : Bool) → not a ≡ true → a ≡ true → ⊥
 not_both true h k = cc
 not_both false h k = cc
+
+pub all-item : {X : Type 0} (p : X → Bool) (xs : List X) (i : ℕ) (x : X) → slice_get xs i ≡ Some x → list_all p xs ≡ true → p x ≡ true
+all-item p [] i x e h = cc
+all-item p (y ∷ xs) zero x e h =
+    let is : y ≡ x = cc in
+    rw (← is) (and_parts (p y) (list_all p xs) h).0
+all-item p (y ∷ xs) (suc i) x e h = all-item p xs i x e (and_parts (p y) (list_all p xs) h).1
 
 pub any-item : {X : Type 0} (p : X → Bool) (xs : List X) (i : ℕ) (x : X) → slice_get xs i ≡ Some x → p x ≡ true → list_any p xs ≡ true
 any-item p [] i x e h = cc
@@ -51,3 +60,28 @@ standing script s g i e =
       | None ↦ λ p q. cc
       | Some r ↦ λ p q. record { who = r; there = p; at = stands-at script r i q; on = stands-on script r i q }
     ] refl e
+
+-- what stands at a receive of t is that receive
+pub receives-recv : (i : Instr) (t : ℕ) → receives t i ≡ true → i ≡ Instr.Recv t
+receives-recv (Instr.Recv o) t h = ap Instr.Recv (eqb-true o t h)
+receives-recv _ t h = cc
+
+-- a goroutine that sleeps
+pub record Asleep (s : State) (g : ℕ) : Type 0 where
+  pub who : Goroutine
+  pub there : goroutine_at s g ≡ Some who
+  pub until : ℕ
+  pub sleeps : who.mode ≡ Mode.Sleeping until
+
+pub sleeper : (s : State) (g : ℕ) (P : ℕ → Type 0) → IsSomeAnd (sleeps_until s g) P → Asleep s g
+sleeper s g P h =
+    elim (goroutine_at s g)
+    as (λ o. goroutine_at s g ≡ o → IsSomeAnd (elim (option_map (λ (r : Goroutine). r.mode) o) [ None ↦ None | Some mode ↦ until_of mode ]) P → Asleep s g) [
+      | None ↦ λ e k. absurd k
+      | Some r ↦ λ e k.
+          elim r.mode as (λ mode. r.mode ≡ mode → IsSomeAnd (until_of mode) P → Asleep s g) [
+            | Mode.At ↦ λ q l. absurd l
+            | Mode.Sleeping until ↦ λ q l. record { who = r; there = e; until = until; sleeps = q }
+            | Mode.Ended ↦ λ q l. absurd l
+          ] refl k
+    ] refl h

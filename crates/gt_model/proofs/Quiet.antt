@@ -12,7 +12,7 @@ use Rattle.gt_model.specs.declared.entry.Reason.{Reason}
 use Rattle.gt_model.specs.declared.state.Goroutine.{Goroutine}
 use Rattle.gt_model.specs.declared.state.Timer.{Timer}
 use Rattle.gt_model.specs.declared.state.Mode.{Mode}
-use Rattle.gt_model.specs.Tables.{numbered, at, flatten}
+use Rattle.gt_model.specs.Tables.{numbered, at}
 use Rattle.gt_model.specs.State.{State, goroutine_at, stands, stands_at, instr_at, until_of, sleeps_until, clock, clock_of, world_of, timer_at, due_of, is_func}
 use Rattle.gt_model.specs.Panics.{fault, fault_at, panic_of, panic_at}
 use Rattle.gt_model.specs.Ready.{is_firm, goes_on, is_due}
@@ -20,18 +20,12 @@ use Rattle.gt_model.specs.Counted.{sleep_of, receives, awaits, is_awaited, count
 use Rattle.gt_model.specs.Legal.{Does, Receives, operation, operation_at}
 use Rattle.gt_model.specs.Finish.{IsIdle}
 use Rattle.gt_model.specs.Quiet.{IsQuiet, IsOneWorld, none_firm, none_due}
-use Rattle.gt_model.proofs.Lookups.{not_both, any-numbered, Standing, standing}
-
-all_at : {X : Type 0} (p : X → Bool) (xs : List X) (i : ℕ) (x : X) → slice_get xs i ≡ Some x → list_all p xs ≡ true → p x ≡ true
-all_at p [] i x e h = cc
-all_at p (y ∷ xs) zero x e h =
-    let is : y ≡ x = cc in
-    rw (← is) (and_parts (p y) (list_all p xs) h).0
-all_at p (y ∷ xs) (suc i) x e h = all_at p xs i x e (and_parts (p y) (list_all p xs) h).1
+use Rattle.gt_model.proofs.Lookups.{not_both, all-item, any-numbered, Standing, standing}
+use Rattle.gt_model.proofs.Items.{at-is}
 
 all_numbered : {X : Type 0} (p : X → Bool) (xs : List X) (g : ℕ) (x : X) → numbered xs g ≡ Some x → list_all p xs ≡ true → p x ≡ true
 all_numbered p xs zero x e h = cc
-all_numbered p xs (suc i) x e h = all_at p xs i x e h
+all_numbered p xs (suc i) x e h = all-item p xs i x e h
 
 -- what holds of all that a list gives holds of what one item gives
 given_at : {X : Type 0} (f : X → Option ℕ) (p : ℕ → Bool) (xs : List X) (i : ℕ) (x : X) (t : ℕ)
@@ -62,10 +56,6 @@ enumerated_at n (y ∷ xs) zero x e =
 enumerated_at n (y ∷ xs) (suc i) x e =
     let here : (n + 1) + i ≡ n + suc i = omega arith in
     rw (← here) (enumerated_at (n + 1) xs i x e)
-
-flat : {X : Type 0} (o : Option (Option X)) (x : X) → flatten o ≡ Some x → o ≡ Some (Some x)
-flat None x e = cc
-flat (Some o) x e = ap Some e
 
 -- the two parts of the test on times
 sleeps_later : (script : Script) (s : State) → none_due script s ≡ true → list_all (nat_lt (clock s 0)) (filter_map (sleep_of 0) s.goroutines) ≡ true
@@ -126,7 +116,7 @@ timer_later : (script : Script) (s : State) (t due : ℕ) (r : Timer) → IsQuie
 timer_later script s t due r quiet e is counts =
     let zero_world : r.world ≡ 0 = quiet.world.timers t r e in
     let gives : counted_timer script s 0 (t, Some r) ≡ Some due = rw (eq-eqb r.world 0 zero_world, counts) is in
-    let there : slice_get (enumerate_from 0 s.timers) t ≡ Some (0 + t, Some r) = enumerated_at 0 s.timers t (Some r) (flat (slice_get s.timers t) r e) in
+    let there : slice_get (enumerate_from 0 s.timers) t ≡ Some (0 + t, Some r) = enumerated_at 0 s.timers t (Some r) (at-is s.timers t r e) in
     let zero_t : 0 + t ≡ t = omega arith in
     ltb-true (clock s 0) due (given_at (counted_timer script s 0) (nat_lt (clock s 0)) (enumerate_from 0 s.timers) t (t, Some r) due (rw zero_t at there) gives (timers_later script s quiet.none_due))
 

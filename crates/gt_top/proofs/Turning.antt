@@ -7,12 +7,12 @@ use Rattle.gt_book.specs.declared.status.RunStatus.{RunStatus}
 use Rattle.gt_book.specs.Schedule.{status_of, taken}
 use Rattle.gt_book.specs.Steps.{Takes}
 use Rattle.gt_book.specs.View.{BookView, IsLawful, with_schedule, queued_count}
-use Rattle.gt_book.proofs.Fitting.{first-queued}
+use Rattle.gt_book.proofs.SchedulerQueues.{first-queued}
 use Rattle.gt_book.proofs.Passing.{taken-in_hand, taken-hands, taken-queued_count, queued_count-few}
 use Rattle.gt_top.specs.Run.{HandsFree, IsAlone, Passes, Moves, run_left}
 
 taken-queued : (old new : BookView) (g : ℕ) → IsLawful old → Takes old (Pick.Run g) new → status_of old.schedule g ≡ Some RunStatus.Queued
-taken-queued old new g lawful takes = first-queued old.script old.state old.schedule g lawful.fits takes.0
+taken-queued old new g lawful takes = first-queued old.schedule g lawful.fits.queued takes.0
 
 pub alone-taken : (old new : BookView) (g : ℕ) → IsLawful old → HandsFree old → Takes old (Pick.Run g) new → IsAlone new g
 alone-taken old new g lawful free takes =

@@ -1,18 +1,18 @@
 -- The names of a good script are short, and what an entry names is declared.
-use Rattle.std.proofs.Common.{◌≡◌, ℕ, zero, suc, ◌<◌, ◌≤◌, List, [], ◌∷◌, length, get_or, refl, arith, slice_get, None, Some, Bool, true, false, ◌&&◌, ◌||◌, IsTrue, nat_le}
+use Rattle.std.proofs.Common.{◌≡◌, ℕ, zero, suc, ◌<◌, ◌≤◌, List, [], ◌∷◌, length, get_or, refl, arith, slice_get, Some, Bool, true, false, ◌&&◌, IsTrue, nat_le}
 use Rattle.std.proofs.lemmas.Bool.Decides.{nat_tests}
 use Rattle.std.specs.List.{list_all}
-use Rattle.std.specs.Option.{option_map}
-use Rattle.std.proofs.lemmas.Option.{slice_get_read, slice_get_within}
+use Rattle.std.proofs.lemmas.Option.{slice_get_read}
 use Rattle.gt_model.specs.declared.script.Script.{Script}
 use Rattle.gt_model.specs.declared.script.Decl.{Decl}
 use Rattle.gt_model.specs.declared.script.Func.{Func}
 use Rattle.gt_model.specs.declared.script.What.{What}
 use Rattle.gt_model.specs.declared.entry.Entry.{Entry}
-use Rattle.gt_model.specs.State.{what_at, is_timer, is_func, names_timer, names_func}
-use Rattle.gt_model.specs.Good.{IsGood, is_name, is_name_byte, is_letter, is_setting}
+use Rattle.gt_model.specs.State.{what_at}
+use Rattle.gt_model.specs.Good.{IsGood, is_name, is_name_byte, is_letter}
 use Rattle.gt_model.specs.Named.{IsNamed, AllNamed}
 use Rattle.gt_model.proofs.GoodCode.{all_at}
+use Rattle.gt_model.proofs.Declared.{declared_at}
 use Rattle.gt_trace.specs.Text.{name_of, function_name}
 
 right_of_both : (a b : Bool) → IsTrue (a && b) → IsTrue b
@@ -25,30 +25,6 @@ length-is_name [] h = cc
 length-is_name (b ∷ bs) h =
     let short : IsTrue (nat_le (length bs) 31) = right_of_both (is_letter b && list_all is_name_byte bs) (nat_le (length bs) 31) h in
     grind (arith, nat_tests)
-
--- what is declared as something is declared
-declared_at : (script : Script) (place : ℕ) (what : What) → what_at script place ≡ Some what → place < length script.decls
-declared_at script place what e =
-    elim (slice_get script.decls place) as (λ o. slice_get script.decls place ≡ o → option_map (λ (d : Decl). d.what) o ≡ Some what → place < length script.decls) [
-      | None ↦ λ found is. cc
-      | Some decl ↦ λ found is. slice_get_within script.decls place decl found
-    ] refl e
-
--- a timer is declared
-pub setting_declared : (script : Script) (t : ℕ) → IsTrue (is_setting script t) → t < length script.decls
-setting_declared script t h =
-    elim (slice_get script.decls t) as (λ o. slice_get script.decls t ≡ o
-    → IsTrue (names_timer (option_map (λ (d : Decl). d.what) o) || names_func (option_map (λ (d : Decl). d.what) o)) → t < length script.decls) [
-      | None ↦ λ found is. cc
-      | Some decl ↦ λ found is. slice_get_within script.decls t decl found
-    ] refl h
-
-pub timer_setting : (script : Script) (t : ℕ) → IsTrue (is_timer script t) → IsTrue (is_setting script t)
-timer_setting script t h = rw h refl
-
-pub func_setting : (script : Script) (t : ℕ) → IsTrue (is_func script t) → IsTrue (is_setting script t)
-func_setting script t h =
-    elim (is_timer script t) as (λ b. (b || is_func script t) ≡ true) [ true ↦ refl | false ↦ h ]
 
 -- a declaration that was read at its place
 pub record Declares (script : Script) (place : ℕ) (decl : Decl) : Type 0 where

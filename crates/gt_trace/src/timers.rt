@@ -14,7 +14,7 @@ use crate::names::declared_name;
 use gt_model::{Entry, Party, Script};
 
 /// Appends a space and the name of a timer.
-#[tactic(auto, using(crate::proofs::ScriptNames::setting_declared))]
+#[tactic(auto, using(gt_model::proofs::Declared::setting_declared))]
 fn push_timer(line: &mut Line, script: &Script, t: u32)
     requires good { IsGood script.now }
     requires named { IsTrue (is_setting script.now t) }
@@ -81,7 +81,7 @@ pub fn fill_reset(line: &mut Line, script: &Script, g: u32, t: u32, was: Option<
 }
 
 /// A goroutine received the tick of a timer.
-#[tactic(auto, using(crate::proofs::ScriptNames::timer_setting))]
+#[tactic(auto, using(gt_model::proofs::Declared::timer_setting))]
 pub fn fill_tick(line: &mut Line, script: &Script, p: Party, t: u32, due: u64, next: Option<u64>)
     requires empty { line.old.items ≡ [] }
     requires good { IsGood script.now }
@@ -98,7 +98,7 @@ pub fn fill_tick(line: &mut Line, script: &Script, p: Party, t: u32, due: u64, n
 }
 
 /// An AfterFunc timer started its function.
-#[tactic(auto, using(crate::proofs::ScriptNames::func_setting))]
+#[tactic(auto, using(gt_model::proofs::Declared::func_setting))]
 pub fn fill_fire(line: &mut Line, script: &Script, t: u32, child: u32)
     requires empty { line.old.items ≡ [] }
     requires good { IsGood script.now }

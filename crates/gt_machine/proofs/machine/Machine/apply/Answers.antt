@@ -10,7 +10,9 @@ use Rattle.gt_model.specs.Legal.{May}
 use Rattle.gt_model.proofs.Changes.{length-change_numbered}
 use Rattle.gt_model.proofs.Named.{named-May}
 use Rattle.gt_machine.specs.Machine.{state_of, counted}
-use Rattle.gt_machine.proofs.Machines.{inside_standing, inside_sleeping, inside_receiving, timer_within, func_within, setting_within, timer_world-zero, room_changed, room_begun}
+use Rattle.gt_model.proofs.Declared.{timer_within, func_within, setting_within}
+use Rattle.gt_model.proofs.Formed.{timer_world-zero}
+use Rattle.gt_machine.proofs.Machines.{inside_standing, inside_sleeping, inside_receiving, room_changed, room_begun}
 use Rattle.gt_machine.proofs.machine.Machine.apply.Goals as goal
 
 pub pass-requires-clause-inside : goal.pass-requires-clause-inside

@@ -1,0 +1,40 @@
+-- What is declared has a place among the declarations and among the timers.
+use Rattle.std.proofs.Common.{◌≡◌, ℕ, ◌<◌, ◌||◌, length, slice_get, refl, Option, None, Some, option_map, Bool, true, false, is_some, IsTrue}
+use Rattle.std.proofs.lemmas.Option.{slice_get_within}
+use Rattle.gt_model.specs.declared.script.Script.{Script}
+use Rattle.gt_model.specs.declared.script.Decl.{Decl}
+use Rattle.gt_model.specs.declared.script.What.{What}
+use Rattle.gt_model.specs.State.{State, what_at, is_timer, is_func, names_timer, names_func}
+use Rattle.gt_model.specs.Good.{is_setting}
+use Rattle.gt_model.specs.Formed.{IsFormed}
+
+pub declared_within : (script : Script) (t : ℕ) (P : Option What → Bool) → P None ≡ false → IsTrue (P (what_at script t)) → t < length script.decls
+declared_within script t P h k =
+    elim (slice_get script.decls t) as (λ o. slice_get script.decls t ≡ o → IsTrue (P (option_map (λ (d : Decl). d.what) o)) → t < length script.decls) [
+      | None ↦ λ e l. cc
+      | Some d ↦ λ e l. slice_get_within script.decls t d e
+    ] refl k
+
+pub declared_at : (script : Script) (place : ℕ) (what : What) → what_at script place ≡ Some what → place < length script.decls
+declared_at script place what e = declared_within script place is_some refl (rw e refl)
+
+-- a timer of either kind is declared
+pub setting_declared : (script : Script) (t : ℕ) → IsTrue (is_setting script t) → t < length script.decls
+setting_declared script t h = declared_within script t (λ o. names_timer o || names_func o) refl h
+
+pub timer_setting : (script : Script) (t : ℕ) → IsTrue (is_timer script t) → IsTrue (is_setting script t)
+timer_setting script t h = rw h refl
+
+pub func_setting : (script : Script) (t : ℕ) → IsTrue (is_func script t) → IsTrue (is_setting script t)
+func_setting script t h =
+    elim (is_timer script t) as (λ b. (b || is_func script t) ≡ true) [ true ↦ refl | false ↦ h ]
+
+-- and has a place among the timers of a formed state
+pub setting_within : (script : Script) (s : State) (t : ℕ) → IsFormed script s → IsTrue (is_setting script t) → t < length s.timers
+setting_within script s t formed h = rw formed.timers (setting_declared script t h)
+
+pub timer_within : (script : Script) (s : State) (t : ℕ) → IsFormed script s → IsTrue (is_timer script t) → t < length s.timers
+timer_within script s t formed h = setting_within script s t formed (timer_setting script t h)
+
+pub func_within : (script : Script) (s : State) (t : ℕ) → IsFormed script s → IsTrue (is_func script t) → t < length s.timers
+func_within script s t formed h = setting_within script s t formed (func_setting script t h)
