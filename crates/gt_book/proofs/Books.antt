@@ -27,7 +27,7 @@ use Rattle.gt_book.specs.Steps.{Served}
 use Rattle.gt_book.specs.View.{BookView, IsLawful, Fits, Enters, first_view, first_schedule, with_entries, outcome_of}
 use Rattle.gt_machine.specs.Outcomes.{outcome_in, due_outcome}
 use Rattle.gt_book.specs.Book.{seen, HasRooms, IsKept}
-use Rattle.gt_book.proofs.Entering.{IsEntered, entered_by, running-none, lawful-goes_on, lawful-finishes, enters-goes_on, enters-finishes, IsCounted, counted-May}
+use Rattle.gt_book.proofs.Entering.{IsEntered, entered_by, running-none, lawful-goes_on, lawful-finishes, enters-finishes, IsCounted, counted-May}
 use Rattle.gt_book.proofs.Fitting.{fits-first, fits-entered, receives-parked}
 use Rattle.gt_book.proofs.SchedulerNeeds.{HasMaker, can_apply-May}
 
@@ -191,12 +191,6 @@ seen-applied b e machine scheduler times history done =
 due-applied : (b : Inside) (e : Entry) (machine : Machine) (scheduler : Scheduler) (times : DueTimes) (history : Contents Entry) (o : Option Outcome) → Applied b e machine scheduler times history
     → due_outcome b.limits (state_of machine) ≡ o → due_outcome b.limits (after b.script (state_of b.machine) e) ≡ o
 due-applied b e machine scheduler times history o done due = ap (due_outcome b.limits) (sym done.state) ∙ due
-
-pub enters-applied : (b : Inside) (e : Entry) (machine : Machine) (scheduler : Scheduler) (times : DueTimes) (history : Contents Entry) → CanEnter b e
-    → Applied b e machine scheduler times history → due_outcome b.limits (state_of machine) ≡ None → Enters (seen b) e (seen (with_parts b machine scheduler times history))
-enters-applied b e machine scheduler times history can done none =
-    subst (Enters (seen b) e) (sym (seen-applied b e machine scheduler times history done))
-    (enters-goes_on (seen b) e (entered b e can) (due-applied b e machine scheduler times history None done none))
 
 unfinished-none : (ending : Ending) → ((outcome : Outcome) → ending ≡ Ending.Finished outcome → ⊥) → outcome_in ending ≡ None
 unfinished-none Ending.Running h = refl

@@ -1,17 +1,13 @@
 -- What an operation needs that is committed while the run goes on.
-use Rattle.std.proofs.Common.{◌≡◌, ℕ, zero, suc, ◌+◌, ◌<◌, ◌≤◌, min, length, refl, sym, ap, subst, ◌∙◌, arith, slice_get, Option, None, Some, Bool, true, false, not, ◌&&◌, ◌||◌, IsTrue, IsSomeAnd, is_some, is_none, drop, inl, inr, ◌⊎◌}
-use Rattle.std.proofs.lemmas.Bool.{le-leb}
+use Rattle.std.proofs.Common.{◌≡◌, ℕ, zero, suc, ◌+◌, ◌<◌, ◌≤◌, min, length, refl, sym, ap, subst, ◌∙◌, arith, slice_get, Option, None, Some, Bool, true, false, not, ◌&&◌, ◌||◌, IsTrue, is_some, is_none, drop, inl, inr, ◌⊎◌}
 use Rattle.gt_model.specs.declared.time.TheConstants.{CAP}
 use Rattle.gt_model.specs.declared.script.Script.{Script}
 use Rattle.gt_model.specs.declared.script.Instr.{Instr}
-use Rattle.gt_model.specs.declared.entry.Entry.{Entry}
 use Rattle.gt_model.specs.declared.entry.Outcome.{Outcome}
 use Rattle.gt_model.specs.declared.entry.Reason.{Reason}
-use Rattle.gt_model.specs.declared.state.Timer.{Timer}
-use Rattle.gt_model.specs.State.{State, goroutine_at, timer_at, stands, stands_at, clock, clock_of, sleeps_until, due_of, is_timer, is_func}
+use Rattle.gt_model.specs.State.{State, goroutine_at, timer_at, stands, stands_at, clock, clock_of, due_of, is_timer}
 use Rattle.gt_model.specs.Panics.{fault, fault_at, panic_of, panic_at, when}
-use Rattle.gt_model.specs.Ready.{is_due}
-use Rattle.gt_model.specs.Legal.{May, Does, Receives, operation, due_at, sleep_end}
+use Rattle.gt_model.specs.Legal.{Does, Receives, operation, due_at, sleep_end}
 use Rattle.gt_model.specs.Counted.{receives}
 use Rattle.gt_queue.specs.Contents.{waiting_in}
 use Rattle.gt_book.specs.declared.status.RunStatus.{RunStatus}
@@ -39,31 +35,6 @@ one_clock : (b : BookView) (g : ℕ) → IsLawful b → clock_of b.state g ≡ c
 one_clock b g lawful = ap (clock b.state) (world_of-zero b.script b.state g lawful.formed)
 
 -- ---- what time brings
-
-pub may-wake : (b : BookView) (g at : ℕ) → IsLawful b → outcome_of b ≡ None → sleeps_until b.state g ≡ Some at → at ≤ clock b.state 0
-    → MayCommit b (Op.Wake g) × (is_gone b (Op.Wake g) ≡ false)
-may-wake b g at lawful running sleeps due =
-    let here : at ≤ clock_of b.state g = subst (λ now. at ≤ now) (sym (one_clock b g lawful)) due in
-    let may : May b.script b.state (Entry.Wake g) = subst (λ (o : Option ℕ). IsSomeAnd o (λ until. until ≤ clock_of b.state g)) (sym sleeps) here in
-    ((may, tt, tt), not_gone b (Op.Wake g) running (ap (λ (o : Option ℕ). not (is_some o)) sleeps))
-
-due-timer : (s : State) (t at : ℕ) → ((r : Timer) → timer_at s t ≡ Some r → r.world ≡ 0) → due_of s t ≡ Some at → at ≤ clock s 0
-    → IsSomeAnd (timer_at s t) (λ (r : Timer). IsTrue (is_due r.due (clock s r.world)))
-due-timer s t at world e due =
-    elim (timer_at s t) as (λ o. timer_at s t ≡ o → (elim o [ None ↦ None | Some r ↦ r.due ]) ≡ Some at
-    → IsSomeAnd o (λ (r : Timer). IsTrue (is_due r.due (clock s r.world)))) [
-      | None ↦ λ q h. cc
-      | Some r ↦ λ q h.
-          let come : IsTrue (is_due (Some at) (clock s 0)) = le-leb at (clock s 0) due in
-          subst (λ (w : ℕ). IsTrue (is_due r.due (clock s w))) (sym (world r q)) (subst (λ (o : Option ℕ). IsTrue (is_due o (clock s 0))) (sym h) come)
-    ] refl e
-
-pub may-fire : (b : BookView) (t at : ℕ) → IsLawful b → outcome_of b ≡ None → IsTrue (is_func b.script t) → due_of b.state t ≡ Some at → at ≤ clock b.state 0
-    → MayCommit b (Op.Fire t) × (is_gone b (Op.Fire t) ≡ false)
-may-fire b t at lawful running func e due =
-    let timer : IsSomeAnd (timer_at b.state t) (λ (r : Timer). IsTrue (is_due r.due (clock b.state r.world))) =
-    due-timer b.state t at (lawful.formed.world.timers t) e due in
-    (((func, timer, refl), tt, tt), not_gone b (Op.Fire t) running refl)
 
 -- who stands at an instruction without a fault makes no panic
 calm-standing : (script : Script) (s : State) (g : ℕ) (i : Instr) → stands_at script s g ≡ Some i → fault script s i ≡ None → panic_at script s g ≡ None
@@ -177,26 +148,6 @@ may-sleep b g d until lawful running step in_hand e =
     let does : Does b.script b.state g (Instr.Sleep d) = subst (Does b.script b.state g) sleeps.is asks.does in
     let is : until ≡ due_at (clock_of b.state g) d = e ∙ ap (λ now. due_at now d) (sym (one_clock b g lawful)) in
     (((d, does, ap Some is ∙ sym (sleeps.ends (clock_of b.state g))), in_hand, tt), not_gone b (Op.Sleep g until) running refl)
-
-instr-stops : (s : State) (g t : ℕ) (i : Instr) → step_of_instr s g i ≡ Step.Needs (TimerOp.Stop t) → i ≡ Instr.Stop t
-instr-stops s g t (Instr.Say n) h = cc
-instr-stops s g t Instr.Now h = cc
-instr-stops s g t (Instr.Sleep zero) h = cc
-instr-stops s g t (Instr.Sleep (suc d)) h = cc
-instr-stops s g t (Instr.Go f) h = cc
-instr-stops s g t (Instr.New o d) h = cc
-instr-stops s g t (Instr.Stop o) h = cc
-instr-stops s g t (Instr.Reset o d) h = cc
-instr-stops s g t (Instr.Recv o) h = cc
-instr-stops s g t Instr.Finish h = cc
-
-pub may-stop : (b : BookView) (g t : ℕ) (was : Bool) → IsLawful b → outcome_of b ≡ None → step_of b.script b.state g ≡ Some (Step.Needs (TimerOp.Stop t))
-    → status_of b.schedule g ≡ Some RunStatus.InHand → was ≡ is_some (due_of b.state t)
-    → MayCommit b (Op.Stop g t was) × (is_gone b (Op.Stop g t was) ≡ false)
-may-stop b g t was lawful running step in_hand e =
-    let asks : Asks b.script b.state g (TimerOp.Stop t) = needs-asks b.script b.state g (TimerOp.Stop t) step in
-    let does : Does b.script b.state g (Instr.Stop t) = subst (Does b.script b.state g) (instr-stops b.state g t asks.instr asks.is) asks.does in
-    (((does, ap Some e), in_hand, tt), not_gone b (Op.Stop g t was) running refl)
 
 -- an instruction that sets t
 abbrev Sets : ℕ → Instr → Type 0

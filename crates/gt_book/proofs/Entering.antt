@@ -202,15 +202,6 @@ lawful-finishes b e outcome entered due =
     (formed-finish b.script s outcome entered.sound.formed) (fits-finish b.script s (scheduled b.schedule e) outcome entered.sound.fits) in
     subst IsLawful (with_entries-finish b e outcome) (lawful-sound (with_entries one (Entry.Finish outcome ∷ [])) finished tt)
 
--- what the change is
-pub enters-goes_on : (b : BookView) (e : Entry) → IsEntered b e → due_outcome b.limits (after b.script b.state e) ≡ None → Enters b e (with_entries b (e ∷ []))
-enters-goes_on b e entered none = record {
-  woken = [];
-  legal = (entered.legal, tt);
-  each_woken = tt;
-  is = ap (λ (o : Option Outcome). with_entries b (e ∷ finish_by o)) (sym none);
-}
-
 pub enters-finishes : (b : BookView) (e : Entry) (outcome : Outcome) → IsEntered b e → due_outcome b.limits (after b.script b.state e) ≡ Some outcome
     → Enters b e (with_entries b (e ∷ Entry.Finish outcome ∷ []))
 enters-finishes b e outcome entered due = record {

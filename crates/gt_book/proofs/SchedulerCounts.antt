@@ -1,5 +1,5 @@
 -- How many items pass a test where one of them is changed or added, and that a scheduler keeps its counts.
-use Rattle.std.proofs.Common.{◌≡◌, ℕ, zero, suc, ◌+◌, ◌-◌, ◌^◌, ◌<◌, ◌≤◌, Bool, true, false, cond, IsTrue, List, [], ◌∷◌, ◌++◌, length, set, Option, Some, None, IsSome, slice_get, count_by, refl, sym, ap, ◌∙◌, arith, length-append}
+use Rattle.std.proofs.Common.{◌≡◌, ℕ, zero, suc, ◌+◌, ◌-◌, ◌^◌, ◌<◌, ◌≤◌, Bool, true, false, cond, IsTrue, List, [], ◌∷◌, ◌++◌, length, set, Option, Some, None, IsSome, slice_get, count_by, refl, sym, ap, ◌∙◌, arith}
 use Rattle.std.proofs.lemmas.List.Sums.{count_by-le-length, sum_by-append}
 use Rattle.gt_model.specs.Tables.{numbered, change, change_numbered}
 use Rattle.gt_model.proofs.Changes.{length-change_numbered}
@@ -22,12 +22,6 @@ as_number-le false = omega arith
 pub count-cons : {X : Type 0} (p : X → Bool) (x : X) (xs : List X) → count_by p (x ∷ xs) ≡ as_number (p x) + count_by p xs
 count-cons p x xs =
     let parts : count_by p (x ∷ xs) ≡ count_by p (x ∷ []) + count_by p xs = sum_by-append (λ y. cond (p y) 1 0) (x ∷ []) xs in
-    let one : cond (p x) 1 0 ≡ as_number (p x) = cond-as_number (p x) in
-    omega arith
-
-pub count-append : {X : Type 0} (p : X → Bool) (xs : List X) (x : X) → count_by p (xs ++ x ∷ []) ≡ count_by p xs + as_number (p x)
-count-append p xs x =
-    let parts : count_by p (xs ++ x ∷ []) ≡ count_by p xs + count_by p (x ∷ []) = sum_by-append (λ y. cond (p y) 1 0) xs (x ∷ []) in
     let one : cond (p x) 1 0 ≡ as_number (p x) = cond-as_number (p x) in
     omega arith
 
@@ -141,21 +135,3 @@ pub record Adds (m n : Scheduler) : Type 0 where
   pub members : n.queues.members ≡ m.queues.members
   pub running : n.running ≡ m.running
   pub parks : n.parks ≡ m.parks
-
-pub kept-adds : (m n : Scheduler) → Adds m n → (most : ℕ) → IsScheduler most m → IsScheduler most n
-kept-adds m n adds most h =
-    let counted : count_by is_in_hand (m.statuses.items ++ RunStatus.Queued ∷ []) ≡ in_hand (schedule_of m) + 0 = count-append is_in_hand m.statuses.items RunStatus.Queued in
-    let as_many : count_by is_in_hand n.statuses.items ≡ count_by is_in_hand (m.statuses.items ++ RunStatus.Queued ∷ []) = ap (count_by is_in_hand) adds.items in
-    let long : length n.statuses.items ≡ length m.statuses.items + 1 = ap length adds.items ∙ length-append m.statuses.items (RunStatus.Queued ∷ []) in
-    let before : m.running ≡ in_hand (schedule_of m) = h.running in
-    let same : n.running ≡ m.running = adds.running in
-    let room : length m.statuses.items + m.statuses.spare ≡ most + 1 = h.room in
-    let spare : n.statuses.spare + 1 ≡ m.statuses.spare = adds.spare in
-    let parks : n.parks ≡ m.parks = adds.parks in
-    let few : m.parks ≤ 2 ^ 64 - 1 = h.parks in
-    record {
-      running = omega arith;
-      room = omega arith;
-      members = adds.members ∙ h.members;
-      parks = omega arith;
-    }

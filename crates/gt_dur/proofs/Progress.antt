@@ -1,10 +1,9 @@
 -- How far the pairs of a text are read.
-use Rattle.std.proofs.Common.{◌≡◌, ◌≤◌, ◌+◌, ◌-◌, ◌*◌, ◌^◌, ℕ, sum_by, Bool, true, eqb, IsTrue, List, [], ◌∷◌, length, Some, None, Ok, Err, min, refl, sym, ap, ◌∙◌, arith}
+use Rattle.std.proofs.Common.{◌≡◌, ◌≤◌, ◌+◌, ◌-◌, ◌*◌, ◌^◌, ℕ, sum_by, Bool, true, eqb, IsTrue, List, [], ◌∷◌, length, Some, None, Ok, min, refl, sym, ap, ◌∙◌, arith}
 use Rattle.std.proofs.lemmas.Bool.{eqb-true}
 use Rattle.std.proofs.lemmas.List.Sums.{sum_by-cons}
-use Rattle.gt_dur.specs.declared.fault.DurFault.{DurFault}
 use Rattle.gt_dur.specs.Pairs.{Pair, pairs_of, unit_of, value_of, amount_of, unmet_from}
-use Rattle.gt_dur.specs.Duration.{begins_with_digit, is_at_digits, unmet_place, nanoseconds_of, total_of}
+use Rattle.gt_dur.specs.Duration.{is_at_digits, unmet_place, nanoseconds_of, total_of}
 use Rattle.gt_dur.proofs.Runs.{pairs_with}
 
 abbrev pub most : ℕ
@@ -18,29 +17,9 @@ pub record IsRead (text rest : List ℕ) (total : ℕ) : Type 0 where
   pub small : total ≤ most
   pub sum : min (total + nanoseconds_of rest) most ≡ min (nanoseconds_of text) most
 
-is_at_digits-begins : (text : List ℕ) → IsTrue (begins_with_digit text) → IsTrue (is_at_digits text)
-is_at_digits-begins [] h = refl
-is_at_digits-begins (b ∷ bs) h = h
-
-pub read_none : (text : List ℕ) → IsTrue (begins_with_digit text) → IsRead text text 0
-read_none text h =
-    let same : length text - length text ≡ 0 = omega arith in
-    let zero_in_front : 0 + nanoseconds_of text ≡ nanoseconds_of text = omega arith in
-    record {
-      starts = is_at_digits-begins text h;
-      within = omega arith;
-      small = omega arith;
-      unmet = ap (λ at. unmet_from at (pairs_of text)) same;
-      sum = ap (λ n. min n most) zero_in_front;
-    }
-
 unmet_from-met : (from k : ℕ) (p : Pair) (ps : List Pair) → unit_of p.unit ≡ Some k
     → unmet_from from (p ∷ ps) ≡ unmet_from (from + length p.digits + length p.unit) ps
 unmet_from-met from k p ps h = simp h
-
-unmet_from-unmet : (from : ℕ) (p : Pair) (ps : List Pair) → unit_of p.unit ≡ None
-    → unmet_from from (p ∷ ps) ≡ Some (from + length p.digits)
-unmet_from-unmet from p ps h = simp h
 
 amount_of-met : (k : ℕ) (p : Pair) → unit_of p.unit ≡ Some k → amount_of p ≡ value_of p.digits * k
 amount_of-met k p h = simp h
@@ -73,22 +52,6 @@ read_more text rest digits unit next total k n read first lengths starts met is 
       sum = min-sum total n (value_of digits * k) (nanoseconds_of next) most (sym is)
           ∙ sym (ap (λ s. min (total + s) most) sums) ∙ read.sum;
     }
-
--- a pair without a unit
-pub read_unmet : (text rest digits unit next : List ℕ) (total at : ℕ) → IsRead text rest total
-    → pairs_of rest ≡ pairs_with digits unit next
-    → length digits + length unit + length next ≡ length rest
-    → unit_of unit ≡ None
-    → at ≡ length text - length unit - length next
-    → Err (DurFault.Unit at) ≡ total_of (unmet_place text) (nanoseconds_of text)
-read_unmet text rest digits unit next total at read first lengths unmet is =
-    let p : Pair = record { digits = digits; unit = unit } in
-    let within : length rest ≤ length text = read.within in
-    let place : length text - length rest + length digits ≡ at = omega arith in
-    let found : unmet_place text ≡ Some at =
-    sym read.unmet ∙ ap (unmet_from (length text - length rest)) first
-    ∙ unmet_from-unmet (length text - length rest) p (pairs_of next) unmet ∙ ap Some place in
-    sym (ap (λ u. total_of u (nanoseconds_of text)) found)
 
 empty-from_test : (xs : List ℕ) (b : Bool) → b ≡ eqb (length xs) 0 → b ≡ true → xs ≡ []
 empty-from_test [] b is tested = refl

@@ -1,5 +1,5 @@
 -- The first pair of a text.
-use Rattle.std.proofs.Common.{◌≡◌, ◌<◌, ◌+◌, ℕ, suc, Bool, true, false, not, cond, IsTrue, List, [], ◌∷◌, length, take, drop, refl, sym, ap, ◌∙◌, arith, eqb}
+use Rattle.std.proofs.Common.{◌≡◌, ◌+◌, ℕ, suc, Bool, true, false, not, cond, IsTrue, List, [], ◌∷◌, take, drop, refl, sym, ap, ◌∙◌, arith}
 use Rattle.std.specs.List.{All, prefix_len}
 use Rattle.std.proofs.lemmas.List.Elements.{All-cons}
 use Rattle.gt_model.specs.Good.{is_digit}
@@ -83,10 +83,6 @@ pub pairs_of-front : (text : List ℕ) → IsTrue (begins_with_digit text)
 pairs_of-front [] h = cc
 pairs_of-front (b ∷ bs) h = pairs_of-digits b bs h ∙ sym (simp h)
 
-pub length-front : (text : List ℕ) → IsTrue (begins_with_digit text) → 0 < length (front is_digit text)
-length-front [] h = cc
-length-front (b ∷ bs) h = rw h (omega arith)
-
 -- behind a unit stands a digit, or nothing
 pub is_at_digits-behind : (text : List ℕ) → IsTrue (is_at_digits (behind is_other text))
 is_at_digits-behind [] = refl
@@ -105,7 +101,3 @@ All-front (b ∷ bs) = next (is_digit b) refl (All-front bs)
         → All (λ c. IsTrue (is_digit c)) (cond t (b ∷ front is_digit bs) [])
     next true k more = All-cons (λ c. IsTrue (is_digit c)) b (front is_digit bs) k more
     next false k more = λ i d i_in. absurd (omega arith)
-
-pub begins-some : (text : List ℕ) → IsTrue (is_at_digits text) → eqb (length text) 0 ≡ false → IsTrue (begins_with_digit text)
-begins-some [] h some = cc
-begins-some (b ∷ bs) h some = h

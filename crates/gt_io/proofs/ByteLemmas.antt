@@ -1,28 +1,8 @@
 -- What follows from bytes that were taken or appended.
-use Rattle.std.proofs.Common.{◌≡◌, ℕ, ◌+◌, ◌≤◌, List, [], ◌++◌, length, take, drop, Option, Some, None, refl, sym, ◌∙◌, ap, subst, append_assoc}
-use Rattle.std.proofs.lemmas.List.{append-nil, take-append-drop, drop-drop, take_at, length-take-le}
+use Rattle.std.proofs.Common.{◌≡◌, ℕ, ◌+◌, ◌≤◌, List, ◌++◌, length, take, drop, Option, Some, None, sym, ◌∙◌, ap, subst, append_assoc}
+use Rattle.std.proofs.lemmas.List.{take-append-drop, drop-drop, take_at, length-take-le}
 use Rattle.std.proofs.Math.Seq.{take-add}
-use Rattle.gt_io.specs.Bytes.{Taken, Appended}
-
--- nothing was taken where what is left stays
-pub Taken-none : (a : Option (List ℕ)) → Taken a a []
-Taken-none None = tt
-Taken-none (Some bytes) = refl
-
--- two pieces that were taken one after the other are one piece
-pub Taken-trans : (a b c : Option (List ℕ)) (x y : List ℕ) → Taken a b x → Taken b c y → Taken a c (x ++ y)
-Taken-trans None None None x y first next = tt
-Taken-trans None None (Some bytes) x y first next = next
-Taken-trans None (Some bytes) c x y first next = absurd first
-Taken-trans (Some bytes) None c x y first next = absurd first
-Taken-trans (Some bytes) (Some left) None x y first next = next
-Taken-trans (Some bytes) (Some left) (Some rest) x y first next =
-    first ∙ ap (λ l. x ++ l) next ∙ sym (append_assoc x y rest)
-
--- nothing was appended where what was written stays
-pub Appended-none : (a : Option (List ℕ)) → Appended a a []
-Appended-none None = tt
-Appended-none (Some written) = sym (append-nil written)
+use Rattle.gt_io.specs.Bytes.{Appended}
 
 -- two pieces that were appended one after the other are one piece
 pub Appended-trans : (a b c : Option (List ℕ)) (x y : List ℕ) → Appended a b x → Appended b c y → Appended a c (x ++ y)

@@ -65,16 +65,16 @@ now-told script limits h g good legal =
 -- ---- an entry with those before it
 
 -- an entry of a legal history, in the state in which it comes
-record Comes (script : Script) (limits : Limits) (front : List Entry) (e : Entry) : Type 0 where
-  before : AllLegal script limits (first_state script) front
-  legal : Legal script limits (state_after script (first_state script) front) e
+pub record Comes (script : Script) (limits : Limits) (front : List Entry) (e : Entry) : Type 0 where
+  pub before : AllLegal script limits (first_state script) front
+  pub legal : Legal script limits (state_after script (first_state script) front) e
 
 parts : (script : Script) (limits : Limits) (s : State) (front : List Entry) (e : Entry) (rest : List Entry) → AllLegal script limits s (front ++ e ∷ rest)
     → AllLegal script limits s front × Legal script limits (state_after script s front) e
 parts script limits s [] e rest all = (tt, all.0)
 parts script limits s (x ∷ front) e rest all = let later = parts script limits (after script s x) front e rest all.1 in ((all.0, later.0), later.1)
 
-comes : (script : Script) (limits : Limits) (h : List Entry) (outcome : Outcome) (front : List Entry) (e : Entry) (rest : List Entry)
+pub comes : (script : Script) (limits : Limits) (h : List Entry) (outcome : Outcome) (front : List Entry) (e : Entry) (rest : List Entry)
     → History script limits h outcome → h ≡ front ++ e ∷ rest → Comes script limits front e
 comes script limits h outcome front e rest history is =
     let both = parts script limits (first_state script) front e rest (subst (AllLegal script limits (first_state script)) is history.legal) in

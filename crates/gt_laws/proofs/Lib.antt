@@ -4,3 +4,4 @@ pub mod Sleeps
 pub mod Calls
 pub mod Starts
 pub mod Laws
+pub mod Ends

@@ -5,6 +5,7 @@ use Rattle.gt_model.specs.declared.script.Script.{Script}
 use Rattle.gt_model.specs.declared.script.Instr.{Instr}
 use Rattle.gt_model.specs.declared.script.What.{What}
 use Rattle.gt_model.specs.declared.entry.Entry.{Entry}
+use Rattle.gt_model.specs.declared.entry.Outcome.{Outcome}
 
 -- func main / say 1 / say 2 / end
 abbrev pub two_calls : Script
@@ -49,6 +50,13 @@ cut_short = Entry.Sleep 1 (Some 4) ∷ Entry.Clock 0 4 ∷ Entry.Wake 1 ∷ []
 -- who is started has a number that is taken
 abbrev pub number_twice : List Entry
 number_twice = Entry.Go 1 1 0 ∷ Entry.Go 1 2 0 ∷ Entry.End 1 ∷ []
+
+-- a deadlock while a sleep goes on; a call after the end of main's function
+abbrev pub given_up : List Entry
+given_up = Entry.Sleep 1 (Some 9) ∷ Entry.Finish Outcome.Deadlock ∷ []
+
+abbrev pub after_the_end : List Entry
+after_the_end = Entry.Say 1 1 ∷ Entry.End 1 ∷ Entry.Say 1 2 ∷ []
 
 -- a sleep that ends too early
 abbrev pub early : List Entry

@@ -1,3 +1,4 @@
 pub mod Told
 pub mod Laws
+pub mod Ends
 pub mod Broken

@@ -7,6 +7,7 @@ use Rattle.gt_model.specs.declared.script.Script.{Script}
 use Rattle.gt_model.specs.declared.script.Instr.{Instr}
 use Rattle.gt_model.specs.declared.script.Place.{Place}
 use Rattle.gt_model.specs.declared.entry.Entry.{Entry}
+use Rattle.gt_model.specs.declared.state.Ending.{Ending}
 use Rattle.gt_model.specs.Places.{first_place, place_after}
 use Rattle.gt_model.specs.State.{instr_at, func_of}
 
@@ -50,6 +51,32 @@ until_from g told (e ∷ h) = until_from g (until_by g e told) h
 
 abbrev pub until_told : ℕ → List Entry → Option ℕ
 until_told g h = until_from g None h
+
+-- how a run ends: with main's function, with a panic, or with a finish that gives its outcome
+abbrev pub ending_by : Entry → Ending → Ending
+ending_by (Entry.End g) told = if g == 1 then Ending.MainEnded else told
+ending_by (Entry.Panic p reason) told = Ending.Panicked
+ending_by (Entry.Finish outcome) told = Ending.Finished outcome
+ending_by _ told = told
+
+abbrev pub ending_from : Ending → List Entry → Ending
+ending_from told [] = told
+ending_from told (e ∷ h) = ending_from (ending_by e told) h
+
+abbrev pub ending_told : List Entry → Ending
+ending_told h = ending_from Ending.Running h
+
+-- how many entries count against the limit: all but a finish
+abbrev pub entries_by : Entry → ℕ → ℕ
+entries_by (Entry.Finish outcome) n = n
+entries_by _ n = n + 1
+
+abbrev pub entries_from : ℕ → List Entry → ℕ
+entries_from n [] = n
+entries_from n (e ∷ h) = entries_from (entries_by e n) h
+
+abbrev pub entries_told : List Entry → ℕ
+entries_told h = entries_from 0 h
 
 -- how many goroutines there are: main's, and one more at each start
 abbrev pub started_by : Entry → ℕ → ℕ

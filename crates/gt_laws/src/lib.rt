@@ -1,17 +1,20 @@
 //! What each complete history keeps, read from its entries alone, and where a program is idle: each function's contract is a law.
 #![tactic(auto)]
 
-ghost use Rattle.std.specs.Prelude.{List};
+ghost use Rattle.std.specs.Prelude.{ℕ, List};
 ghost use Rattle.gt_model.specs.declared.script.Script.{Script};
 ghost use Rattle.gt_model.specs.declared.entry.Entry.{Entry};
 ghost use Rattle.gt_model.specs.declared.entry.Limits.{Limits};
 ghost use Rattle.gt_model.specs.declared.entry.Outcome.{Outcome};
 ghost use Rattle.gt_model.specs.Good.{IsGood};
-ghost use Rattle.gt_model.specs.History.{History};
+ghost use Rattle.gt_model.specs.After.{first_state};
+ghost use Rattle.gt_model.specs.History.{AllJump, History};
 ghost use Rattle.gt_model.specs.State.{State};
 ghost use Rattle.gt_model.specs.Quiet.{IsQuiet};
 ghost use Rattle.gt_model.specs.Finish.{IsIdle};
+ghost use Rattle.gt_model.specs.Still.{IsStill};
 ghost use Rattle.gt_laws.specs.Laws.{AtEach, InOrder, InTime, IsFresh};
+ghost use Rattle.gt_laws.specs.Ends.{EndsRightly, EndsWhereStuck};
 ghost use Rattle.gt_laws.specs.Broken as broken;
 
 /// Each goroutine makes its calls once and in order, and each call gives the number, the end of the sleep or the due time that it should.
@@ -30,6 +33,25 @@ pub fn nothing_comes_early()
 pub fn no_value_is_stale()
     ensures { (script : Script) (limits : Limits) (h : List Entry) (outcome : Outcome)
         → IsGood script → History script limits h outcome → AtEach IsFresh h }
+{}
+
+/// A run ends for its cause: with an exit after the end of main's function, with a panic after a misuse, at its limit, or with a deadlock where
+/// nothing can go on. Nothing comes after.
+pub fn a_run_ends_for_its_cause()
+    ensures { (script : Script) (limits : Limits) (h : List Entry) (outcome : Outcome)
+        → IsGood script → History script limits h outcome → AtEach (EndsRightly script limits) h }
+{}
+
+/// Where nothing can go on, a run whose clock moves by idle jumps alone ends with a deadlock.
+pub fn a_stuck_run_ends()
+    ensures { (script : Script) (limits : Limits) (slip : ℕ) (h : List Entry) (outcome : Outcome)
+        → History script limits h outcome → AllJump script slip (first_state script) h → AtEach (EndsWhereStuck script limits) h }
+{}
+
+/// A program is idle exactly where nobody is ready and no AfterFunc timer has come to its time.
+pub fn a_program_is_idle_where_it_stands_still()
+    ensures idle { (script : Script) (s : State) → IsStill script s → IsIdle script s }
+    ensures still { (script : Script) (s : State) → IsGood script → IsIdle script s → IsStill script s }
 {}
 
 /// The law of quiet: where nobody could go on and no counted time has come, nothing may come next but a move of the clock.
@@ -56,4 +78,10 @@ pub fn an_early_wake_breaks_the_law()
 /// A receive of the value of a setting that a reset ended is no history.
 pub fn a_stale_value_breaks_the_law()
     ensures { ¬ AtEach IsFresh broken.stale }
+{}
+
+/// A deadlock while somebody sleeps is no end of a history, and nothing comes after main's function has ended.
+pub fn a_wrong_end_breaks_the_law()
+    ensures given_up { (limits : Limits) → ¬ AtEach (EndsRightly broken.one_sleep limits) broken.given_up }
+    ensures after_the_end { (limits : Limits) → ¬ AtEach (EndsRightly broken.two_calls limits) broken.after_the_end }
 {}

@@ -24,7 +24,7 @@ use Rattle.gt_model.specs.Good.{IsGood, IsGoodCode, IsGoodInstr, NamesRightly, S
 use Rattle.gt_model.specs.After.{after, first_state, moved_on, in_mode, asleep, begun, set_due, set_again, timer_world}
 use Rattle.gt_model.specs.Legal.{May, Receives, operation, due_at, sleep_end}
 use Rattle.gt_model.specs.Finish.{Legal}
-use Rattle.gt_model.specs.History.{AllLegal, Reached, state_after}
+use Rattle.gt_model.specs.History.{AllLegal, state_after}
 use Rattle.gt_model.specs.Formed.{IsFormed, IsPlaced, IsPlacedIn}
 use Rattle.gt_model.proofs.GoodCode.{HasItem, has_item, all_at}
 use Rattle.gt_model.proofs.Lookups.{Standing, standing}
@@ -370,9 +370,6 @@ formed-from script limits s (e ∷ h) good formed legal =
 pub formed-history : (script : Script) (limits : Limits) (h : List Entry) → IsGood script → AllLegal script limits (first_state script) h → IsFormed script (state_after script (first_state script) h)
 formed-history script limits h good legal = formed-from script limits (first_state script) h good (formed-first script good) legal
 
-pub formed-Reached : (script : Script) (limits : Limits) (slip : ℕ) (h : List Entry) (s : State) → IsGood script → Reached script limits slip h s → IsFormed script s
-formed-Reached script limits slip h s good reached = subst (IsFormed script) reached.state (formed-history script limits h good reached.legal)
-
 -- ---- the program's clock never falls
 
 set-clock : (clocks : List ℕ) (to : ℕ) → slice_index clocks 0 ≤ to → slice_index clocks 0 ≤ slice_index (set clocks 0 to) 0
@@ -385,7 +382,3 @@ clock-after script s (Entry.Clock zero to) may =
     set-clock s.clocks to (omega arith)
 clock-after script s (Entry.Clock (suc world) to) may = absurd may
 clock-after script s _ may = omega arith
-
-pub clock-Legal : (script : Script) (limits : Limits) (s : State) (e : Entry) → Legal script limits s e → clock s 0 ≤ clock (after script s e) 0
-clock-Legal script limits s (Entry.Finish outcome) legal = omega arith
-clock-Legal script limits s e legal = clock-after script s e legal.1

@@ -3,6 +3,7 @@ pub mod Histories
 pub mod GoodCode
 pub mod Lookups
 pub mod Quiet
+pub mod Still
 pub mod Formed
 pub mod Named
 pub mod Changes

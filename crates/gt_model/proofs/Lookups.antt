@@ -1,5 +1,5 @@
 -- What holds of each item of a list holds of one; a goroutine where it stands, and one that sleeps.
-use Rattle.std.proofs.Common.{◌≡◌, ℕ, zero, suc, List, [], ◌∷◌, refl, ap, slice_get, None, Some, option_map, Bool, true, false, not, eqb-true, ◌||◌, IsSomeAnd}
+use Rattle.std.proofs.Common.{◌≡◌, ℕ, zero, suc, List, [], ◌∷◌, refl, ap, slice_get, None, Some, option_map, Bool, true, false, eqb-true, ◌||◌, IsSomeAnd}
 use Rattle.std.specs.List.{list_any, list_all}
 use Rattle.std.proofs.lemmas.Bool.{and_parts}
 use Rattle.gt_model.specs.declared.script.Script.{Script}
@@ -9,10 +9,6 @@ use Rattle.gt_model.specs.declared.state.Mode.{Mode}
 use Rattle.gt_model.specs.Tables.{numbered}
 use Rattle.gt_model.specs.State.{State, goroutine_at, stands, stands_at, instr_at, until_of, sleeps_until}
 use Rattle.gt_model.specs.Counted.{receives}
-
-pub not_both : (a : Bool) → not a ≡ true → a ≡ true → ⊥
-not_both true h k = cc
-not_both false h k = cc
 
 pub all-item : {X : Type 0} (p : X → Bool) (xs : List X) (i : ℕ) (x : X) → slice_get xs i ≡ Some x → list_all p xs ≡ true → p x ≡ true
 all-item p [] i x e h = cc

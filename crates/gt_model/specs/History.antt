@@ -32,9 +32,3 @@ ClockJumps script slip s _ = Unit {0}
 abbrev pub AllJump : Script → ℕ → State → List Entry → Type 0
 AllJump script slip s [] = Unit {0}
 AllJump script slip s (e ∷ h) = ClockJumps script slip s e × AllJump script slip (after script s e) h
-
--- a legal history so far, whose clock moves by idle jumps with this slip, leads to this state
-pub record Reached (script : Script) (limits : Limits) (slip : ℕ) (h : List Entry) (s : State) : Type 0 where
-  pub legal : AllLegal script limits (first_state script) h
-  pub jumps : AllJump script slip (first_state script) h
-  pub state : state_after script (first_state script) h ≡ s

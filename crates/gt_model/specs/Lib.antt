@@ -12,4 +12,5 @@ pub mod History
 pub mod Verdict
 pub mod Named
 pub mod Quiet
+pub mod Still
 pub mod Formed

@@ -627,11 +627,6 @@ starting : (names : Names) (q : List ℕ) (o : Option Declared) → names q ≡ 
 starting names q None e h = cc
 starting names q (Some d) e h = record { declared = d; is = refl; starts = (ref names q d e, h, refl) }
 
--- one line
-inside-false : (inside : Bool) → not inside ≡ true → inside ≡ false
-inside-false true h = cc
-inside-false false h = refl
-
 abbrev said : Names → Keyword → List ℕ → List ℕ → Statement
 said names k first second = statement_of names (command k first second)
 

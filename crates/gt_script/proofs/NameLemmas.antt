@@ -1,16 +1,11 @@
 -- How names are collected.
-use Rattle.std.proofs.Common.{◌≡◌, ℕ, Bool, true, false, cond, List, ◌∷◌, Option, Some, None, refl, sym, ap, ◌∙◌}
+use Rattle.std.proofs.Common.{◌≡◌, ℕ, Bool, true, false, cond, List, Option, Some, None, refl, sym, ap, ◌∙◌}
 use Rattle.std.specs.Option.{is_some}
 use Rattle.std.specs.Str.{bytes_eq}
 use Rattle.std.proofs.lemmas.Slice.Eq.{bytes_eq-Decides}
 use Rattle.gt_script.specs.declared.names.Declared.{Declared}
-use Rattle.gt_script.specs.Words.{NumberedLine, next}
-use Rattle.gt_script.specs.Names.{Names, Naming, naming_of, functions_with, Declaration, declaration, declarations_from, find}
+use Rattle.gt_script.specs.Names.{Names}
 use Rattle.gt_script.specs.Known.{or_else}
-
-pub or_else-None : (o : Option Declared) → or_else o None ≡ o
-or_else-None None = refl
-or_else-None (Some x) = refl
 
 -- the first declaration goes into the table
 put-by : (o : Option Declared) (x : Declared) (a b : Bool) → (a ≡ true → b ≡ true) → (b ≡ true → a ≡ true) → (b ≡ true → o ≡ None) → cond a (Some x) o ≡ or_else o (cond b (Some x) None)
@@ -38,26 +33,3 @@ kept-by (Some y) x b h = refl
 
 pub kept : (f : Names) (name : List ℕ) (x : Declared) → is_some (f name) ≡ true → (q : List ℕ) → f q ≡ or_else (f q) (cond (bytes_eq q name) (Some x) None)
 kept f name x there q = kept-by (f q) x (bytes_eq q name) (λ e. ap (λ n. is_some (f n)) ((bytes_eq-Decides q name).0 e) ∙ there)
-
-or_else-cond : (o t : Option Declared) (b : Bool) (x : Declared) → or_else (or_else o (cond b (Some x) None)) t ≡ or_else o (cond b (Some x) t)
-or_else-cond None t true x = refl
-or_else-cond None t false x = refl
-or_else-cond (Some y) t b x = refl
-
-abbrev declared-by : ℕ → ℕ → List NumberedLine → Option Naming → List Declaration
-declared-by names functions lines o = elim o [
-  | None ↦ declarations_from names functions lines
-  | Some n ↦ declaration n names functions ∷ declarations_from (next names) (functions_with n.kind functions) lines
-]
-
--- a line that declares a name
-pub names-declared : (f g : Names) (place func : ℕ) (line : NumberedLine) (rest : List NumberedLine) (n : Naming) → naming_of line.words ≡ Some n → ((q : List ℕ) → g q ≡ or_else (f q) (cond (bytes_eq q n.name) (Some (declaration n place func).declared) None)) → (q : List ℕ) → or_else (g q) (find (declarations_from (next place) (functions_with n.kind func) rest) q) ≡ or_else (f q) (find (declarations_from place func (line ∷ rest)) q)
-names-declared f g place func line rest n h e q =
-    let more : List Declaration = declarations_from (next place) (functions_with n.kind func) rest in
-    ap (λ o. or_else o (find more q)) (e q)
-    ∙ or_else-cond (f q) (find more q) (bytes_eq q n.name) (declaration n place func).declared
-    ∙ ap (λ o. or_else (f q) (find (declared-by place func rest o) q)) (sym h)
-
--- a line that declares none
-pub names-passed : (place func : ℕ) (line : NumberedLine) (rest : List NumberedLine) → naming_of line.words ≡ None → declarations_from place func rest ≡ declarations_from place func (line ∷ rest)
-names-passed place func line rest h = ap (declared-by place func rest) (sym h)

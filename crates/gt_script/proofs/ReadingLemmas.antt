@@ -1,5 +1,5 @@
 -- How lines are read one by one.
-use Rattle.std.proofs.Common.{◌≡◌, ℕ, ◌+◌, Bool, true, false, not, cond, ◌&&◌, ◌||◌, List, [], ◌∷◌, ◌++◌, length, Option, Some, None, IfSome, IsSome, Result, Ok, Err, OnOk, IfOk, IfErr, refl, sym, ap, ◌∙◌, append_assoc, append-nil, codes}
+use Rattle.std.proofs.Common.{◌≡◌, ℕ, ◌+◌, Bool, true, false, not, cond, ◌&&◌, ◌||◌, List, [], ◌∷◌, ◌++◌, length, Option, Some, None, IfSome, IsSome, Result, Ok, Err, OnOk, IfOk, IfErr, refl, sym, ap, ◌∙◌, append_assoc, codes}
 use Rattle.std.specs.Option.{option_map, option_and_then, option_to_list, is_some}
 use Rattle.gt_model.specs.declared.script.Decl.{Decl}
 use Rattle.gt_model.specs.declared.script.Func.{Func}
@@ -20,7 +20,7 @@ use Rattle.gt_script.specs.Keywords.{closes}
 use Rattle.gt_script.specs.Names.{Names, names_of}
 use Rattle.gt_script.specs.Statements.{Command, command_of, statement_of, instr_of, step_of, step_with, step_at, decl_as, decl_with, decl_at, decls_of, func_place, is_head, script_of, script_with, code_by, code_of, func_by, funcs_of}
 use Rattle.gt_script.specs.Faults.{Test, test, first_cause, causes, stands, names_rightly, declares_twice, inside_after, counts_rightly, closes_nothing, brings_too_many, progress_after, progress_with, cause_with, cause_at, lacks_main, fault_or, fault_from, fault_in_lines, head_cause, no_progress, is_end}
-use Rattle.gt_script.specs.Reading.{line_at, lines_at, Built, built_after, script_left, Goes}
+use Rattle.gt_script.specs.Reading.{line_at, lines_at, Built, built_after, Goes}
 
 -- how many bytes are left behind a line, and one for the line
 abbrev pub bytes_left : Option Line → ℕ
@@ -229,14 +229,6 @@ outside-by names (Some c) p is_last lacks last h = false-right is_last _ last (i
 pub outside : (names : Names) (p : Progress) (line : NumberedLine) (is_last : Bool) → is_last ≡ true → cause_at names is_last p line ≡ None → (progress_after p line).inside ≡ false
 outside names p line is_last last h =
     inside-is p (command_of line.words) ∙ outside-by names (command_of line.words) p is_last (lacks_main names is_last) last h
-
-pub none-is_end : (o : Option Line) → not (is_some o) ≡ is_end (lines_at o)
-none-is_end None = refl
-none-is_end (Some line) = refl
-
--- no line is left
-pub script-left_nothing : (names : Names) (b : Built) → script_left names false b [] ≡ script b.decls b.funcs (func_place (names (codes "main")))
-script-left_nothing names b = ap (λ ds. script ds (b.funcs ++ []) (func_place (names (codes "main")))) (append-nil b.decls) ∙ ap (λ fs. script b.decls fs (func_place (names (codes "main")))) (append-nil b.funcs)
 
 -- the words of the head
 pub is_head-words : (name kind version : List ℕ) (words rest : Words) → words ≡ kind ∷ rest → only_word rest ≡ Some version → is_head (name ∷ words) ≡ (bytes_eq name (codes "gotime") && bytes_eq kind (codes "script") && bytes_eq version (codes "1"))

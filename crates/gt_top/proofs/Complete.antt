@@ -11,6 +11,7 @@ use Rattle.gt_model.specs.History.{History, AllLegal, AllJump, state_after}
 use Rattle.gt_model.specs.Named.{AllNamed}
 use Rattle.gt_model.proofs.Named.{AllNamed-legal}
 use Rattle.gt_laws.proofs.Laws.{each-in_order, each-in_time, each-fresh}
+use Rattle.gt_laws.proofs.Ends.{each-ends, each-ends_where_stuck}
 use Rattle.gt_book.specs.View.{BookView, IsLawful, outcome_of}
 use Rattle.gt_machine.specs.Outcomes.{outcome_in}
 use Rattle.gt_top.specs.Answer.{IsRun}
@@ -37,6 +38,8 @@ complete-IsRun script limits b outcome run lawful is =
       in_order = each-in_order script limits b.history outcome good complete;
       in_time = each-in_time script limits b.history outcome good complete;
       fresh = each-fresh script limits b.history outcome good complete;
+      ends = each-ends script limits b.history outcome good complete;
+      ends_where_stuck = each-ends_where_stuck script limits 0 b.history outcome complete jumps;
     }
 
 pub complete-AllNamed : (script : Script) (limits : Limits) (b : BookView) → IsComplete script limits b → IsLawful b → AllNamed script b.history

@@ -118,11 +118,6 @@ commits-enters old op new did here h =
     let entered : Commits old op false new did = subst (λ (gone : Bool). Commits old op gone new did) here h in
     entered.0
 
-pub commits-passes : (old : BookView) (op : Op) (new : BookView) (did : Commit) → IsLawful old → HandsFree old → is_gone old op ≡ false
-    → Commits old op (is_gone old op) new did → Passes old new
-commits-passes old op new did lawful free here h =
-    passes-enters old (entry_of old.state op) new lawful (commits-enters old op new did here h) (op-no_clock old.script old.state op) free
-
 pub commits-moves : (old : BookView) (op : Op) (new : BookView) (did : Commit) → IsLawful old → HandsFree old → is_gone old op ≡ false
     → Commits old op (is_gone old op) new did → Moves old new
 commits-moves old op new did lawful free here h =

@@ -9,7 +9,7 @@ use Rattle.gt_book.specs.Steps.{Takes}
 use Rattle.gt_book.specs.View.{BookView, IsLawful, with_schedule, queued_count}
 use Rattle.gt_book.proofs.SchedulerQueues.{first-queued}
 use Rattle.gt_book.proofs.Passing.{taken-in_hand, taken-hands, taken-queued_count, queued_count-few}
-use Rattle.gt_top.specs.Run.{HandsFree, IsAlone, Passes, Moves, run_left}
+use Rattle.gt_top.specs.Run.{HandsFree, IsAlone, Passes, run_left}
 
 taken-queued : (old new : BookView) (g : ℕ) → IsLawful old → Takes old (Pick.Run g) new → status_of old.schedule g ≡ Some RunStatus.Queued
 taken-queued old new g lawful takes = first-queued old.schedule g lawful.fits.queued takes.0
@@ -36,12 +36,6 @@ longer-less old new limits longer few statuses =
     subst (λ (n : ℕ). (n + 1 - length new.history) * (n + 3) + queued_count new.schedule < run_left old) (sym same)
     (rounds (old.limits.entries + 1 - length old.history) (old.limits.entries + 1 - length new.history) (old.limits.entries + 3) (queued_count old.schedule) (queued_count new.schedule)
     (omega arith) (omega arith))
-
-pub less-moved : (old mid new : BookView) (running : ℕ) → Takes old (Pick.Nothing running) mid → Moves mid new → length new.history ≤ new.limits.entries + 1
-    → length new.schedule.statuses ≤ new.limits.entries + 1 → run_left new < run_left old
-less-moved old mid new running takes moves few statuses =
-    let here : Moves old new = subst (λ (v : BookView). Moves v new) takes.2 moves in
-    longer-less old new here.passes.limits here.longer few statuses
 
 pub less-run : (old mid new : BookView) (g : ℕ) → IsLawful old → Takes old (Pick.Run g) mid → Passes mid new → length new.history ≤ new.limits.entries + 1
     → length new.schedule.statuses ≤ new.limits.entries + 1 → run_left new < run_left old

@@ -1,0 +1,213 @@
+-- A program is idle exactly where it stands still: who is ready has an entry that may come next, and who is not has none.
+use Rattle.std.proofs.Common.{◌≡◌, ℕ, zero, suc, ◌≤◌, refl, sym, ap, subst, ◌∙◌, Option, None, Some, Bool, true, false, ◌||◌, is_some, IsTrue, IsSomeAnd}
+use Rattle.std.specs.Option.{option_map}
+use Rattle.std.proofs.lemmas.Bool.{leb-true, le-leb}
+use Rattle.gt_model.specs.declared.script.Script.{Script}
+use Rattle.gt_model.specs.declared.script.Instr.{Instr}
+use Rattle.gt_model.specs.declared.entry.Entry.{Entry}
+use Rattle.gt_model.specs.declared.entry.Party.{Party}
+use Rattle.gt_model.specs.declared.entry.Reason.{Reason}
+use Rattle.gt_model.specs.declared.state.Goroutine.{Goroutine}
+use Rattle.gt_model.specs.declared.state.Timer.{Timer}
+use Rattle.gt_model.specs.declared.state.Mode.{Mode}
+use Rattle.gt_model.specs.State.{State, goroutine_at, stands, stands_at, instr_at, until_of, sleeps_until, clock, clock_of, world_of, next_number, timer_at, due_of, is_func}
+use Rattle.gt_model.specs.Panics.{fault, fault_at, panic_of, panic_at}
+use Rattle.gt_model.specs.Ready.{is_due, is_ready, is_ready_in, is_ready_instr}
+use Rattle.gt_model.specs.Good.{IsGood}
+use Rattle.gt_model.specs.Legal.{Does, Receives, operation, operation_at, due_at, sleep_end, was_set}
+use Rattle.gt_model.specs.Finish.{IsIdle}
+use Rattle.gt_model.specs.Still.{IsStill}
+use Rattle.gt_model.proofs.Lookups.{Standing, standing, Asleep, sleeper}
+use Rattle.gt_model.proofs.Named.{names-Does}
+
+-- ---- a still program is idle
+
+pub or_right : (a b : Bool) → b ≡ true → (a || b) ≡ true
+or_right true b h = refl
+or_right false b h = h
+
+pub or_left : (a b : Bool) → a ≡ true → (a || b) ≡ true
+or_left true b h = refl
+or_left false b h = cc
+
+true_false : (b : Bool) → b ≡ true → b ≡ false → ⊥
+true_false true h k = cc
+true_false false h k = cc
+
+-- a goroutine that stands at an instruction which can go on, or is misused, is ready
+ready_there : (script : Script) (s : State) (g : ℕ) (i : Instr) (st : Standing script s g i)
+    → (is_some (fault script s i) || is_ready_instr script s st.who.world i) ≡ true → is_ready script s st.who ≡ true
+ready_there script s g i st h =
+    subst (λ (m : Mode). is_ready_in script s st.who m ≡ true) (sym st.at)
+    (subst (λ (o : Option Instr). (elim o [ None ↦ false | Some j ↦ is_some (fault script s j) || is_ready_instr script s st.who.world j ]) ≡ true) (sym st.on) h)
+
+not_ready : (script : Script) (s : State) (g : ℕ) (i : Instr) (st : Standing script s g i) → IsStill script s
+    → (is_some (fault script s i) || is_ready_instr script s st.who.world i) ≡ true → ⊥
+not_ready script s g i st still h = true_false (is_ready script s st.who) (ready_there script s g i st h) (still.nobody_ready g st.who st.there)
+
+-- an instruction that always goes on
+goes_not : (script : Script) (s : State) (g : ℕ) (i : Instr) → IsStill script s → Does script s g i → ((w : ℕ) → is_ready_instr script s w i ≡ true) → ⊥
+goes_not script s g i still does goes =
+    let st : Standing script s g i = standing script s g i does.stands in
+    not_ready script s g i st still (or_right (is_some (fault script s i)) (is_ready_instr script s st.who.world i) (goes st.who.world))
+
+world_there : (s : State) (g : ℕ) (r : Goroutine) → goroutine_at s g ≡ Some r → world_of s g ≡ r.world
+world_there s g r e = ap (λ (o : Option Goroutine). elim o as (λ o. ℕ) [ None ↦ 0 | Some r ↦ r.world ]) e
+
+until_there : (s : State) (g : ℕ) (r : Goroutine) → goroutine_at s g ≡ Some r → sleeps_until s g ≡ until_of r.mode
+until_there s g r e =
+    ap (λ (o : Option Goroutine). elim (option_map (λ (r : Goroutine). r.mode) o) as (λ o. Option ℕ) [ None ↦ None | Some mode ↦ until_of mode ]) e
+
+wakes_not : (script : Script) (s : State) (g : ℕ) → IsStill script s → IsSomeAnd (sleeps_until s g) (λ until. until ≤ clock_of s g) → ⊥
+wakes_not script s g still h =
+    let a : Asleep s g = sleeper s g (λ until. until ≤ clock_of s g) h in
+    let until : sleeps_until s g ≡ Some a.until = until_there s g a.who a.there ∙ ap until_of a.sleeps in
+    let come : a.until ≤ clock_of s g = subst (λ (o : Option ℕ). IsSomeAnd o (λ until. until ≤ clock_of s g)) until h in
+    let here : a.until ≤ clock s a.who.world = subst (λ w. a.until ≤ clock s w) (world_there s g a.who a.there) come in
+    let ready : is_ready script s a.who ≡ true =
+    subst (λ (m : Mode). is_ready_in script s a.who m ≡ true) (sym a.sleeps) (le-leb a.until (clock s a.who.world) here) in
+    true_false (is_ready script s a.who) ready (still.nobody_ready g a.who a.there)
+
+-- what stands at a receive from t
+recv_of : (i : Instr) (n t : ℕ) → operation i n ≡ Some t → i ≡ Instr.Recv t
+recv_of (Instr.Recv o) zero t e = let is : o ≡ t = cc in ap Instr.Recv is
+recv_of (Instr.Recv o) (suc n) t e = cc
+recv_of _ n t e = cc
+
+stands_recv : (script : Script) (s : State) (p : Party) (t : ℕ) → operation_at script s p ≡ Some t → stands_at script s p.g ≡ Some (Instr.Recv t)
+stands_recv script s p t e =
+    elim (stands_at script s p.g) as (λ o. (elim o [ None ↦ None | Some i ↦ operation i p.case_no ]) ≡ Some t → o ≡ Some (Instr.Recv t)) [
+      | None ↦ λ q. cc
+      | Some i ↦ λ q. ap Some (recv_of i p.case_no t q)
+    ] e
+
+receives_not : (script : Script) (s : State) (p : Party) (t due : ℕ) → IsStill script s → Receives script s p t → due_of s t ≡ Some due → due ≤ clock_of s p.g → ⊥
+receives_not script s p t due still receives is h =
+    let st : Standing script s p.g (Instr.Recv t) = standing script s p.g (Instr.Recv t) (stands_recv script s p t receives.stands) in
+    let here : due ≤ clock s st.who.world = subst (λ w. due ≤ clock s w) (world_there s p.g st.who st.there) h in
+    let come : is_due (due_of s t) (clock s st.who.world) ≡ true =
+    subst (λ (o : Option ℕ). is_due o (clock s st.who.world) ≡ true) (sym is) (le-leb due (clock s st.who.world) here) in
+    not_ready script s p.g (Instr.Recv t) st still (or_right (is_some (fault script s (Instr.Recv t))) _ come)
+
+fires_not : (script : Script) (s : State) (t : ℕ) → IsStill script s → IsTrue (is_func script t)
+    → IsSomeAnd (timer_at s t) (λ (r : Timer). IsTrue (is_due r.due (clock s r.world))) → ⊥
+fires_not script s t still func h =
+    elim (timer_at s t) as (λ o. timer_at s t ≡ o → IsSomeAnd o (λ (r : Timer). IsTrue (is_due r.due (clock s r.world))) → ⊥) [
+      | None ↦ λ e k. k
+      | Some r ↦ λ e k. true_false (is_due r.due (clock s r.world)) k (still.no_func_due t r e func)
+    ] refl h
+
+faulty : (o : Option Reason) (n : ℕ) (reason : Reason) → (elim o as (λ x. Option (ℕ × Reason)) [ None ↦ None | Some why ↦ Some (0, why) ]) ≡ Some (n, reason) → is_some o ≡ true
+faulty None n reason e = cc
+faulty (Some why) n reason e = refl
+
+panic_stands : (script : Script) (s : State) (g : ℕ)
+    → (elim (stands_at script s g) as (λ x. Option (ℕ × Reason)) [ None ↦ None | Some i ↦ fault_at script s i ]) ≡ panic_at script s g
+panic_stands script s g =
+    elim (goroutine_at s g) as (λ o. (elim (elim o as (λ x. Option Instr) [ None ↦ None | Some r ↦ stands script r ]) as (λ x. Option (ℕ × Reason)) [ None ↦ None | Some i ↦ fault_at script s i ])
+    ≡ (elim o as (λ x. Option (ℕ × Reason)) [ None ↦ None | Some r ↦ panic_of script s r ])) [
+      | None ↦ refl
+      | Some r ↦ refl
+    ]
+
+panics_not : (script : Script) (s : State) (g n : ℕ) (reason : Reason) → IsStill script s → panic_at script s g ≡ Some (n, reason) → ⊥
+panics_not script s g n reason still h =
+    elim (stands_at script s g)
+    as (λ o. stands_at script s g ≡ o → (elim o as (λ x. Option (ℕ × Reason)) [ None ↦ None | Some i ↦ fault_at script s i ]) ≡ Some (n, reason) → ⊥) [
+      | None ↦ λ e k. cc
+      | Some i ↦ λ e k. not_ready script s g i (standing script s g i e) still (or_left (is_some (fault script s i)) _ (faulty (fault script s i) n reason k))
+    ] refl (panic_stands script s g ∙ h)
+
+pub still-IsIdle : (script : Script) (s : State) → IsStill script s → IsIdle script s
+still-IsIdle script s still (Entry.Say g n) h = absurd (goes_not script s g (Instr.Say n) still h (λ w. refl))
+still-IsIdle script s still (Entry.Now g at) h = absurd (goes_not script s g Instr.Now still h.0 (λ w. refl))
+still-IsIdle script s still (Entry.Go g child f) h = absurd (goes_not script s g (Instr.Go f) still h.0 (λ w. refl))
+still-IsIdle script s still (Entry.End g) h = absurd (goes_not script s g Instr.Finish still h (λ w. refl))
+still-IsIdle script s still (Entry.Sleep g until) h = absurd (goes_not script s g (Instr.Sleep h.0) still h.1 (λ w. refl))
+still-IsIdle script s still (Entry.Wake g) h = absurd (wakes_not script s g still h)
+still-IsIdle script s still (Entry.New g t due) h = absurd (goes_not script s g (Instr.New t h.0) still h.1 (λ w. refl))
+still-IsIdle script s still (Entry.Stop g t was) h = absurd (goes_not script s g (Instr.Stop t) still h.0 (λ w. refl))
+still-IsIdle script s still (Entry.Reset g t was due) h = absurd (goes_not script s g (Instr.Reset t h.0) still h.1 (λ w. refl))
+still-IsIdle script s still (Entry.TRecv p t due next) h = absurd (receives_not script s p t due still h.0 h.2 h.3)
+still-IsIdle script s still (Entry.FireFunc t child) h = absurd (fires_not script s t still h.0 h.1)
+still-IsIdle script s still (Entry.Clock zero to) h = tt
+still-IsIdle script s still (Entry.Clock (suc world) to) h = h
+still-IsIdle script s still (Entry.Panic p reason) h = absurd (panics_not script s p.g p.case_no reason still h)
+still-IsIdle script s still (Entry.Finish outcome) h = h
+
+-- ---- an idle program is still
+
+-- the entry of who stands at an instruction without misuse
+does_not : (script : Script) (s : State) (g w : ℕ) (i : Instr) → IsGood script → IsIdle script s → clock_of s g ≡ clock s w → Does script s g i
+    → is_ready_instr script s w i ≡ true → ⊥
+does_not script s g w (Instr.Say n) good idle now does ready = idle (Entry.Say g n) does
+does_not script s g w Instr.Now good idle now does ready = idle (Entry.Now g (clock_of s g)) (does, refl)
+does_not script s g w (Instr.Sleep d) good idle now does ready = idle (Entry.Sleep g (sleep_end (clock_of s g) d)) (d, does, refl)
+does_not script s g w (Instr.Go f) good idle now does ready = idle (Entry.Go g (next_number s) f) (does, refl)
+does_not script s g w (Instr.New t d) good idle now does ready = idle (Entry.New g t (due_at (clock_of s g) d)) (d, does, refl)
+does_not script s g w (Instr.Stop t) good idle now does ready = idle (Entry.Stop g t (was_set script s t)) (does, refl)
+does_not script s g w (Instr.Reset t d) good idle now does ready = idle (Entry.Reset g t (was_set script s t) (due_at (clock_of s g) d)) (d, does, refl, refl)
+does_not script s g w (Instr.Recv t) good idle now does ready =
+    elim (due_of s t) as (λ o. due_of s t ≡ o → is_due o (clock s w) ≡ true → ⊥) [
+      | None ↦ λ is come. cc
+      | Some due ↦ λ is come.
+          let p : Party = record { g = g; case_no = 0 } in
+          let there : operation_at script s p ≡ Some t = ap (λ (o : Option Instr). elim o as (λ o. Option ℕ) [ None ↦ None | Some i ↦ operation i 0 ]) does.stands in
+          let receives : Receives script s p t = record { stands = there; calm = does.calm } in
+          let here : due ≤ clock_of s g = subst (λ now. due ≤ now) (sym now) (leb-true due (clock s w) come) in
+          idle (Entry.TRecv p t due None) (receives, names-Does script s g (Instr.Recv t) good does, is, here, refl)
+    ] refl ready
+does_not script s g w Instr.Finish good idle now does ready = idle (Entry.End g) does
+
+at_not : (script : Script) (s : State) (g : ℕ) (r : Goroutine) (i : Instr) → IsGood script → IsIdle script s → goroutine_at s g ≡ Some r → stands_at script s g ≡ Some i
+    → (is_some (fault script s i) || is_ready_instr script s r.world i) ≡ true → ⊥
+at_not script s g r i good idle e on ready =
+    let panics : panic_at script s g ≡ fault_at script s i =
+    sym (panic_stands script s g) ∙ ap (λ (o : Option Instr). elim o as (λ x. Option (ℕ × Reason)) [ None ↦ None | Some i ↦ fault_at script s i ]) on in
+    let now : clock_of s g ≡ clock s r.world = ap (clock s) (world_there s g r e) in
+    elim (fault script s i)
+    as (λ o. fault script s i ≡ o → (is_some o || is_ready_instr script s r.world i) ≡ true → ⊥) [
+      | None ↦ λ is h.
+          let calm : panic_at script s g ≡ None = panics ∙ ap (λ (o : Option Reason). elim o as (λ x. Option (ℕ × Reason)) [ None ↦ None | Some why ↦ Some (0, why) ]) is in
+          does_not script s g r.world i good idle now (record { stands = on; calm = calm }) h
+      | Some reason ↦ λ is h.
+          let misuse : panic_at script s g ≡ Some (0, reason) =
+          panics ∙ ap (λ (o : Option Reason). elim o as (λ x. Option (ℕ × Reason)) [ None ↦ None | Some why ↦ Some (0, why) ]) is in
+          idle (Entry.Panic (record { g = g; case_no = 0 }) reason) misuse
+    ] refl ready
+
+pub stands_there : (script : Script) (s : State) (g : ℕ) (r : Goroutine) (i : Instr) → goroutine_at s g ≡ Some r → r.mode ≡ Mode.At → instr_at script r.place ≡ Some i
+    → stands_at script s g ≡ Some i
+stands_there script s g r i e at on =
+    ap (λ (o : Option Goroutine). elim o as (λ o. Option Instr) [ None ↦ None | Some r ↦ stands script r ]) e
+    ∙ (ap (λ (m : Mode). elim m as (λ m. Option Instr) [ Mode.At ↦ instr_at script r.place | _ ↦ None ]) at ∙ on)
+
+not_true : (b : Bool) → (b ≡ true → ⊥) → b ≡ false
+not_true true h = absurd (h refl)
+not_true false h = refl
+
+ready_not : (script : Script) (s : State) (g : ℕ) (r : Goroutine) → IsGood script → IsIdle script s → goroutine_at s g ≡ Some r → (mode : Mode) → r.mode ≡ mode
+    → is_ready_in script s r mode ≡ true → ⊥
+ready_not script s g r good idle e Mode.At at ready =
+    elim (instr_at script r.place) as (λ o. instr_at script r.place ≡ o
+    → (elim o [ None ↦ false | Some i ↦ is_some (fault script s i) || is_ready_instr script s r.world i ]) ≡ true → ⊥) [
+      | None ↦ λ on h. cc
+      | Some i ↦ λ on h. at_not script s g r i good idle e (stands_there script s g r i e at on) h
+    ] refl ready
+ready_not script s g r good idle e (Mode.Sleeping until) at ready =
+    let now : clock_of s g ≡ clock s r.world = ap (clock s) (world_there s g r e) in
+    let come : until ≤ clock_of s g = subst (λ now. until ≤ now) (sym now) (leb-true until (clock s r.world) ready) in
+    let sleeps : sleeps_until s g ≡ Some until = until_there s g r e ∙ ap until_of at in
+    idle (Entry.Wake g) (subst (λ (o : Option ℕ). IsSomeAnd o (λ until. until ≤ clock_of s g)) (sym sleeps) come)
+ready_not script s g r good idle e Mode.Ended at ready = cc
+
+func_not : (script : Script) (s : State) (t : ℕ) (r : Timer) → IsIdle script s → timer_at s t ≡ Some r → IsTrue (is_func script t) → is_due r.due (clock s r.world) ≡ true → ⊥
+func_not script s t r idle e func come =
+    idle (Entry.FireFunc t (next_number s))
+    (func, subst (λ (o : Option Timer). IsSomeAnd o (λ (r : Timer). IsTrue (is_due r.due (clock s r.world)))) (sym e) come, refl)
+
+pub idle-IsStill : (script : Script) (s : State) → IsGood script → IsIdle script s → IsStill script s
+idle-IsStill script s good idle = record {
+  nobody_ready = λ g r e. not_true (is_ready script s r) (ready_not script s g r good idle e r.mode refl);
+  no_func_due = λ t r e func. not_true (is_due r.due (clock s r.world)) (func_not script s t r idle e func);
+}

@@ -1,0 +1,13 @@
+-- Where a program stands still.
+use Rattle.std.specs.Prelude.{ℕ, ◌≡◌, false, IsTrue}
+use Rattle.std.specs.declared.option.Option.TheVariants.{Some}
+use Rattle.gt_model.specs.declared.script.Script.{Script}
+use Rattle.gt_model.specs.declared.state.Goroutine.{Goroutine}
+use Rattle.gt_model.specs.declared.state.Timer.{Timer}
+use Rattle.gt_model.specs.State.{State, goroutine_at, timer_at, clock, is_func}
+use Rattle.gt_model.specs.Ready.{is_due, is_ready}
+
+-- nobody is ready, and no AfterFunc timer has come to its time
+pub record IsStill (script : Script) (s : State) : Type 0 where
+  pub nobody_ready : (g : ℕ) (r : Goroutine) → goroutine_at s g ≡ Some r → is_ready script s r ≡ false
+  pub no_func_due : (t : ℕ) (r : Timer) → timer_at s t ≡ Some r → IsTrue (is_func script t) → is_due r.due (clock s r.world) ≡ false
