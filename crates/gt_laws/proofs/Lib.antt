@@ -5,3 +5,4 @@ pub mod Calls
 pub mod Starts
 pub mod Laws
 pub mod Ends
+pub mod Made

@@ -55,7 +55,7 @@ set-anew (Some r) due period h = refl
 
 -- ---- a goroutine without misuse stands at a timer that was made
 
-none-when : (b : Bool) (reason : Reason) → when b reason ≡ None → b ≡ false
+pub none-when : (b : Bool) (reason : Reason) → when b reason ≡ None → b ≡ false
 none-when true reason h = cc
 none-when false reason h = refl
 
@@ -67,7 +67,7 @@ no-fault : (o : Option Reason) → (elim o as (λ o. Option (ℕ × Reason)) [ N
 no-fault None h = refl
 no-fault (Some reason) h = cc
 
-calm-fault : (script : Script) (s : State) (g : ℕ) (i : Instr) → Does script s g i → fault script s i ≡ None
+pub calm-fault : (script : Script) (s : State) (g : ℕ) (i : Instr) → Does script s g i → fault script s i ≡ None
 calm-fault script s g i does =
     elim (goroutine_at s g) as (λ o. (elim o as (λ o. Option Instr) [ None ↦ None | Some r ↦ stands script r ]) ≡ Some i
     → (elim o as (λ o. Option (ℕ × Reason)) [ None ↦ None | Some r ↦ panic_of script s r ]) ≡ None → fault script s i ≡ None) [
@@ -75,7 +75,7 @@ calm-fault script s g i does =
       | Some r ↦ λ p q. no-fault (fault script s i) (subst (λ o. (elim o as (λ o. Option (ℕ × Reason)) [ None ↦ None | Some i ↦ fault_at script s i ]) ≡ None) p q)
     ] does.stands does.calm
 
-made : (script : Script) (s : State) (g t d : ℕ) → Does script s g (Instr.Reset t d) → is_some (timer_at s t) ≡ true
+pub made : (script : Script) (s : State) (g t d : ℕ) → Does script s g (Instr.Reset t d) → is_some (timer_at s t) ≡ true
 made script s g t d does = some-not_none (timer_at s t) (none-when (is_none (timer_at s t)) Reason.Unmade (calm-fault script s g (Instr.Reset t d) does))
 
 -- ---- one entry, and a history

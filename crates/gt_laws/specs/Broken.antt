@@ -6,6 +6,7 @@ use Rattle.gt_model.specs.declared.script.Instr.{Instr}
 use Rattle.gt_model.specs.declared.script.What.{What}
 use Rattle.gt_model.specs.declared.entry.Entry.{Entry}
 use Rattle.gt_model.specs.declared.entry.Outcome.{Outcome}
+use Rattle.gt_model.specs.declared.entry.Reason.{Reason}
 
 -- func main / say 1 / say 2 / end
 abbrev pub two_calls : Script
@@ -50,6 +51,13 @@ cut_short = Entry.Sleep 1 (Some 4) ∷ Entry.Clock 0 4 ∷ Entry.Wake 1 ∷ []
 -- who is started has a number that is taken
 abbrev pub number_twice : List Entry
 number_twice = Entry.Go 1 1 0 ∷ Entry.Go 1 2 0 ∷ Entry.End 1 ∷ []
+
+-- a timer that is made twice; a panic at a call that is no misuse
+abbrev pub made_twice : List Entry
+made_twice = Entry.New 1 0 5 ∷ Entry.New 1 0 5 ∷ []
+
+abbrev pub for_nothing : List Entry
+for_nothing = Entry.Panic (record { g = 1; case_no = 0 }) Reason.Unmade ∷ []
 
 -- a deadlock while a sleep goes on; a call after the end of main's function
 abbrev pub given_up : List Entry

@@ -1,11 +1,12 @@
 -- What each complete history keeps, read from its entries alone.
-use Rattle.std.specs.Prelude.{ℕ, ◌+◌, ◌≡◌, ◌<◌, ◌≤◌, List, ◌∷◌, ◌++◌, is_some, IsSomeAnd}
+use Rattle.std.specs.Prelude.{ℕ, ◌+◌, ◌≡◌, ◌<◌, ◌≤◌, List, ◌∷◌, ◌++◌, true, false, is_some, IsSomeAnd}
 use Rattle.std.specs.declared.option.Option.TheVariants.{None, Some}
 use Rattle.gt_model.specs.declared.script.Script.{Script}
 use Rattle.gt_model.specs.declared.script.Instr.{Instr}
 use Rattle.gt_model.specs.declared.entry.Entry.{Entry}
+use Rattle.gt_model.specs.declared.entry.Reason.{Reason}
 use Rattle.gt_model.specs.Legal.{due_at, sleep_end}
-use Rattle.gt_laws.specs.Told.{clock_told, due_told, instr_told, started_told, until_told}
+use Rattle.gt_laws.specs.Told.{clock_told, due_told, instr_told, made_told, started_told, until_told}
 
 -- it holds of each entry of a history, with the entries before it
 abbrev pub AtEach : (List Entry → Entry → Type 0) → List Entry → Type 0
@@ -45,3 +46,21 @@ InOrder script front (Entry.Reset g t was due) = (d : ℕ) × (instr_told script
 InOrder script front (Entry.TRecv p t due next) = instr_told script p.g front ≡ Some (Instr.Recv t)
 InOrder script front (Entry.FireFunc t child) = child ≡ started_told front + 1
 InOrder script front _ = Unit {0}
+
+-- the instruction may not be made here: a timer that is made twice, or another operation on one that is not made
+abbrev pub IsMisuse : List Entry → Instr → Reason → Type 0
+IsMisuse front (Instr.New t d) Reason.Twice = made_told t front ≡ true
+IsMisuse front (Instr.Stop t) Reason.Unmade = made_told t front ≡ false
+IsMisuse front (Instr.Reset t d) Reason.Unmade = made_told t front ≡ false
+IsMisuse front (Instr.Recv t) Reason.Unmade = made_told t front ≡ false
+IsMisuse front _ _ = ⊥
+
+-- A panic is the misuse of an instruction, and each misuse panics: a timer is made once, and used where it was made
+abbrev pub UsesRightly : Script → List Entry → Entry → Type 0
+UsesRightly script front (Entry.New g t due) = made_told t front ≡ false
+UsesRightly script front (Entry.Stop g t was) = made_told t front ≡ true
+UsesRightly script front (Entry.Reset g t was due) = made_told t front ≡ true
+UsesRightly script front (Entry.TRecv p t due next) = made_told t front ≡ true
+UsesRightly script front (Entry.FireFunc t child) = made_told t front ≡ true
+UsesRightly script front (Entry.Panic p reason) = (i : Instr) × (instr_told script p.g front ≡ Some i) × IsMisuse front i reason
+UsesRightly script front _ = Unit {0}

@@ -1,5 +1,5 @@
 -- What the entries of a history tell so far, read by themselves: the machine's state is not named here.
-use Rattle.std.specs.Prelude.{ℕ, zero, ◌+◌, ◌==◌, if◌then◌else◌, Bool, List, [], ◌∷◌}
+use Rattle.std.specs.Prelude.{ℕ, zero, ◌+◌, ◌==◌, if◌then◌else◌, Bool, true, false, List, [], ◌∷◌}
 use Rattle.std.specs.declared.option.Option.{Option}
 use Rattle.std.specs.declared.option.Option.TheVariants.{None, Some}
 use Rattle.std.specs.Option.{option_map, option_and_then}
@@ -38,6 +38,18 @@ due_from t told (e ∷ h) = due_from t (due_by t e told) h
 
 abbrev pub due_told : ℕ → List Entry → Option ℕ
 due_told t h = due_from t None h
+
+-- whether timer t was made
+abbrev pub made_by : ℕ → Entry → Bool → Bool
+made_by t (Entry.New g u due) told = if u == t then true else told
+made_by t _ told = told
+
+abbrev pub made_from : ℕ → Bool → List Entry → Bool
+made_from t told [] = told
+made_from t told (e ∷ h) = made_from t (made_by t e told) h
+
+abbrev pub made_told : ℕ → List Entry → Bool
+made_told t h = made_from t false h
 
 -- the time until which goroutine g sleeps
 abbrev pub until_by : ℕ → Entry → Option ℕ → Option ℕ

@@ -13,7 +13,7 @@ ghost use Rattle.gt_model.specs.State.{State};
 ghost use Rattle.gt_model.specs.Quiet.{IsQuiet};
 ghost use Rattle.gt_model.specs.Finish.{IsIdle};
 ghost use Rattle.gt_model.specs.Still.{IsStill};
-ghost use Rattle.gt_laws.specs.Laws.{AtEach, InOrder, InTime, IsFresh};
+ghost use Rattle.gt_laws.specs.Laws.{AtEach, InOrder, InTime, IsFresh, UsesRightly};
 ghost use Rattle.gt_laws.specs.Ends.{EndsRightly, EndsWhereStuck};
 ghost use Rattle.gt_laws.specs.Broken as broken;
 
@@ -33,6 +33,12 @@ pub fn nothing_comes_early()
 pub fn no_value_is_stale()
     ensures { (script : Script) (limits : Limits) (h : List Entry) (outcome : Outcome)
         → IsGood script → History script limits h outcome → AtEach IsFresh h }
+{}
+
+/// A timer is made once and used where it was made; each misuse panics, and each panic is a misuse.
+pub fn a_panic_is_a_misuse()
+    ensures { (script : Script) (limits : Limits) (h : List Entry) (outcome : Outcome)
+        → IsGood script → History script limits h outcome → AtEach (UsesRightly script) h }
 {}
 
 /// A run ends for its cause: with an exit after the end of main's function, with a panic after a misuse, at its limit, or with a deadlock where
@@ -78,6 +84,12 @@ pub fn an_early_wake_breaks_the_law()
 /// A receive of the value of a setting that a reset ended is no history.
 pub fn a_stale_value_breaks_the_law()
     ensures { ¬ AtEach IsFresh broken.stale }
+{}
+
+/// A timer that is made twice, and a panic without a misuse, are no histories.
+pub fn a_misuse_without_a_panic_breaks_the_law()
+    ensures made_twice { ¬ AtEach (UsesRightly broken.two_calls) broken.made_twice }
+    ensures for_nothing { ¬ AtEach (UsesRightly broken.two_calls) broken.for_nothing }
 {}
 
 /// A deadlock while somebody sleeps is no end of a history, and nothing comes after main's function has ended.

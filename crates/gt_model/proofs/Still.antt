@@ -101,7 +101,7 @@ faulty : (o : Option Reason) (n : ℕ) (reason : Reason) → (elim o as (λ x. O
 faulty None n reason e = cc
 faulty (Some why) n reason e = refl
 
-panic_stands : (script : Script) (s : State) (g : ℕ)
+pub panic_stands : (script : Script) (s : State) (g : ℕ)
     → (elim (stands_at script s g) as (λ x. Option (ℕ × Reason)) [ None ↦ None | Some i ↦ fault_at script s i ]) ≡ panic_at script s g
 panic_stands script s g =
     elim (goroutine_at s g) as (λ o. (elim (elim o as (λ x. Option Instr) [ None ↦ None | Some r ↦ stands script r ]) as (λ x. Option (ℕ × Reason)) [ None ↦ None | Some i ↦ fault_at script s i ])

@@ -10,7 +10,7 @@ use Rattle.gt_model.specs.declared.entry.Limits.{Limits}
 use Rattle.gt_model.specs.declared.entry.Outcome.{Outcome}
 use Rattle.gt_model.specs.After.{first_state}
 use Rattle.gt_model.specs.History.{History, AllJump}
-use Rattle.gt_laws.specs.Laws.{AtEach, InOrder, InTime, IsFresh}
+use Rattle.gt_laws.specs.Laws.{AtEach, InOrder, InTime, IsFresh, UsesRightly}
 use Rattle.gt_laws.specs.Ends.{EndsRightly, EndsWhereStuck}
 use Rattle.gt_script.specs.Grammar.{IsFirstFault, Spells}
 use Rattle.gt_script.specs.declared.fault.ScriptFault.{ScriptFault}
@@ -23,14 +23,15 @@ use Rattle.gt_top.specs.Words.{order_of}
 use Rattle.gt_top.specs.Call.{SourceState, SinkState, Call, ReadsAll, IsUntouched}
 
 -- A complete history of the script: each entry legal in the one-thread machine, and its clock moved only where nothing else could happen. So
--- each goroutine's calls come once and in order, nothing comes before its time, no value of a setting that was ended is received, the outcome
--- has its cause, and a deadlock is reported exactly where nothing can go on
+-- each goroutine's calls come once and in order, nothing comes before its time, no value of a setting that was ended is received, each panic is a
+-- misuse, the outcome has its cause, and a deadlock is reported exactly where nothing can go on
 pub record IsRun (script : Script) (limits : Limits) (h : List Entry) (outcome : Outcome) : Type 0 where
   pub complete : History script limits h outcome
   pub jumps : AllJump script 0 (first_state script) h
   pub in_order : AtEach (InOrder script) h
   pub in_time : AtEach InTime h
   pub fresh : AtEach IsFresh h
+  pub uses : AtEach (UsesRightly script) h
   pub ends : AtEach (EndsRightly script limits) h
   pub ends_where_stuck : AtEach (EndsWhereStuck script limits) h
 
