@@ -6,3 +6,4 @@ pub mod Starts
 pub mod Laws
 pub mod Ends
 pub mod Made
+pub mod Stuck

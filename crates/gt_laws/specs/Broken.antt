@@ -1,5 +1,5 @@
 -- Lists of entries that break a law.
-use Rattle.std.specs.Prelude.{List, [], ◌∷◌, true, codes}
+use Rattle.std.specs.Prelude.{List, [], ◌∷◌, ◌++◌, true, codes}
 use Rattle.std.specs.declared.option.Option.TheVariants.{None, Some}
 use Rattle.gt_model.specs.declared.script.Script.{Script}
 use Rattle.gt_model.specs.declared.script.Instr.{Instr}
@@ -41,6 +41,14 @@ one_start = record {
   main = 0;
 }
 
+-- func main / timer t / new t 5ns / stop t / recv t / end
+abbrev pub one_wait : Script
+one_wait = record {
+  decls = (record { name = codes "main"; what = What.Function }) ∷ (record { name = codes "t"; what = What.Timer }) ∷ [];
+  funcs = (record { decl = 0; code = Instr.New 1 5 ∷ Instr.Stop 1 ∷ Instr.Recv 1 ∷ Instr.Finish ∷ [] }) ∷ [];
+  main = 0;
+}
+
 -- it falls asleep while it sleeps; the sleep is shorter than its call says
 abbrev pub asleep_twice : List Entry
 asleep_twice = Entry.Sleep 1 (Some 9) ∷ Entry.Sleep 1 (Some 9) ∷ []
@@ -65,6 +73,13 @@ given_up = Entry.Sleep 1 (Some 9) ∷ Entry.Finish Outcome.Deadlock ∷ []
 
 abbrev pub after_the_end : List Entry
 after_the_end = Entry.Say 1 1 ∷ Entry.End 1 ∷ Entry.Say 1 2 ∷ []
+
+-- it waits for a timer that was stopped; and time goes on without a deadlock
+abbrev pub waits_in_vain : List Entry
+waits_in_vain = Entry.New 1 1 5 ∷ Entry.Stop 1 1 (Some true) ∷ []
+
+abbrev pub goes_on_in_vain : List Entry
+goes_on_in_vain = waits_in_vain ++ Entry.Clock 0 9 ∷ []
 
 -- a sleep that ends too early
 abbrev pub early : List Entry

@@ -1,7 +1,7 @@
 //! What each complete history keeps, read from its entries alone, and where a program is idle: each function's contract is a law.
 #![tactic(auto)]
 
-ghost use Rattle.std.specs.Prelude.{ℕ, List};
+ghost use Rattle.std.specs.Prelude.{ℕ, ◌<◌, List};
 ghost use Rattle.gt_model.specs.declared.script.Script.{Script};
 ghost use Rattle.gt_model.specs.declared.entry.Entry.{Entry};
 ghost use Rattle.gt_model.specs.declared.entry.Limits.{Limits};
@@ -14,7 +14,7 @@ ghost use Rattle.gt_model.specs.Quiet.{IsQuiet};
 ghost use Rattle.gt_model.specs.Finish.{IsIdle};
 ghost use Rattle.gt_model.specs.Still.{IsStill};
 ghost use Rattle.gt_laws.specs.Laws.{AtEach, InOrder, InTime, IsFresh, UsesRightly};
-ghost use Rattle.gt_laws.specs.Ends.{EndsRightly, EndsWhereStuck};
+ghost use Rattle.gt_laws.specs.Ends.{EndsRightly, EndsWhereStuck, IsStuck};
 ghost use Rattle.gt_laws.specs.Broken as broken;
 
 /// Each goroutine makes its calls once and in order, and each call gives the number, the end of the sleep or the due time that it should.
@@ -92,8 +92,11 @@ pub fn a_misuse_without_a_panic_breaks_the_law()
     ensures for_nothing { ¬ AtEach (UsesRightly broken.two_calls) broken.for_nothing }
 {}
 
-/// A deadlock while somebody sleeps is no end of a history, and nothing comes after main's function has ended.
+/// A deadlock while somebody sleeps is no end of a history, and nothing comes after main's function has ended. Where main waits for a timer that was
+/// stopped nothing can go on, and time does not pass without a deadlock.
 pub fn a_wrong_end_breaks_the_law()
     ensures given_up { (limits : Limits) → ¬ AtEach (EndsRightly broken.one_sleep limits) broken.given_up }
     ensures after_the_end { (limits : Limits) → ¬ AtEach (EndsRightly broken.two_calls limits) broken.after_the_end }
+    ensures stuck { IsStuck broken.one_wait broken.waits_in_vain }
+    ensures in_vain { (limits : Limits) → 2 < limits.entries → ¬ AtEach (EndsWhereStuck broken.one_wait limits) broken.goes_on_in_vain }
 {}
