@@ -131,6 +131,18 @@ receives script s p o e =
       | Some i ↦ λ h. ap Some (is-recv i p.case_no o h)
     ] e
 
+is-plain : (i : Instr) (case_no o : ℕ) → operation i case_no ≡ Some o → case_no ≡ 0
+is-plain (Instr.Recv t) zero o e = refl
+is-plain (Instr.Recv t) (suc k) o e = cc
+is-plain _ case_no o e = cc
+
+receives-plain : (script : Script) (s : State) (p : Party) (o : ℕ) → operation_at script s p ≡ Some o → p.case_no ≡ 0
+receives-plain script s p o e =
+    elim (stands_at script s p.g) as (λ q. (elim q as (λ q. Option ℕ) [ None ↦ None | Some i ↦ operation i p.case_no ]) ≡ Some o → p.case_no ≡ 0) [
+      | None ↦ λ h. cc
+      | Some i ↦ λ h. is-plain i p.case_no o h
+    ] e
+
 -- who stands at an instruction is awake
 awake : (script : Script) (s : State) (g : ℕ) (i : Instr) → stands_at script s g ≡ Some i → sleeps_until s g ≡ None
 awake script s g i e =
@@ -162,8 +174,11 @@ in-order script limits front (Entry.Reset g t was due) good c = (
   c.legal.1.3 ∙ ap (λ now. due_at now c.legal.1.0) (now-told script limits front g good c.before),
 )
 in-order script limits front (Entry.TRecv p t due next) good c =
-    stands-told script limits front p.g (Instr.Recv t) c.before (receives script (state_after script (first_state script) front) p t c.legal.1.0.stands)
-in-order script limits front (Entry.FireFunc t child) good c = c.legal.1.2 ∙ ap (λ n. n + 1) (started-told script front)
+    let s : State = state_after script (first_state script) front in (
+      stands-told script limits front p.g (Instr.Recv t) c.before (receives script s p t c.legal.1.0.stands),
+      receives-plain script s p t c.legal.1.0.stands,
+    )
+in-order script limits front (Entry.FireFunc t child) good c = (c.legal.1.0, c.legal.1.2 ∙ ap (λ n. n + 1) (started-told script front))
 in-order script limits front _ good c = tt
 
 pub each-in_order : (script : Script) (limits : Limits) (h : List Entry) (outcome : Outcome) → IsGood script → History script limits h outcome → AtEach (InOrder script) h

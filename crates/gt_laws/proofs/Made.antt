@@ -25,7 +25,7 @@ use Rattle.gt_model.proofs.Items.{at-set_same, at-set_other, at-change_same, at-
 use Rattle.gt_laws.specs.Told.{made_by, made_from, made_told}
 use Rattle.gt_laws.specs.Laws.{AtEach, IsMisuse, UsesRightly}
 use Rattle.gt_laws.proofs.Numbers.{by-number}
-use Rattle.gt_laws.proofs.Timers.{calm-fault, none-when, made}
+use Rattle.gt_laws.proofs.Timers.{calm-fault, none-when, made, some-not_none}
 use Rattle.gt_laws.proofs.Calls.{stands-told}
 use Rattle.gt_laws.proofs.Laws.{Comes, comes}
 
@@ -94,15 +94,11 @@ not-some : {X : Type 0} (o : Option X) → is_none o ≡ true → is_some o ≡ 
 not-some None h = refl
 not-some (Some x) h = cc
 
-is-some : {X : Type 0} (o : Option X) → is_none o ≡ false → is_some o ≡ true
-is-some None h = cc
-is-some (Some x) h = refl
-
 unmade : (script : Script) (s : State) (g t d : ℕ) → Does script s g (Instr.New t d) → is_some (timer_at s t) ≡ false
 unmade script s g t d does = none-when (is_some (timer_at s t)) Reason.Twice (calm-fault script s g (Instr.New t d) does)
 
 stopped : (script : Script) (s : State) (g t : ℕ) → Does script s g (Instr.Stop t) → is_some (timer_at s t) ≡ true
-stopped script s g t does = is-some (timer_at s t) (none-when (is_none (timer_at s t)) Reason.Unmade (calm-fault script s g (Instr.Stop t) does))
+stopped script s g t does = some-not_none (timer_at s t) (none-when (is_none (timer_at s t)) Reason.Unmade (calm-fault script s g (Instr.Stop t) does))
 
 due-made : (s : State) (t due : ℕ) → due_of s t ≡ Some due → is_some (timer_at s t) ≡ true
 due-made s t due e =
@@ -144,18 +140,25 @@ fault-is : (o : Option Reason) (n : ℕ) (reason : Reason) → (elim o as (λ x.
 fault-is None n reason h = cc
 fault-is (Some why) n reason h = ap (λ (o : Option (ℕ × Reason)). option_map (λ (p : ℕ × Reason). p.1) o) h
 
+fault-plain : (o : Option Reason) (n : ℕ) (reason : Reason) → (elim o as (λ x. Option (ℕ × Reason)) [ None ↦ None | Some why ↦ Some (0, why) ]) ≡ Some (n, reason) → n ≡ 0
+fault-plain None n reason h = cc
+fault-plain (Some why) n reason h =
+    let number : Some 0 ≡ Some n = ap (λ (o : Option (ℕ × Reason)). option_map (λ (p : ℕ × Reason). p.0) o) h in
+    cc
+
 -- the instruction at which a goroutine panics
-record Panics (script : Script) (s : State) (g : ℕ) (reason : Reason) : Type 0 where
+record Panics (script : Script) (s : State) (g n : ℕ) (reason : Reason) : Type 0 where
+  plain : n ≡ 0
   instr : Instr
   stands : stands_at script s g ≡ Some instr
   faulty : fault script s instr ≡ Some reason
 
-panics : (script : Script) (s : State) (g n : ℕ) (reason : Reason) → panic_at script s g ≡ Some (n, reason) → Panics script s g reason
+panics : (script : Script) (s : State) (g n : ℕ) (reason : Reason) → panic_at script s g ≡ Some (n, reason) → Panics script s g n reason
 panics script s g n reason e =
     elim (stands_at script s g)
-    as (λ o. stands_at script s g ≡ o → (elim o as (λ x. Option (ℕ × Reason)) [ None ↦ None | Some i ↦ fault_at script s i ]) ≡ Some (n, reason) → Panics script s g reason) [
+    as (λ o. stands_at script s g ≡ o → (elim o as (λ x. Option (ℕ × Reason)) [ None ↦ None | Some i ↦ fault_at script s i ]) ≡ Some (n, reason) → Panics script s g n reason) [
       | None ↦ λ is h. cc
-      | Some i ↦ λ is h. record { instr = i; stands = is; faulty = fault-is (fault script s i) n reason h }
+      | Some i ↦ λ is h. record { plain = fault-plain (fault script s i) n reason h; instr = i; stands = is; faulty = fault-is (fault script s i) n reason h }
     ] refl (panic_stands script s g ∙ e)
 
 -- ---- the law
@@ -173,10 +176,11 @@ uses script limits front (Entry.FireFunc t child) good c =
     sym (made-told script limits front t good c.before) ∙ some-made (timer_at (state_after script (first_state script) front) t) _ c.legal.1.1
 uses script limits front (Entry.Panic p reason) good c =
     let s : State = state_after script (first_state script) front in
-    let at : Panics script s p.g reason = panics script s p.g p.case_no reason c.legal.1 in (
+    let at : Panics script s p.g p.case_no reason = panics script s p.g p.case_no reason c.legal.1 in (
       at.instr,
       stands-told script limits front p.g at.instr c.before at.stands,
       misuse script s front at.instr reason (λ t. made-told script limits front t good c.before) at.faulty,
+      at.plain,
     )
 uses script limits front _ good c = tt
 

@@ -59,7 +59,7 @@ pub none-when : (b : Bool) (reason : Reason) → when b reason ≡ None → b �
 none-when true reason h = cc
 none-when false reason h = refl
 
-some-not_none : {X : Type 0} (o : Option X) → is_none o ≡ false → is_some o ≡ true
+pub some-not_none : {X : Type 0} (o : Option X) → is_none o ≡ false → is_some o ≡ true
 some-not_none None h = cc
 some-not_none (Some x) h = refl
 
