@@ -3,20 +3,19 @@ use Rattle.std.proofs.Common.{◌≡◌, ◌≢◌, ℕ, zero, suc, ◌+◌, ◌
 use Rattle.gt_model.specs.declared.script.Script.{Script}
 use Rattle.gt_model.specs.declared.script.Instr.{Instr}
 use Rattle.gt_model.specs.declared.entry.Entry.{Entry}
-use Rattle.gt_model.specs.declared.entry.Party.{Party}
 use Rattle.gt_model.specs.declared.state.Timer.{Timer}
 use Rattle.gt_model.specs.declared.state.Mode.{Mode}
 use Rattle.gt_model.specs.Tables.{at, change_numbered}
 use Rattle.gt_model.specs.declared.script.Decl.{Decl}
 use Rattle.gt_model.specs.declared.entry.Outcome.{Outcome}
-use Rattle.gt_model.proofs.Lookups.{Standing, standing, Asleep, sleeper}
+use Rattle.gt_model.proofs.Lookups.{Standing, standing, Asleep, sleeper, AtOperation, at_operation}
 use Rattle.gt_tournament.specs.Keys.{key_of}
 use Rattle.gt_book.specs.View.{first_schedule}
 use Rattle.gt_model.specs.State.{State, stands_at, sleeps_until, timer_at, is_func, clock_of, world_of, func_of}
 use Rattle.gt_model.specs.After.{after, first_state, moved_on, in_mode, begun, asleep, took, set_due, set_again, new_period, timer_world}
 use Rattle.gt_model.specs.Good.{IsGood}
 use Rattle.gt_model.specs.Formed.{IsFormed}
-use Rattle.gt_model.specs.Legal.{May, operation, operation_at}
+use Rattle.gt_model.specs.Legal.{May}
 use Rattle.gt_model.proofs.Named.{names-Does}
 use Rattle.gt_queue.specs.Contents.{waiting_in, without}
 use Rattle.gt_book.specs.declared.due_times.DueTimes.{DueTimes}
@@ -128,14 +127,6 @@ can_follow-reaches most script d m (Entry.Finish outcome) declarations room limi
 
 -- ---- the times after an entry
 
--- who stands at a receive stands at an instruction
-at_operation : (script : Script) (s : State) (p : Party) (t : ℕ) → operation_at script s p ≡ Some t → (i : Instr) × (stands_at script s p.g ≡ Some i)
-at_operation script s p t e =
-    elim (stands_at script s p.g) as (λ o. (elim o [ None ↦ None | Some i ↦ operation i p.case_no ]) ≡ Some t → (i : Instr) × (o ≡ Some i)) [
-      | None ↦ λ q. cc
-      | Some i ↦ λ q. (i, refl)
-    ] e
-
 -- a party leaves the queue of a timer for the run queue
 served-other : (queues : List (List ℕ)) (g t u : ℕ) (xs : List ℕ) → u ≢ t → waiting_in (set (leaves queues (queue_at t) g) run_queue xs) (queue_at u) ≡ waiting_in queues (queue_at u)
 served-other queues g t u xs n =
@@ -198,10 +189,10 @@ times-entered most script s m (Entry.Reset g t was due) d e are may reach times 
       timers = λ u n. timer-same script s (after script s (Entry.Reset g t was due)) m m u (at-change_other s.timers t u (set_again due (new_period script s g t)) n) refl;
     }) reach times goroutines
 times-entered most script s m (Entry.TRecv p t due next) d e are may reach times goroutines =
-    let at : (i : Instr) × (stands_at script s p.g ≡ Some i) = at_operation script s p t may.0.stands in
+    let at : AtOperation script s p t = at_operation script s p t may.0.stands in
     times-timed most script s (after script s (Entry.TRecv p t due next)) m (scheduled m (Entry.TRecv p t due next)) t d e are
     (record {
-      sleeps = λ h. until-stands script s p.g h at.0 (took script p.case_no) at.1 (λ r. refl);
+      sleeps = λ h. until-stands script s p.g h at.instr (took script p.case_no) at.stands (λ r. refl);
       timers = λ u n. timer-same script s (after script s (Entry.TRecv p t due next)) m (scheduled m (Entry.TRecv p t due next)) u (at-change_other s.timers t u (set_due next) n)
           (served-other m.queues p.g t u (waiting_in (leaves m.queues (queue_at t) p.g) run_queue ++ p.g ∷ []) n);
     }) reach times goroutines

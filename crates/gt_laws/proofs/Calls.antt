@@ -16,11 +16,10 @@ use Rattle.gt_model.specs.Legal.{May}
 use Rattle.gt_model.specs.Finish.{Legal}
 use Rattle.gt_model.specs.History.{AllLegal, state_after}
 use Rattle.gt_model.proofs.Changes.{length-change_numbered}
-use Rattle.gt_model.proofs.Lookups.{Standing, standing, Asleep, sleeper}
+use Rattle.gt_model.proofs.Lookups.{Standing, standing, Asleep, sleeper, AtOperation, at_operation}
 use Rattle.gt_laws.specs.Told.{goes_on, place_by, place_from, place_told, instr_told}
 use Rattle.gt_model.proofs.Items.{numbered-change_same, numbered-change_other, numbered-push_same, numbered-push_other}
 use Rattle.gt_laws.proofs.Numbers.{by-number}
-use Rattle.gt_laws.proofs.Sleeps.{Operates, operates}
 
 -- where a goroutine is that has not ended
 abbrev pub place_in_mode : Place → Mode → Option Place
@@ -102,7 +101,7 @@ tells-place script s (Entry.New h t due) g may = moves script s h g (Instr.New t
 tells-place script s (Entry.Stop h t was) g may = moves script s h g (Instr.Stop t) may.0.stands
 tells-place script s (Entry.Reset h t was due) g may = moves script s h g (Instr.Reset t may.0) may.1.stands
 tells-place script s (Entry.TRecv p t due next) g may =
-    let r : Operates script s p.g = operates script s p t may.0.stands in
+    let r : AtOperation script s p t = at_operation script s p t may.0.stands in
     let st : Standing script s p.g r.instr = standing script s p.g r.instr r.stands in
     goes script s.goroutines p.g g (took script p.case_no) st.who st.there (stands-place st.who st.at) refl
 tells-place script s (Entry.FireFunc t child) g may = starts s.goroutines child g (begun script (timer_world s t) (func_of script t)) may.2

@@ -4,7 +4,6 @@ use Rattle.std.proofs.lemmas.Bool.{leb-true}
 use Rattle.gt_model.specs.declared.script.Script.{Script}
 use Rattle.gt_model.specs.declared.script.Instr.{Instr}
 use Rattle.gt_model.specs.declared.entry.Entry.{Entry}
-use Rattle.gt_model.specs.declared.entry.Party.{Party}
 use Rattle.gt_model.specs.declared.entry.Limits.{Limits}
 use Rattle.gt_model.specs.declared.entry.Outcome.{Outcome}
 use Rattle.gt_model.specs.declared.state.Timer.{Timer}
@@ -12,12 +11,12 @@ use Rattle.gt_model.specs.State.{State, stands_at, clock, clock_of, goroutine_at
 use Rattle.gt_model.specs.Ready.{is_due}
 use Rattle.gt_model.specs.Good.{IsGood}
 use Rattle.gt_model.specs.After.{after, first_state}
-use Rattle.gt_model.specs.Legal.{May, operation, operation_at, due_at, sleep_end}
+use Rattle.gt_model.specs.Legal.{May, due_at, sleep_end}
 use Rattle.gt_model.specs.Finish.{Legal}
 use Rattle.gt_model.specs.Formed.{IsFormed}
 use Rattle.gt_model.specs.History.{History, AllLegal, state_after}
 use Rattle.gt_model.proofs.Formed.{formed-first, formed-Legal, formed-history}
-use Rattle.gt_model.proofs.Lookups.{Standing, standing}
+use Rattle.gt_model.proofs.Lookups.{Standing, standing, AtOperation, at_operation, is_plain, stands_recv}
 use Rattle.gt_laws.specs.Told.{clock_by, clock_from, clock_told}
 use Rattle.gt_laws.specs.Laws.{AtEach, InOrder, InTime, IsFresh}
 use Rattle.gt_laws.proofs.Timers.{due-told}
@@ -119,30 +118,6 @@ each-in_time script limits h outcome good history front e rest is = in-time scri
 pub each-fresh : (script : Script) (limits : Limits) (h : List Entry) (outcome : Outcome) → IsGood script → History script limits h outcome → AtEach IsFresh h
 each-fresh script limits h outcome good history front e rest is = fresh script limits front e good (comes script limits h outcome front e rest history is)
 
-is-recv : (i : Instr) (case_no o : ℕ) → operation i case_no ≡ Some o → i ≡ Instr.Recv o
-is-recv (Instr.Recv t) zero o e = cc
-is-recv (Instr.Recv t) (suc k) o e = cc
-is-recv _ case_no o e = cc
-
-receives : (script : Script) (s : State) (p : Party) (o : ℕ) → operation_at script s p ≡ Some o → stands_at script s p.g ≡ Some (Instr.Recv o)
-receives script s p o e =
-    elim (stands_at script s p.g) as (λ q. (elim q as (λ q. Option ℕ) [ None ↦ None | Some i ↦ operation i p.case_no ]) ≡ Some o → q ≡ Some (Instr.Recv o)) [
-      | None ↦ λ h. cc
-      | Some i ↦ λ h. ap Some (is-recv i p.case_no o h)
-    ] e
-
-is-plain : (i : Instr) (case_no o : ℕ) → operation i case_no ≡ Some o → case_no ≡ 0
-is-plain (Instr.Recv t) zero o e = refl
-is-plain (Instr.Recv t) (suc k) o e = cc
-is-plain _ case_no o e = cc
-
-receives-plain : (script : Script) (s : State) (p : Party) (o : ℕ) → operation_at script s p ≡ Some o → p.case_no ≡ 0
-receives-plain script s p o e =
-    elim (stands_at script s p.g) as (λ q. (elim q as (λ q. Option ℕ) [ None ↦ None | Some i ↦ operation i p.case_no ]) ≡ Some o → p.case_no ≡ 0) [
-      | None ↦ λ h. cc
-      | Some i ↦ λ h. is-plain i p.case_no o h
-    ] e
-
 -- who stands at an instruction is awake
 awake : (script : Script) (s : State) (g : ℕ) (i : Instr) → stands_at script s g ≡ Some i → sleeps_until s g ≡ None
 awake script s g i e =
@@ -174,9 +149,10 @@ in-order script limits front (Entry.Reset g t was due) good c = (
   c.legal.1.3 ∙ ap (λ now. due_at now c.legal.1.0) (now-told script limits front g good c.before),
 )
 in-order script limits front (Entry.TRecv p t due next) good c =
-    let s : State = state_after script (first_state script) front in (
-      stands-told script limits front p.g (Instr.Recv t) c.before (receives script s p t c.legal.1.0.stands),
-      receives-plain script s p t c.legal.1.0.stands,
+    let s : State = state_after script (first_state script) front in
+    let at : AtOperation script s p t = at_operation script s p t c.legal.1.0.stands in (
+      stands-told script limits front p.g (Instr.Recv t) c.before (stands_recv script s p t c.legal.1.0.stands),
+      is_plain at.instr p.case_no t at.has,
     )
 in-order script limits front (Entry.FireFunc t child) good c = (c.legal.1.0, c.legal.1.2 ∙ ap (λ n. n + 1) (started-told script front))
 in-order script limits front _ good c = tt

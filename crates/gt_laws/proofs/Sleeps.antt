@@ -5,16 +5,15 @@ use Rattle.gt_model.specs.declared.script.Script.{Script}
 use Rattle.gt_model.specs.declared.script.Instr.{Instr}
 use Rattle.gt_model.specs.declared.entry.Entry.{Entry}
 use Rattle.gt_model.specs.declared.entry.Limits.{Limits}
-use Rattle.gt_model.specs.declared.entry.Party.{Party}
 use Rattle.gt_model.specs.declared.state.Goroutine.{Goroutine}
 use Rattle.gt_model.specs.declared.state.Mode.{Mode}
 use Rattle.gt_model.specs.Tables.{numbered, change_numbered}
 use Rattle.gt_model.specs.State.{State, goroutine_at, stands_at, sleeps_until, until_of, world_of, func_of}
 use Rattle.gt_model.specs.After.{after, first_state, moved_on, asleep, took, in_mode, begun, timer_world}
-use Rattle.gt_model.specs.Legal.{May, operation, operation_at}
+use Rattle.gt_model.specs.Legal.{May}
 use Rattle.gt_model.specs.Finish.{Legal}
 use Rattle.gt_model.specs.History.{AllLegal, state_after}
-use Rattle.gt_model.proofs.Lookups.{Standing, standing, Asleep, sleeper}
+use Rattle.gt_model.proofs.Lookups.{Standing, standing, Asleep, sleeper, AtOperation, at_operation}
 use Rattle.gt_laws.specs.Told.{until_by, until_from, until_told}
 use Rattle.gt_model.proofs.Items.{numbered-change_same, numbered-change_other}
 use Rattle.gt_laws.proofs.Numbers.{by-number}
@@ -63,18 +62,6 @@ moves-on script s h g i e =
     let st : Standing script s h i = standing script s h i e in
     stays s.goroutines h g (moved_on script) st.who st.there st.at refl
 
--- a goroutine that stands at an operation
-pub record Operates (script : Script) (s : State) (g : ℕ) : Type 0 where
-  pub instr : Instr
-  pub stands : stands_at script s g ≡ Some instr
-
-pub operates : (script : Script) (s : State) (p : Party) (o : ℕ) → operation_at script s p ≡ Some o → Operates script s p.g
-operates script s p o e =
-    elim (stands_at script s p.g) as (λ q. stands_at script s p.g ≡ q → (elim q as (λ q. Option ℕ) [ None ↦ None | Some i ↦ operation i p.case_no ]) ≡ Some o → Operates script s p.g) [
-      | None ↦ λ is h. cc
-      | Some i ↦ λ is h. record { instr = i; stands = is }
-    ] refl e
-
 -- ---- one entry, and a history
 
 tells-until : (script : Script) (s : State) (e : Entry) (g : ℕ) → May script s e
@@ -99,7 +86,7 @@ tells-until script s (Entry.New h t due) g may = moves-on script s h g (Instr.Ne
 tells-until script s (Entry.Stop h t was) g may = moves-on script s h g (Instr.Stop t) may.0.stands
 tells-until script s (Entry.Reset h t was due) g may = moves-on script s h g (Instr.Reset t may.0) may.1.stands
 tells-until script s (Entry.TRecv p t due next) g may =
-    let r : Operates script s p.g = operates script s p t may.0.stands in
+    let r : AtOperation script s p t = at_operation script s p t may.0.stands in
     let st : Standing script s p.g r.instr = standing script s p.g r.instr r.stands in
     stays s.goroutines p.g g (took script p.case_no) st.who st.there st.at refl
 tells-until script s (Entry.FireFunc t child) g may = starts s.goroutines g (begun script (timer_world s t) (func_of script t)) refl

@@ -15,10 +15,11 @@ use Rattle.gt_model.specs.declared.state.Timer.{Timer}
 use Rattle.gt_model.specs.Tables.{numbered, change_numbered}
 use Rattle.gt_model.specs.State.{State, code_of, goroutine_at, stands, stands_at, until_of, sleeps_until}
 use Rattle.gt_model.specs.Good.{IsGood, instruction_count}
-use Rattle.gt_model.specs.Legal.{operation, operation_at}
+use Rattle.gt_model.specs.Legal.{operation_at}
 use Rattle.gt_model.specs.Formed.{IsFormed, IsPlacedIn}
 use Rattle.gt_model.proofs.Tables.{change_numbered-set}
 use Rattle.gt_model.proofs.Changes.{length-change_numbered}
+use Rattle.gt_model.proofs.Lookups.{AtOperation, at_operation}
 
 -- the item at the place below a number has that number
 pub numbered_below : {X : Type 0} (xs : List X) (g : ℕ) (x : X) (P : X → Type 0) → IsSomeAnd (numbered xs g) P → slice_get xs (g - 1) ≡ Some x → numbered xs g ≡ Some x
@@ -81,10 +82,8 @@ inside_sleeping script s g P good formed h = inside_there script s g good formed
 
 pub inside_receiving : (script : Script) (s : State) (p : Party) (t : ℕ) → IsGood script → IsFormed script s → operation_at script s p ≡ Some t → IsInside s p.g
 inside_receiving script s p t good formed h =
-    elim (stands_at script s p.g) as (λ o. stands_at script s p.g ≡ o → (elim o [ None ↦ None | Some i ↦ operation i p.case_no ]) ≡ Some t → IsInside s p.g) [
-      | None ↦ λ e k. cc
-      | Some i ↦ λ e k. inside_standing script s p.g i good formed e
-    ] refl h
+    let at : AtOperation script s p t = at_operation script s p t h in
+    inside_standing script s p.g at.instr good formed at.stands
 
 -- ---- the first timers
 

@@ -27,7 +27,7 @@ use Rattle.gt_model.specs.Finish.{Legal}
 use Rattle.gt_model.specs.History.{AllLegal, state_after}
 use Rattle.gt_model.specs.Formed.{IsFormed, IsPlaced, IsPlacedIn}
 use Rattle.gt_model.proofs.GoodCode.{HasItem, has_item, all_at}
-use Rattle.gt_model.proofs.Lookups.{Standing, standing}
+use Rattle.gt_model.proofs.Lookups.{Standing, standing, AtOperation, at_operation}
 use Rattle.gt_model.proofs.Items.{at-is}
 use Rattle.gt_model.proofs.Changes.{AllAt, AllNumbered, all-change, all-set, all_numbered-change, all_numbered-append, length-change, length-change_numbered}
 
@@ -271,10 +271,8 @@ operation-next _ n t e = refl
 
 receives-on : (script : Script) (s : State) (p : Party) (t : ℕ) → Receives script s p t → StandsOn script s p.g
 receives-on script s p t receives =
-    elim (stands_at script s p.g) as (λ o. stands_at script s p.g ≡ o → (elim o [ None ↦ None | Some i ↦ operation i p.case_no ]) ≡ Some t → StandsOn script s p.g) [
-      | None ↦ λ e k. cc
-      | Some i ↦ λ e k. record { instr = i; stands = e; next = operation-next i p.case_no t k }
-    ] refl receives.stands
+    let at : AtOperation script s p t = at_operation script s p t receives.stands in
+    record { instr = at.instr; stands = at.stands; next = operation-next at.instr p.case_no t at.has }
 
 -- ---- the state after an entry
 

@@ -1,5 +1,5 @@
 -- What holds of each item of a list holds of one; a goroutine where it stands, and one that sleeps.
-use Rattle.std.proofs.Common.{◌≡◌, ℕ, zero, suc, List, [], ◌∷◌, refl, ap, slice_get, None, Some, option_map, Bool, true, false, eqb-true, ◌||◌, IsSomeAnd}
+use Rattle.std.proofs.Common.{◌≡◌, ℕ, zero, suc, List, [], ◌∷◌, refl, ap, slice_get, None, Some, option_map, Bool, true, false, eqb-true, ◌||◌, IsSomeAnd, ◌∙◌, Option}
 use Rattle.std.specs.List.{list_any, list_all}
 use Rattle.std.proofs.lemmas.Bool.{and_parts}
 use Rattle.gt_model.specs.declared.script.Script.{Script}
@@ -9,6 +9,8 @@ use Rattle.gt_model.specs.declared.state.Mode.{Mode}
 use Rattle.gt_model.specs.Tables.{numbered}
 use Rattle.gt_model.specs.State.{State, goroutine_at, stands, stands_at, instr_at, until_of, sleeps_until}
 use Rattle.gt_model.specs.Counted.{receives}
+use Rattle.gt_model.specs.declared.entry.Party.{Party}
+use Rattle.gt_model.specs.Legal.{operation, operation_at}
 
 pub all-item : {X : Type 0} (p : X → Bool) (xs : List X) (i : ℕ) (x : X) → slice_get xs i ≡ Some x → list_all p xs ≡ true → p x ≡ true
 all-item p [] i x e h = cc
@@ -81,3 +83,33 @@ sleeper s g P h =
             | Mode.Ended ↦ λ q l. absurd l
           ] refl k
     ] refl h
+
+-- a party that stands at an operation: its instruction has it under the party's case number
+pub record AtOperation (script : Script) (s : State) (p : Party) (o : ℕ) : Type 0 where
+  pub instr : Instr
+  pub stands : stands_at script s p.g ≡ Some instr
+  pub has : operation instr p.case_no ≡ Some o
+
+pub at_operation : (script : Script) (s : State) (p : Party) (o : ℕ) → operation_at script s p ≡ Some o → AtOperation script s p o
+at_operation script s p o e =
+    elim (stands_at script s p.g)
+    as (λ q. stands_at script s p.g ≡ q → (elim q as (λ q. Option ℕ) [ None ↦ None | Some i ↦ operation i p.case_no ]) ≡ Some o → AtOperation script s p o) [
+      | None ↦ λ is h. cc
+      | Some i ↦ λ is h. record { instr = i; stands = is; has = h }
+    ] refl e
+
+-- it is a receive, and a plain one
+pub is_recv : (i : Instr) (case_no o : ℕ) → operation i case_no ≡ Some o → i ≡ Instr.Recv o
+is_recv (Instr.Recv t) zero o e = let is : t ≡ o = cc in ap Instr.Recv is
+is_recv (Instr.Recv t) (suc k) o e = cc
+is_recv _ case_no o e = cc
+
+pub is_plain : (i : Instr) (case_no o : ℕ) → operation i case_no ≡ Some o → case_no ≡ 0
+is_plain (Instr.Recv t) zero o e = refl
+is_plain (Instr.Recv t) (suc k) o e = cc
+is_plain _ case_no o e = cc
+
+pub stands_recv : (script : Script) (s : State) (p : Party) (o : ℕ) → operation_at script s p ≡ Some o → stands_at script s p.g ≡ Some (Instr.Recv o)
+stands_recv script s p o e =
+    let at : AtOperation script s p o = at_operation script s p o e in
+    at.stands ∙ ap Some (is_recv at.instr p.case_no o at.has)

@@ -17,7 +17,7 @@ use Rattle.gt_model.specs.Good.{IsGood}
 use Rattle.gt_model.specs.Legal.{Does, Receives, operation, operation_at, due_at, sleep_end, was_set}
 use Rattle.gt_model.specs.Finish.{IsIdle}
 use Rattle.gt_model.specs.Still.{IsStill}
-use Rattle.gt_model.proofs.Lookups.{Standing, standing, Asleep, sleeper}
+use Rattle.gt_model.proofs.Lookups.{Standing, standing, stands_recv, Asleep, sleeper}
 use Rattle.gt_model.proofs.Named.{names-Does}
 
 -- ---- a still program is idle
@@ -67,19 +67,6 @@ wakes_not script s g still h =
     let ready : is_ready script s a.who ≡ true =
     subst (λ (m : Mode). is_ready_in script s a.who m ≡ true) (sym a.sleeps) (le-leb a.until (clock s a.who.world) here) in
     true_false (is_ready script s a.who) ready (still.nobody_ready g a.who a.there)
-
--- what stands at a receive from t
-recv_of : (i : Instr) (n t : ℕ) → operation i n ≡ Some t → i ≡ Instr.Recv t
-recv_of (Instr.Recv o) zero t e = let is : o ≡ t = cc in ap Instr.Recv is
-recv_of (Instr.Recv o) (suc n) t e = cc
-recv_of _ n t e = cc
-
-stands_recv : (script : Script) (s : State) (p : Party) (t : ℕ) → operation_at script s p ≡ Some t → stands_at script s p.g ≡ Some (Instr.Recv t)
-stands_recv script s p t e =
-    elim (stands_at script s p.g) as (λ o. (elim o [ None ↦ None | Some i ↦ operation i p.case_no ]) ≡ Some t → o ≡ Some (Instr.Recv t)) [
-      | None ↦ λ q. cc
-      | Some i ↦ λ q. ap Some (recv_of i p.case_no t q)
-    ] e
 
 receives_not : (script : Script) (s : State) (p : Party) (t due : ℕ) → IsStill script s → Receives script s p t → due_of s t ≡ Some due → due ≤ clock_of s p.g → ⊥
 receives_not script s p t due still receives is h =
