@@ -5,12 +5,12 @@ use Rattle.gt_model.specs.declared.entry.Entry.{Entry}
 use Rattle.gt_model.specs.declared.entry.Limits.{Limits}
 use Rattle.gt_model.specs.declared.entry.Outcome.{Outcome}
 use Rattle.gt_model.specs.declared.state.Ending.{Ending}
-use Rattle.gt_model.specs.State.{State}
-use Rattle.gt_model.specs.After.{after, first_state}
-use Rattle.gt_model.specs.Legal.{May}
-use Rattle.gt_model.specs.Finish.{IsRunning}
+use Rattle.gt_rules.specs.State.{State}
+use Rattle.gt_rules.specs.After.{after, first_state}
+use Rattle.gt_rules.specs.Legal.{May}
+use Rattle.gt_rules.specs.Finish.{IsRunning}
 use Rattle.gt_model.specs.Good.{IsGood, AreLimits}
-use Rattle.gt_model.proofs.Formed.{formed-first}
+use Rattle.gt_facts.proofs.Formed.{formed-first}
 use Rattle.gt_room.specs.Contents.{Contents}
 use Rattle.gt_book.specs.declared.book.Book.TheInside.{Inside}
 use Rattle.gt_machine.specs.declared.machine.Machine.{Machine}

@@ -1,14 +1,15 @@
 -- What an operation needs that is committed while the run goes on.
 use Rattle.std.proofs.Common.{◌≡◌, ℕ, zero, suc, ◌+◌, ◌<◌, ◌≤◌, min, length, refl, sym, ap, subst, ◌∙◌, arith, slice_get, Option, None, Some, Bool, true, false, not, ◌&&◌, ◌||◌, IsTrue, is_some, is_none, drop, inl, inr, ◌⊎◌}
-use Rattle.gt_model.specs.declared.time.TheConstants.{CAP}
+use Rattle.gt_model.specs.Times.{greatest_time}
 use Rattle.gt_model.specs.declared.script.Script.{Script}
 use Rattle.gt_model.specs.declared.script.Instr.{Instr}
 use Rattle.gt_model.specs.declared.entry.Outcome.{Outcome}
 use Rattle.gt_model.specs.declared.entry.Reason.{Reason}
-use Rattle.gt_model.specs.State.{State, goroutine_at, timer_at, stands, stands_at, clock, clock_of, due_of, is_timer}
-use Rattle.gt_model.specs.Panics.{fault, fault_at, panic_of, panic_at, when}
-use Rattle.gt_model.specs.Legal.{Does, Receives, operation, due_at, sleep_end}
-use Rattle.gt_model.specs.Counted.{receives}
+use Rattle.gt_rules.specs.State.{State, goroutine_at, timer_at, stands, stands_at, clock, clock_of, due_of}
+use Rattle.gt_model.specs.Script.{is_timer}
+use Rattle.gt_rules.specs.Panics.{fault, fault_at, panic_of, panic_at, when}
+use Rattle.gt_rules.specs.Legal.{Does, Receives, operation, due_at, sleep_end}
+use Rattle.gt_rules.specs.Counted.{receives}
 use Rattle.gt_queue.specs.Contents.{waiting_in}
 use Rattle.gt_book.specs.declared.status.RunStatus.{RunStatus}
 use Rattle.gt_book.specs.declared.step.Step.{Step}
@@ -20,9 +21,9 @@ use Rattle.gt_book.specs.Steps.{step_of, step_or_panic, step_of_instr, plainly, 
 use Rattle.gt_book.specs.Least.{IsTimeOf}
 use Rattle.gt_book.specs.View.{BookView, IsLawful, Fits, outcome_of, is_parked, is_parked_at, is_at_receive}
 use Rattle.gt_book.specs.Queues.{as_number, times}
-use Rattle.gt_model.proofs.Declared.{timer_within}
-use Rattle.gt_model.proofs.Lookups.{receives-recv}
-use Rattle.gt_model.proofs.Formed.{world_of-zero}
+use Rattle.gt_facts.proofs.Within.{timer_within}
+use Rattle.gt_facts.proofs.Lookups.{receives-recv}
+use Rattle.gt_facts.proofs.Formed.{world_of-zero}
 use Rattle.gt_book.proofs.Lists.{times-first_same}
 use Rattle.gt_book.proofs.Going.{IsStep, step-is}
 
@@ -140,7 +141,7 @@ instr-sleeps s g d (Instr.Recv o) h = cc
 instr-sleeps s g d Instr.Finish h = cc
 
 pub may-sleep : (b : BookView) (g d until : ℕ) → IsLawful b → outcome_of b ≡ None → step_of b.script b.state g ≡ Some (Step.Needs (TimerOp.Sleep d))
-    → status_of b.schedule g ≡ Some RunStatus.InHand → until ≡ min (clock b.state 0 + d) CAP
+    → status_of b.schedule g ≡ Some RunStatus.InHand → until ≡ min (clock b.state 0 + d) greatest_time
     → MayCommit b (Op.Sleep g until) × (is_gone b (Op.Sleep g until) ≡ false)
 may-sleep b g d until lawful running step in_hand e =
     let asks : Asks b.script b.state g (TimerOp.Sleep d) = needs-asks b.script b.state g (TimerOp.Sleep d) step in
@@ -175,7 +176,7 @@ set-stands script s g t step =
     ]
 
 pub may-new : (b : BookView) (g t d due : ℕ) → IsLawful b → outcome_of b ≡ None → step_of b.script b.state g ≡ Some (Step.Needs (TimerOp.Set t))
-    → stands_at b.script b.state g ≡ Some (Instr.New t d) → status_of b.schedule g ≡ Some RunStatus.InHand → due ≡ min (clock b.state 0 + d) CAP
+    → stands_at b.script b.state g ≡ Some (Instr.New t d) → status_of b.schedule g ≡ Some RunStatus.InHand → due ≡ min (clock b.state 0 + d) greatest_time
     → MayCommit b (Op.New g t due 0) × (is_gone b (Op.New g t due 0) ≡ false)
 may-new b g t d due lawful running step stands in_hand e =
     let asks : Asks b.script b.state g (TimerOp.Set t) = needs-asks b.script b.state g (TimerOp.Set t) step in
@@ -185,7 +186,7 @@ may-new b g t d due lawful running step stands in_hand e =
 
 pub may-reset : (b : BookView) (g t d due : ℕ) (was : Bool) → IsLawful b → outcome_of b ≡ None → step_of b.script b.state g ≡ Some (Step.Needs (TimerOp.Set t))
     → stands_at b.script b.state g ≡ Some (Instr.Reset t d) → status_of b.schedule g ≡ Some RunStatus.InHand
-    → was ≡ is_some (due_of b.state t) → due ≡ min (clock b.state 0 + d) CAP
+    → was ≡ is_some (due_of b.state t) → due ≡ min (clock b.state 0 + d) greatest_time
     → MayCommit b (Op.Reset g t was due 0) × (is_gone b (Op.Reset g t was due 0) ≡ false)
 may-reset b g t d due was lawful running step stands in_hand was_set e =
     let asks : Asks b.script b.state g (TimerOp.Set t) = needs-asks b.script b.state g (TimerOp.Set t) step in

@@ -9,11 +9,12 @@ use Rattle.gt_model.specs.declared.state.Goroutine.{Goroutine}
 use Rattle.gt_model.specs.declared.state.Timer.{Timer}
 use Rattle.gt_model.specs.declared.state.Mode.{Mode}
 use Rattle.gt_model.specs.Tables.{numbered, flatten, at, least}
-use Rattle.gt_model.specs.State.{State, goroutine_at, timer_at, stands, stands_at, until_of, sleeps_until, due_of, is_func}
-use Rattle.gt_model.specs.Counted.{sleep_of, receives, awaits, is_awaited, counted_timer, counted}
-use Rattle.gt_model.specs.Quiet.{IsOneWorld}
-use Rattle.gt_model.proofs.Named.{names-instr_at}
-use Rattle.gt_model.proofs.Lookups.{any-numbered, receives-recv, Standing, standing}
+use Rattle.gt_rules.specs.State.{State, goroutine_at, timer_at, stands, stands_at, until_of, sleeps_until, due_of}
+use Rattle.gt_model.specs.Script.{is_func}
+use Rattle.gt_rules.specs.Counted.{sleep_of, receives, awaits, is_awaited, counted_timer, counted}
+use Rattle.gt_facts.specs.Quiet.{IsOneWorld}
+use Rattle.gt_facts.proofs.Named.{names-instr_at}
+use Rattle.gt_facts.proofs.Lookups.{any-numbered, receives-recv, Standing, standing}
 use Rattle.gt_queue.specs.Contents.{waiting_in}
 use Rattle.gt_book.specs.declared.answers.Due.{Due}
 use Rattle.gt_book.specs.declared.answers.Whose.{Whose}

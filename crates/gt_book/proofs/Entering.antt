@@ -6,15 +6,15 @@ use Rattle.gt_model.specs.declared.entry.Entry.{Entry}
 use Rattle.gt_model.specs.declared.entry.Limits.{Limits}
 use Rattle.gt_model.specs.declared.entry.Outcome.{Outcome}
 use Rattle.gt_model.specs.declared.state.Ending.{Ending}
-use Rattle.gt_model.specs.State.{State}
-use Rattle.gt_model.specs.After.{after, first_state}
-use Rattle.gt_model.specs.Legal.{May}
-use Rattle.gt_model.specs.Finish.{Legal, IsRunning, Finishes}
-use Rattle.gt_model.specs.History.{AllLegal, state_after}
+use Rattle.gt_rules.specs.State.{State}
+use Rattle.gt_rules.specs.After.{after, first_state}
+use Rattle.gt_rules.specs.Legal.{May}
+use Rattle.gt_rules.specs.Finish.{Legal, IsRunning, Finishes}
+use Rattle.gt_rules.specs.History.{AllLegal, state_after}
 use Rattle.gt_model.specs.Good.{IsGood, AreLimits}
-use Rattle.gt_model.specs.Formed.{IsFormed}
-use Rattle.gt_model.proofs.Histories.{AllLegal-append, state_after-append}
-use Rattle.gt_model.proofs.Formed.{formed-after, formed-finish}
+use Rattle.gt_facts.specs.Formed.{IsFormed}
+use Rattle.gt_facts.proofs.Histories.{AllLegal-append, state_after-append}
+use Rattle.gt_facts.proofs.Formed.{formed-after, formed-finish}
 use Rattle.gt_book.specs.Schedule.{scheduled}
 use Rattle.gt_book.specs.View.{BookView, IsLawful, Fits, Enters, with_entries, finish_by, outcome_of}
 use Rattle.gt_machine.specs.Outcomes.{due_outcome, outcome_in}

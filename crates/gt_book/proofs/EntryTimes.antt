@@ -8,22 +8,23 @@ use Rattle.gt_model.specs.declared.state.Mode.{Mode}
 use Rattle.gt_model.specs.Tables.{at, change_numbered}
 use Rattle.gt_model.specs.declared.script.Decl.{Decl}
 use Rattle.gt_model.specs.declared.entry.Outcome.{Outcome}
-use Rattle.gt_model.proofs.Lookups.{Standing, standing, Asleep, sleeper, AtOperation, at_operation}
+use Rattle.gt_facts.proofs.Lookups.{Standing, standing, Asleep, sleeper, AtOperation, at_operation}
 use Rattle.gt_tournament.specs.Keys.{key_of}
 use Rattle.gt_book.specs.View.{first_schedule}
-use Rattle.gt_model.specs.State.{State, stands_at, sleeps_until, timer_at, is_func, clock_of, world_of, func_of}
-use Rattle.gt_model.specs.After.{after, first_state, moved_on, in_mode, begun, asleep, took, set_due, set_again, new_period, timer_world}
+use Rattle.gt_rules.specs.State.{State, stands_at, sleeps_until, timer_at, clock_of, world_of}
+use Rattle.gt_model.specs.Script.{is_func, func_of}
+use Rattle.gt_rules.specs.After.{after, first_state, moved_on, in_mode, begun, asleep, took, set_due, set_again, new_period, timer_world}
 use Rattle.gt_model.specs.Good.{IsGood}
-use Rattle.gt_model.specs.Formed.{IsFormed}
-use Rattle.gt_model.specs.Legal.{May}
-use Rattle.gt_model.proofs.Named.{names-Does}
+use Rattle.gt_facts.specs.Formed.{IsFormed}
+use Rattle.gt_rules.specs.Legal.{May}
+use Rattle.gt_facts.proofs.Named.{names-Does}
 use Rattle.gt_queue.specs.Contents.{waiting_in, without}
 use Rattle.gt_book.specs.declared.due_times.DueTimes.{DueTimes}
 use Rattle.gt_book.specs.declared.scheduler.Scheduler.{Scheduler}
 use Rattle.gt_book.specs.Schedule.{Schedule, run_queue, queue_at, leaves, scheduled, parked_at, taken}
 use Rattle.gt_book.specs.DueTimes.{timer_time, slot_time, with_timer, followed, CanFollow, HasSleepSlot, HasSleptSlot, HasTimerSlot, AreTimes}
 use Rattle.gt_book.proofs.Lists.{waiting-set_other}
-use Rattle.gt_model.proofs.Declared.{timer_within, func_within, setting_within}
+use Rattle.gt_facts.proofs.Within.{timer_within, func_within, setting_within}
 use Rattle.gt_book.proofs.SchedulerNeeds.{numbered-le}
 use Rattle.gt_model.proofs.Items.{at-set_other, at-change_other}
 use Rattle.gt_book.proofs.Times.{until-other, until-begun, until-stands, timer-same, runs-other, times-stay, times-slept, times-timed}

@@ -13,14 +13,15 @@ use Rattle.gt_model.specs.declared.state.Goroutine.{Goroutine}
 use Rattle.gt_model.specs.declared.state.Timer.{Timer}
 use Rattle.gt_model.specs.declared.state.Mode.{Mode}
 use Rattle.gt_model.specs.Tables.{numbered, change, change_numbered, at}
-use Rattle.gt_model.specs.State.{State, goroutine_at, timer_at, instr_at, stands, stands_at, clock_of, world_of, next_number, func_of, names_timer}
-use Rattle.gt_model.specs.After.{after, first_state, moves, took, new_period, moved_on, in_mode, asleep, begun, set_due, set_again, timer_world}
-use Rattle.gt_model.specs.Legal.{May, operation, operation_at}
-use Rattle.gt_model.specs.Panics.{fault, when}
-use Rattle.gt_model.specs.Ready.{is_firm, goes_on}
-use Rattle.gt_model.specs.Counted.{receives}
-use Rattle.gt_model.specs.Quiet.{none_firm}
-use Rattle.gt_model.proofs.Lookups.{Standing, standing, Asleep, sleeper}
+use Rattle.gt_rules.specs.State.{State, goroutine_at, timer_at, stands, stands_at, clock_of, world_of, next_number}
+use Rattle.gt_model.specs.Script.{instr_at, func_of, names_timer}
+use Rattle.gt_rules.specs.After.{after, first_state, moves, took, new_period, moved_on, in_mode, asleep, begun, set_due, set_again, timer_world}
+use Rattle.gt_rules.specs.Legal.{May, operation, operation_at}
+use Rattle.gt_rules.specs.Panics.{fault, when}
+use Rattle.gt_rules.specs.Ready.{is_firm, goes_on}
+use Rattle.gt_rules.specs.Counted.{receives}
+use Rattle.gt_facts.specs.Quiet.{none_firm}
+use Rattle.gt_facts.proofs.Lookups.{Standing, standing, Asleep, sleeper}
 use Rattle.gt_model.proofs.Changes.{length-change_numbered}
 use Rattle.gt_queue.specs.Contents.{waiting_in, without}
 use Rattle.gt_book.specs.declared.status.RunStatus.{RunStatus}

@@ -7,15 +7,16 @@ use Rattle.gt_model.specs.declared.entry.Outcome.{Outcome}
 use Rattle.gt_model.specs.declared.entry.Reason.{Reason}
 use Rattle.gt_model.specs.declared.state.Goroutine.{Goroutine}
 use Rattle.gt_model.specs.declared.state.Mode.{Mode}
-use Rattle.gt_model.specs.State.{State, goroutine_at, timer_at, instr_at, stands, stands_at, clock_of, code_of}
-use Rattle.gt_model.specs.Panics.{fault, when, fault_at, panic_of, panic_at}
-use Rattle.gt_model.specs.Legal.{May, Does}
-use Rattle.gt_model.specs.Finish.{IsIdle}
-use Rattle.gt_model.specs.Counted.{counted}
+use Rattle.gt_rules.specs.State.{State, goroutine_at, timer_at, stands, stands_at, clock_of}
+use Rattle.gt_model.specs.Script.{instr_at, code_of}
+use Rattle.gt_rules.specs.Panics.{fault, when, fault_at, panic_of, panic_at}
+use Rattle.gt_rules.specs.Legal.{May, Does}
+use Rattle.gt_rules.specs.Finish.{IsIdle}
+use Rattle.gt_rules.specs.Counted.{counted}
 use Rattle.gt_model.specs.Good.{IsGood, NamesRightly}
-use Rattle.gt_model.specs.Formed.{IsFormed, IsPlacedIn}
-use Rattle.gt_model.proofs.Formed.{formed-finish}
-use Rattle.gt_model.proofs.Named.{names-Does}
+use Rattle.gt_facts.specs.Formed.{IsFormed, IsPlacedIn}
+use Rattle.gt_facts.proofs.Formed.{formed-finish}
+use Rattle.gt_facts.proofs.Named.{names-Does}
 use Rattle.gt_queue.specs.Contents.{waiting_in}
 use Rattle.gt_book.specs.declared.book.Book.TheInside.{Inside}
 use Rattle.gt_machine.specs.declared.machine.Machine.{Machine}
@@ -33,7 +34,7 @@ use Rattle.gt_book.proofs.Entering.{running-none, sound-more, sound-lawful, lawf
 use Rattle.gt_room.specs.Contents.{Contents}
 use Rattle.gt_book.proofs.Books.{Finished, seen-is, finished-rooms}
 use Rattle.gt_book.proofs.Fitting.{Known, known, fits-taken}
-use Rattle.gt_model.proofs.Declared.{timer_within}
+use Rattle.gt_facts.proofs.Within.{timer_within}
 use Rattle.gt_book.specs.declared.due_times.DueTimes.{DueTimes}
 use Rattle.gt_book.specs.DueTimes.{AreTimes}
 use Rattle.gt_book.proofs.EntryTimes.{times-taken, times-finished}

@@ -2,17 +2,17 @@
 use Rattle.std.proofs.Common.{◌≡◌, ℕ, ◌+◌, ◌<◌, ◌≤◌, min, List, [], ◌∷◌, refl, sym, ap, subst, arith, Option, None, Some, Bool, true, false, ◌&&◌, nat_lt, IsSomeAnd, IfSome}
 use Rattle.std.specs.List.{list_all}
 use Rattle.std.proofs.lemmas.Bool.{and_parts, ltb-true, lt-ltb}
-use Rattle.gt_model.specs.declared.time.TheConstants.{CAP}
+use Rattle.gt_model.specs.Times.{greatest_time}
 use Rattle.gt_model.specs.Tables.{least}
-use Rattle.gt_model.specs.State.{clock, goroutine_at, timer_at, until_of}
+use Rattle.gt_rules.specs.State.{clock, goroutine_at, timer_at, until_of}
 use Rattle.gt_model.specs.declared.state.Goroutine.{Goroutine}
 use Rattle.gt_model.specs.declared.state.Timer.{Timer}
 use Rattle.std.specs.Option.{option_map}
 use Rattle.gt_book.specs.declared.answers.Whose.{Whose}
-use Rattle.gt_model.specs.Counted.{counted}
-use Rattle.gt_model.specs.Finish.{IsIdle, IsJump}
-use Rattle.gt_model.specs.Quiet.{none_due}
-use Rattle.gt_model.proofs.Quiet.{quiet-IsIdle}
+use Rattle.gt_rules.specs.Counted.{counted}
+use Rattle.gt_rules.specs.Finish.{IsIdle, IsJump}
+use Rattle.gt_facts.specs.Quiet.{none_due}
+use Rattle.gt_facts.proofs.Quiet.{quiet-IsIdle}
 use Rattle.gt_book.specs.View.{BookView, IsLawful}
 use Rattle.gt_book.specs.Least.{NobodyRuns, IsTimeOf}
 use Rattle.gt_book.proofs.Fitting.{none-queued, quiet-from_fits}
@@ -54,23 +54,23 @@ idle-least b t lawful nobody is later = idle-nobody b lawful nobody (later-least
 pub idle-none : (b : BookView) → IsLawful b → NobodyRuns b → counted b.script b.state 0 ≡ [] → IsIdle b.script b.state
 idle-none b lawful nobody none = idle-nobody b lawful nobody (ap (list_all (nat_lt (clock b.state 0))) none)
 
-pub jumps-least : (b : BookView) (t : ℕ) → IsLawful b → NobodyRuns b → least (counted b.script b.state 0) ≡ Some t → clock b.state 0 < t → t ≤ CAP → IsJump b.script b.state 0 t
+pub jumps-least : (b : BookView) (t : ℕ) → IsLawful b → NobodyRuns b → least (counted b.script b.state 0) ≡ Some t → clock b.state 0 < t → t ≤ greatest_time → IsJump b.script b.state 0 t
 jumps-least b t lawful nobody is later time = record {
   idle = idle-least b t lawful nobody is later;
-  to_least = subst (λ o. IsSomeAnd o (λ u. t ≡ min (u + 0) CAP)) (sym is) (omega arith);
+  to_least = subst (λ o. IsSomeAnd o (λ u. t ≡ min (u + 0) greatest_time)) (sym is) (omega arith);
 }
 
-due_within : (o : Option Timer) (at : ℕ) → (elim o as (λ x. Option ℕ) [ None ↦ None | Some r ↦ r.due ]) ≡ Some at → ((r : Timer) → o ≡ Some r → IfSome r.due (λ due. due ≤ CAP)) → at ≤ CAP
+due_within : (o : Option Timer) (at : ℕ) → (elim o as (λ x. Option ℕ) [ None ↦ None | Some r ↦ r.due ]) ≡ Some at → ((r : Timer) → o ≡ Some r → IfSome r.due (λ due. due ≤ greatest_time)) → at ≤ greatest_time
 due_within None at e h = cc
-due_within (Some r) at e h = subst (λ (o : Option ℕ). IfSome o (λ due. due ≤ CAP)) e (h r refl)
+due_within (Some r) at e h = subst (λ (o : Option ℕ). IfSome o (λ due. due ≤ greatest_time)) e (h r refl)
 
 until_within : (o : Option Goroutine) (at : ℕ) → (elim (option_map (λ (r : Goroutine). r.mode) o) as (λ x. Option ℕ) [ None ↦ None | Some mode ↦ until_of mode ]) ≡ Some at
-    → ((r : Goroutine) → o ≡ Some r → IfSome (until_of r.mode) (λ until. until ≤ CAP)) → at ≤ CAP
+    → ((r : Goroutine) → o ≡ Some r → IfSome (until_of r.mode) (λ until. until ≤ greatest_time)) → at ≤ greatest_time
 until_within None at e h = cc
-until_within (Some r) at e h = subst (λ (o : Option ℕ). IfSome o (λ until. until ≤ CAP)) e (h r refl)
+until_within (Some r) at e h = subst (λ (o : Option ℕ). IfSome o (λ until. until ≤ greatest_time)) e (h r refl)
 
 -- whose-ever a time is, it is at most the greatest
-pub times-least : (b : BookView) (at : ℕ) (whose : Whose) → IsLawful b → IsTimeOf b at whose → at ≤ CAP
+pub times-least : (b : BookView) (at : ℕ) (whose : Whose) → IsLawful b → IsTimeOf b at whose → at ≤ greatest_time
 times-least b at (Whose.Sleep g) lawful is = until_within (goroutine_at b.state g) at is (lawful.formed.untils g)
 times-least b at (Whose.Func t) lawful is = due_within (timer_at b.state t) at is.1 (lawful.formed.dues t)
 times-least b at (Whose.Timer t) lawful is = due_within (timer_at b.state t) at is.1 (lawful.formed.dues t)

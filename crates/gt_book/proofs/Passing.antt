@@ -4,9 +4,9 @@ use Rattle.std.proofs.lemmas.List.Sums.{count_by-le-length}
 use Rattle.gt_model.specs.declared.script.Script.{Script}
 use Rattle.gt_model.specs.declared.entry.Entry.{Entry}
 use Rattle.gt_model.specs.declared.entry.Outcome.{Outcome}
-use Rattle.gt_model.specs.State.{State}
-use Rattle.gt_model.specs.After.{after, first_state}
-use Rattle.gt_model.specs.History.{AllJump, ClockJumps, state_after}
+use Rattle.gt_rules.specs.State.{State}
+use Rattle.gt_rules.specs.After.{after, first_state}
+use Rattle.gt_rules.specs.History.{AllJump, ClockJumps, state_after}
 use Rattle.gt_model.specs.Tables.{numbered, change, change_numbered}
 use Rattle.gt_book.specs.declared.status.RunStatus.{RunStatus}
 use Rattle.gt_book.specs.Schedule.{Schedule, status_of, scheduled, schedule_after, slept, parked, parked_at, taken}

@@ -3,9 +3,10 @@ use Rattle.std.proofs.Common.{◌≡◌, ℕ, zero, suc, ◌+◌, ◌<◌, ◌�
 use Rattle.std.proofs.lemmas.Option.{slice_get_within}
 use Rattle.gt_model.specs.declared.script.Script.{Script}
 use Rattle.gt_model.specs.declared.entry.Entry.{Entry}
-use Rattle.gt_model.specs.State.{State, clock_of, is_timer, names_timer, next_number}
+use Rattle.gt_rules.specs.State.{State, clock_of, next_number}
+use Rattle.gt_model.specs.Script.{is_timer, names_timer}
 use Rattle.gt_model.specs.Tables.{numbered}
-use Rattle.gt_model.specs.Legal.{May}
+use Rattle.gt_rules.specs.Legal.{May}
 use Rattle.gt_model.specs.Good.{IsGood}
 use Rattle.gt_queue.specs.Contents.{waiting_in}
 use Rattle.gt_book.specs.declared.status.RunStatus.{RunStatus}
@@ -14,7 +15,7 @@ use Rattle.gt_book.specs.Queues.{as_number, times}
 use Rattle.gt_book.specs.Schedule.{Schedule, status_of, queue_at}
 use Rattle.gt_book.specs.View.{Fits, is_parked, is_parked_at, is_at_receive}
 use Rattle.gt_model.proofs.Items.{HasNumber}
-use Rattle.gt_model.proofs.Lookups.{Asleep, sleeper}
+use Rattle.gt_facts.proofs.Lookups.{Asleep, sleeper}
 use Rattle.gt_book.proofs.Fitting.{asleep-parked, has_status, nowhere-new, nowhere-asleep}
 use Rattle.gt_model.proofs.Declared.{declared_within}
 use Rattle.gt_book.specs.Scheduler.{schedule_of, IsScheduler, IsInHand, CanAdd, IsAsleep, WaitsFor, CanSleep, CanApply}

@@ -5,7 +5,8 @@ use Rattle.gt_model.specs.declared.script.Script.{Script}
 use Rattle.gt_model.specs.declared.script.Instr.{Instr}
 use Rattle.gt_model.specs.declared.state.Goroutine.{Goroutine}
 use Rattle.gt_model.specs.declared.state.Mode.{Mode}
-use Rattle.gt_model.specs.State.{State, goroutine_at, instr_at, stands, stands_at}
+use Rattle.gt_rules.specs.State.{State, goroutine_at, stands, stands_at}
+use Rattle.gt_model.specs.Script.{instr_at}
 use Rattle.gt_book.specs.declared.answers.Did.{Did}
 use Rattle.gt_book.specs.declared.answers.TimerOp.{TimerOp}
 use Rattle.gt_book.specs.declared.step.Step.{Step}

@@ -9,8 +9,9 @@ use Rattle.gt_model.specs.declared.script.Instr.{Instr}
 use Rattle.gt_model.specs.declared.state.Goroutine.{Goroutine}
 use Rattle.gt_model.specs.declared.state.Timer.{Timer}
 use Rattle.gt_model.specs.Tables.{numbered, change_numbered}
-use Rattle.gt_model.specs.State.{State, stands_at, timer_at, until_of, sleeps_until, due_of, is_func}
-use Rattle.gt_model.proofs.Lookups.{Standing, standing}
+use Rattle.gt_rules.specs.State.{State, stands_at, timer_at, until_of, sleeps_until, due_of}
+use Rattle.gt_model.specs.Script.{is_func}
+use Rattle.gt_facts.proofs.Lookups.{Standing, standing}
 use Rattle.gt_queue.specs.Contents.{waiting_in}
 use Rattle.gt_tournament.specs.Keys.{key_of}
 use Rattle.gt_book.specs.declared.due_times.DueTimes.{DueTimes}

@@ -4,7 +4,8 @@ use Rattle.std.specs.declared.option.Option.{Option}
 use Rattle.std.specs.declared.option.Option.TheVariants.{None, Some}
 use Rattle.gt_model.specs.declared.script.Script.{Script}
 use Rattle.gt_model.specs.declared.entry.Entry.{Entry}
-use Rattle.gt_model.specs.State.{State, sleeps_until, due_of, is_func}
+use Rattle.gt_rules.specs.State.{State, sleeps_until, due_of}
+use Rattle.gt_model.specs.Script.{is_func}
 use Rattle.gt_queue.specs.Contents.{waiting_in}
 use Rattle.gt_tournament.specs.Keys.{key_of}
 use Rattle.gt_book.specs.declared.answers.Due.{Due}

@@ -1,7 +1,8 @@
 -- The least time that counts, and whose it is.
 use Rattle.std.specs.Prelude.{ℕ, ◌≡◌, ◌≢◌, [], IsTrue, slice_get}
 use Rattle.std.specs.declared.option.Option.TheVariants.{Some}
-use Rattle.gt_model.specs.State.{sleeps_until, due_of, is_func, is_timer}
+use Rattle.gt_rules.specs.State.{sleeps_until, due_of}
+use Rattle.gt_model.specs.Script.{is_func, is_timer}
 use Rattle.gt_queue.specs.Contents.{waiting_in}
 use Rattle.gt_book.specs.declared.answers.Whose.{Whose}
 use Rattle.gt_book.specs.declared.status.RunStatus.{RunStatus}

@@ -7,10 +7,10 @@ use Rattle.gt_model.specs.declared.script.Instr.{Instr}
 use Rattle.gt_model.specs.declared.entry.Entry.{Entry}
 use Rattle.gt_model.specs.declared.entry.Party.{Party}
 use Rattle.gt_model.specs.declared.entry.Reason.{Reason}
-use Rattle.gt_model.specs.State.{State, clock, stands_at, clock_of, next_number, sleeps_until}
-use Rattle.gt_model.specs.Panics.{fault}
-use Rattle.gt_model.specs.Legal.{May}
-use Rattle.gt_model.specs.After.{new_period}
+use Rattle.gt_rules.specs.State.{State, clock, stands_at, clock_of, next_number, sleeps_until}
+use Rattle.gt_rules.specs.Panics.{fault}
+use Rattle.gt_rules.specs.Legal.{May}
+use Rattle.gt_rules.specs.After.{new_period}
 use Rattle.gt_queue.specs.Contents.{waiting_in}
 use Rattle.gt_book.specs.declared.step.Step.{Step}
 use Rattle.gt_book.specs.declared.answers.Did.{Did}

@@ -9,16 +9,17 @@ use Rattle.gt_model.specs.declared.entry.Limits.{Limits}
 use Rattle.gt_model.specs.declared.entry.Outcome.{Outcome}
 use Rattle.gt_model.specs.declared.state.Goroutine.{Goroutine}
 use Rattle.gt_model.specs.declared.state.Mode.{Mode}
-use Rattle.gt_model.specs.State.{State, goroutine_at, timer_at, instr_at, stands_at}
+use Rattle.gt_rules.specs.State.{State, goroutine_at, timer_at, stands_at}
+use Rattle.gt_model.specs.Script.{instr_at}
 use Rattle.gt_model.specs.Good.{IsGood, AreLimits}
-use Rattle.gt_model.specs.After.{after, first_state}
-use Rattle.gt_model.specs.Finish.{IsRunning}
-use Rattle.gt_model.specs.History.{AllLegal, state_after}
-use Rattle.gt_model.specs.Formed.{IsFormed}
-use Rattle.gt_model.specs.Ready.{is_firm}
+use Rattle.gt_rules.specs.After.{after, first_state}
+use Rattle.gt_rules.specs.Finish.{IsRunning}
+use Rattle.gt_rules.specs.History.{AllLegal, state_after}
+use Rattle.gt_facts.specs.Formed.{IsFormed}
+use Rattle.gt_rules.specs.Ready.{is_firm}
 use Rattle.gt_machine.specs.Outcomes.{outcome_in, due_outcome}
 use Rattle.gt_book.specs.declared.status.RunStatus.{RunStatus}
-use Rattle.gt_model.specs.Counted.{receives}
+use Rattle.gt_rules.specs.Counted.{receives}
 use Rattle.gt_queue.specs.Contents.{waiting_in}
 use Rattle.gt_book.specs.Queues.{as_number, times}
 use Rattle.gt_book.specs.Schedule.{Schedule, status_of, run_queue, queue_at, scheduled, schedule_after}

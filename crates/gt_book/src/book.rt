@@ -2,11 +2,12 @@
 
 ghost use Rattle.std.specs.Prelude.{◌≡◌, ◌<◌, ◌≤◌, ◌↔◌, [], ◌∷◌, false, ◌+◌, IfOk, IfSome, IsNone, IsSome, IsTrue, Some, length, min, slice_get};
 ghost use Rattle.std.specs.Option.{option_map};
-ghost use Rattle.gt_model.specs.State as at;
+ghost use Rattle.gt_rules.specs.State as at;
 ghost use Rattle.gt_model.specs.Good.{IsGood, AreLimits};
-ghost use Rattle.gt_model.specs.Legal.{May};
-ghost use Rattle.gt_model.specs.Finish.{IsIdle};
-ghost use Rattle.gt_model.specs.Counted.{counted};
+ghost use Rattle.gt_model.specs.Times.{greatest_time};
+ghost use Rattle.gt_rules.specs.Legal.{May};
+ghost use Rattle.gt_rules.specs.Finish.{IsIdle};
+ghost use Rattle.gt_rules.specs.Counted.{counted};
 ghost use Rattle.gt_model.specs.Tables.{least};
 ghost use Rattle.gt_model.specs.declared.entry.Entry.{Entry};
 ghost use Rattle.gt_model.specs.declared.entry.Outcome.{Outcome};
@@ -213,7 +214,7 @@ impl Book {
     /// Moves the program's clock to a reading, or to the greatest time where the reading is above it, unless the clock is there or later, or the run
     /// has its outcome.
     pub fn clock(&mut self, reading: u64)
-        ensures { Clocks self.old (min reading CAP) self.new }
+        ensures { Clocks self.old (min reading greatest_time) self.new }
     {
         let to = reading.min(CAP);
         if self.outcome().is_none() && self.machine.clock < to {
@@ -228,7 +229,7 @@ impl Book {
     pub fn jump(&mut self, to: u64)
         requires running { outcome_of self.old ≡ None }
         requires later { at.clock self.old.state 0 < to }
-        requires time { to ≤ CAP }
+        requires time { to ≤ greatest_time }
         ensures { Enters self.old (Entry.Clock 0 to) self.new }
     {
         self.enter(Entry::Clock {

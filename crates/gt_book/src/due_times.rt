@@ -2,7 +2,7 @@
 
 ghost use Rattle.std.specs.Prelude.{◌≡◌, ◌+◌, ◌<◌, ◌≤◌, ◌^◌, None, IfOk, length};
 ghost use Rattle.gt_model.specs.Good.{IsGood};
-ghost use Rattle.gt_model.specs.State as at;
+ghost use Rattle.gt_rules.specs.State as at;
 ghost use Rattle.gt_tournament.specs.Keys.{key_of};
 ghost use Rattle.gt_machine.specs.Machine.{state_of};
 ghost use Rattle.gt_book.specs.Schedule.{queue_at};

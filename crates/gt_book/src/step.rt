@@ -1,8 +1,8 @@
 //! What a goroutine does next, by the state of the machine.
 
 ghost use Rattle.std.specs.Prelude.{◌≡◌, ◌<◌, ◌-◌, ◌^◌, length};
-ghost use Rattle.gt_model.specs.State as at;
-ghost use Rattle.gt_model.specs.Formed.{IsFormed};
+ghost use Rattle.gt_rules.specs.State as at;
+ghost use Rattle.gt_facts.specs.Formed.{IsFormed};
 ghost use Rattle.gt_machine.specs.Machine.{state_of};
 ghost use Rattle.gt_book.specs.Steps.{step_of, step_of_instr, plainly};
 

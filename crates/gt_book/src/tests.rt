@@ -2,7 +2,7 @@
 
 ghost use Rattle.std.specs.Prelude.{◌≡◌, IfOk, IfNone, IfSome, [], None};
 ghost use Rattle.gt_model.specs.Good.{IsGood};
-ghost use Rattle.gt_model.specs.Counted.{counted};
+ghost use Rattle.gt_rules.specs.Counted.{counted};
 ghost use Rattle.gt_book.specs.Least.{NobodyRuns, IsTimeOf};
 ghost use Rattle.gt_book.specs.View.{outcome_of};
 

@@ -5,7 +5,7 @@ use Rattle.std.specs.Str.{bytes_eq}
 use Rattle.std.proofs.lemmas.Bool.{leb-true, leb-false, ne_eqb}
 use Rattle.std.proofs.lemmas.Slice.Eq.{bytes_eq-Decides}
 use Rattle.gt_model.specs.Good.{is_digit}
-use Rattle.gt_model.specs.declared.time.TheConstants.{CAP}
+use Rattle.gt_model.specs.Times.{greatest_time}
 use Rattle.gt_dur.specs.declared.fault.DurFault.{DurFault}
 use Rattle.gt_dur.specs.Pairs.{Pair, pairs_of, unit_of, has_unit, unmet_from}
 use Rattle.gt_dur.specs.Duration.{is_duration, unmet_place, nanoseconds_of, capped, outcome_of, read_of}
@@ -20,19 +20,19 @@ list_all-unmet from (p ∷ ps) = next (has_unit p) refl (λ n. list_all-unmet n 
     next true h more = simp h (more _)
     next false h more = simp h
 
-capped-Ok : (n m : ℕ) → (capped n ≡ Ok m) ↔ ((n ≡ m) × (m ≤ CAP))
-capped-Ok n m = next (leb n CAP) refl
+capped-Ok : (n m : ℕ) → (capped n ≡ Ok m) ↔ ((n ≡ m) × (m ≤ greatest_time))
+capped-Ok n m = next (leb n greatest_time) refl
   where
-    next : (b : Bool) → leb n CAP ≡ b → (cond b (Ok n) (Err DurFault.Big) ≡ Ok m) ↔ ((n ≡ m) × (m ≤ CAP))
-    next true h = (λ is. let same : n ≡ m = cc in (same, omega (arith, leb-true n CAP h)), λ (same, small). ap Ok same)
-    next false h = (λ is. cc, λ (same, small). absurd (omega (arith, leb-false n CAP h)))
+    next : (b : Bool) → leb n greatest_time ≡ b → (cond b (Ok n) (Err DurFault.Big) ≡ Ok m) ↔ ((n ≡ m) × (m ≤ greatest_time))
+    next true h = (λ is. let same : n ≡ m = cc in (same, omega (arith, leb-true n greatest_time h)), λ (same, small). ap Ok same)
+    next false h = (λ is. cc, λ (same, small). absurd (omega (arith, leb-false n greatest_time h)))
 
-capped-Big : (n : ℕ) → (capped n ≡ Err DurFault.Big) ↔ (CAP < n)
-capped-Big n = next (leb n CAP) refl
+capped-Big : (n : ℕ) → (capped n ≡ Err DurFault.Big) ↔ (greatest_time < n)
+capped-Big n = next (leb n greatest_time) refl
   where
-    next : (b : Bool) → leb n CAP ≡ b → (cond b (Ok n) (Err DurFault.Big) ≡ Err DurFault.Big) ↔ (CAP < n)
-    next true h = (λ is. cc, λ big. absurd (omega (arith, leb-true n CAP h)))
-    next false h = (λ is. leb-false n CAP h, λ big. refl)
+    next : (b : Bool) → leb n greatest_time ≡ b → (cond b (Ok n) (Err DurFault.Big) ≡ Err DurFault.Big) ↔ (greatest_time < n)
+    next true h = (λ is. cc, λ big. absurd (omega (arith, leb-true n greatest_time h)))
+    next false h = (λ is. leb-false n greatest_time h, λ big. refl)
 
 -- what is read, by the tests that the reader makes
 abbrev pub chosen : Bool → Bool → Option ℕ → ℕ → Result ℕ DurFault
@@ -94,11 +94,11 @@ read_of-bad (b ∷ bs) bad = next (bytes_eq (b ∷ bs) (codes "0")) refl
         (chosen-bad _ _ _ _ (sym (ap (λ is_zero. is_zero || is_digit b && list_all has_unit (pairs_of (b ∷ bs))) h) ∙ bad) unmet)
 
 pub read_of-Ok : (text : List ℕ) (n : ℕ)
-    → (read_of text ≡ Ok n) ↔ (IsTrue (is_duration text) × (nanoseconds_of text ≡ n) × (n ≤ CAP))
+    → (read_of text ≡ Ok n) ↔ (IsTrue (is_duration text) × (nanoseconds_of text ≡ n) × (n ≤ greatest_time))
 read_of-Ok text n = next (is_duration text) refl
   where
     next : (b : Bool) → is_duration text ≡ b
-        → (read_of text ≡ Ok n) ↔ ((b ≡ true) × (nanoseconds_of text ≡ n) × (n ≤ CAP))
+        → (read_of text ≡ Ok n) ↔ ((b ≡ true) × (nanoseconds_of text ≡ n) × (n ≤ greatest_time))
     next true h =
         let read = read_of-good text h in
         let both = capped-Ok (nanoseconds_of text) n in
@@ -106,11 +106,11 @@ read_of-Ok text n = next (is_duration text) refl
     next false h = let fails = read_of-bad text h in (λ is. cc, λ (good, same, small). cc)
 
 pub read_of-Big : (text : List ℕ)
-    → (read_of text ≡ Err DurFault.Big) ↔ (IsTrue (is_duration text) × (CAP < nanoseconds_of text))
+    → (read_of text ≡ Err DurFault.Big) ↔ (IsTrue (is_duration text) × (greatest_time < nanoseconds_of text))
 read_of-Big text = next (is_duration text) refl
   where
     next : (b : Bool) → is_duration text ≡ b
-        → (read_of text ≡ Err DurFault.Big) ↔ ((b ≡ true) × (CAP < nanoseconds_of text))
+        → (read_of text ≡ Err DurFault.Big) ↔ ((b ≡ true) × (greatest_time < nanoseconds_of text))
     next true h =
         let read = read_of-good text h in
         let both = capped-Big (nanoseconds_of text) in

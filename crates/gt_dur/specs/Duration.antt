@@ -3,7 +3,7 @@ use Rattle.std.specs.Prelude.{ℕ, ◌-◌, ◌^◌, ◌==◌, nat_le, min, leng
 use Rattle.std.specs.List.{list_all}
 use Rattle.std.specs.Str.{bytes_eq}
 use Rattle.gt_model.specs.Good.{is_digit}
-use Rattle.gt_model.specs.declared.time.TheConstants.{CAP}
+use Rattle.gt_model.specs.Times.{greatest_time}
 use Rattle.gt_dur.specs.declared.fault.DurFault.{DurFault}
 use Rattle.gt_dur.specs.Pairs.{pairs_of, has_unit, amount_of, unmet_from}
 
@@ -40,7 +40,7 @@ total_of None n = Ok (min n (2 ^ 64 - 1))
 
 -- a time that a clock can show
 abbrev pub capped : ℕ → Result ℕ DurFault
-capped n = if nat_le n CAP then Ok n else Err DurFault.Big
+capped n = if nat_le n greatest_time then Ok n else Err DurFault.Big
 
 -- the sum of the pairs, unless a unit is missing or the sum is too big
 abbrev pub outcome_of : Option ℕ → ℕ → Result ℕ DurFault

@@ -52,7 +52,7 @@ pub fn read_dur(text: &str) -> Result<u64, DurFault>
 
     // A duration that a clock can show.
     ensures duration { (n : ℕ) → ((result ≡ Ok n)
-        ↔ (IsTrue (is_duration text.now) × (nanoseconds_of text.now ≡ n) × (n ≤ CAP))) }
+        ↔ (IsTrue (is_duration text.now) × (nanoseconds_of text.now ≡ n) × (n ≤ greatest_time))) }
 
     // When each fault comes.
     ensures empty { IsErrOf result DurFault.Empty ↔ (text.now ≡ []) }
@@ -60,7 +60,7 @@ pub fn read_dur(text: &str) -> Result<u64, DurFault>
     ensures unit { (at : ℕ) → (IsErrOf result (DurFault.Unit at)
         ↔ (IsTrue (begins_with_digit text.now) × (text.now ≢ codes "0") × (unmet_place text.now ≡ Some at))) }
     ensures big { IsErrOf result DurFault.Big
-        ↔ (IsTrue (is_duration text.now) × (CAP < nanoseconds_of text.now)) }
+        ↔ (IsTrue (is_duration text.now) × (greatest_time < nanoseconds_of text.now)) }
 {
     read_bytes(text.as_bytes())
 }

@@ -6,12 +6,12 @@ use Rattle.gt_model.specs.declared.script.Script.{Script}
 use Rattle.gt_model.specs.declared.state.Goroutine.{Goroutine}
 use Rattle.gt_model.specs.declared.state.Timer.{Timer}
 use Rattle.gt_model.specs.Tables.{numbered, at}
-use Rattle.gt_model.specs.State.{State}
-use Rattle.gt_model.specs.Finish.{IsIdle}
-use Rattle.gt_model.specs.Quiet.{none_firm, none_due}
-use Rattle.gt_model.proofs.Lookups.{all-item}
+use Rattle.gt_rules.specs.State.{State}
+use Rattle.gt_rules.specs.Finish.{IsIdle}
+use Rattle.gt_facts.specs.Quiet.{none_firm, none_due}
+use Rattle.gt_facts.proofs.Lookups.{all-item}
 use Rattle.gt_model.proofs.Items.{at-is}
-use Rattle.gt_model.proofs.Quiet.{quiet-IsIdle}
+use Rattle.gt_facts.proofs.Quiet.{quiet-IsIdle}
 
 -- whether a goroutine or a timer is of the program
 abbrev pub of_program : Goroutine → Bool

@@ -1,9 +1,9 @@
 //! Worked examples of the one-thread machine: each function's contract says what a small history is judged to be.
 #![tactic(auto)]
 
-ghost use Rattle.gt_model.specs.History.{History, AllJump};
-ghost use Rattle.gt_model.specs.After.{first_state};
-ghost use Rattle.gt_model.specs.Verdict.{IsVerdict};
+ghost use Rattle.gt_rules.specs.History.{History, AllJump};
+ghost use Rattle.gt_rules.specs.After.{first_state};
+ghost use Rattle.gt_rules.specs.Verdict.{IsVerdict};
 ghost use Rattle.gt_model.specs.declared.entry.Outcome.{Outcome};
 ghost use Rattle.gt_model.specs.declared.entry.Verdict.{Verdict};
 ghost use Rattle.gt_examples.specs.Words.{default_limits};

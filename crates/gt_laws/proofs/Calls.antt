@@ -9,14 +9,15 @@ use Rattle.gt_model.specs.declared.entry.Limits.{Limits}
 use Rattle.gt_model.specs.declared.state.Goroutine.{Goroutine}
 use Rattle.gt_model.specs.declared.state.Mode.{Mode}
 use Rattle.gt_model.specs.Tables.{numbered, change_numbered}
-use Rattle.gt_model.specs.Places.{first_place, place_after}
-use Rattle.gt_model.specs.State.{State, goroutine_at, instr_at, stands_at, world_of, func_of}
-use Rattle.gt_model.specs.After.{after, first_state, moved_on, asleep, took, in_mode, begun, timer_world}
-use Rattle.gt_model.specs.Legal.{May}
-use Rattle.gt_model.specs.Finish.{Legal}
-use Rattle.gt_model.specs.History.{AllLegal, state_after}
+use Rattle.gt_rules.specs.Places.{first_place, place_after}
+use Rattle.gt_rules.specs.State.{State, goroutine_at, stands_at, world_of}
+use Rattle.gt_model.specs.Script.{instr_at, func_of}
+use Rattle.gt_rules.specs.After.{after, first_state, moved_on, asleep, took, in_mode, begun, timer_world}
+use Rattle.gt_rules.specs.Legal.{May}
+use Rattle.gt_rules.specs.Finish.{Legal}
+use Rattle.gt_rules.specs.History.{AllLegal, state_after}
 use Rattle.gt_model.proofs.Changes.{length-change_numbered}
-use Rattle.gt_model.proofs.Lookups.{Standing, standing, Asleep, sleeper, AtOperation, at_operation}
+use Rattle.gt_facts.proofs.Lookups.{Standing, standing, Asleep, sleeper, AtOperation, at_operation}
 use Rattle.gt_laws.specs.Told.{goes_on, place_by, place_from, place_told, instr_told}
 use Rattle.gt_model.proofs.Items.{numbered-change_same, numbered-change_other, numbered-push_same, numbered-push_other}
 use Rattle.gt_laws.proofs.Numbers.{by-number}

@@ -5,15 +5,15 @@ use Rattle.gt_model.specs.declared.entry.Entry.{Entry}
 use Rattle.gt_model.specs.declared.entry.Limits.{Limits}
 use Rattle.gt_model.specs.declared.entry.Outcome.{Outcome}
 use Rattle.gt_model.specs.declared.state.Ending.{Ending}
-use Rattle.gt_model.specs.State.{State}
+use Rattle.gt_rules.specs.State.{State}
 use Rattle.gt_model.specs.Good.{IsGood}
-use Rattle.gt_model.specs.After.{after, first_state}
-use Rattle.gt_model.specs.Counted.{counted}
+use Rattle.gt_rules.specs.After.{after, first_state}
+use Rattle.gt_rules.specs.Counted.{counted}
 use Rattle.gt_model.specs.Tables.{least}
-use Rattle.gt_model.specs.declared.time.TheConstants.{CAP}
-use Rattle.gt_model.specs.Finish.{IsRunning, IsJump}
-use Rattle.gt_model.specs.History.{History, AllJump, ClockJumps, state_after}
-use Rattle.gt_model.proofs.Still.{still-IsIdle, idle-IsStill}
+use Rattle.gt_model.specs.Times.{greatest_time}
+use Rattle.gt_rules.specs.Finish.{IsRunning, IsJump}
+use Rattle.gt_rules.specs.History.{History, AllJump, ClockJumps, state_after}
+use Rattle.gt_facts.proofs.Still.{still-IsIdle, idle-IsStill}
 use Rattle.gt_laws.specs.Told.{ending_by, ending_from, ending_told, entries_by, entries_from, entries_told}
 use Rattle.gt_laws.specs.Laws.{AtEach}
 use Rattle.gt_laws.specs.Ends.{IsOn, EndsRightly, EndsWhereStuck}
@@ -70,7 +70,7 @@ jumps-at script slip s [] e rest all = all.0
 jumps-at script slip s (x ∷ front) e rest all = jumps-at script slip (after script s x) front e rest all.1
 
 no-jump : (script : Script) (s : State) (slip to : ℕ) → counted script s 0 ≡ [] → IsJump script s slip to → ⊥
-no-jump script s slip to none jump = subst (λ (times : List ℕ). IsSomeAnd (least times) (λ t. to ≡ min (t + slip) CAP)) none jump.to_least
+no-jump script s slip to none jump = subst (λ (times : List ℕ). IsSomeAnd (least times) (λ t. to ≡ min (t + slip) greatest_time)) none jump.to_least
 
 stuck-ends : (script : Script) (limits : Limits) (slip : ℕ) (front : List Entry) (e : Entry) → Comes script limits front e
     → ClockJumps script slip (state_after script (first_state script) front) e → EndsWhereStuck script limits front e

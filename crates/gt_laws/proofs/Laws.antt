@@ -7,16 +7,16 @@ use Rattle.gt_model.specs.declared.entry.Entry.{Entry}
 use Rattle.gt_model.specs.declared.entry.Limits.{Limits}
 use Rattle.gt_model.specs.declared.entry.Outcome.{Outcome}
 use Rattle.gt_model.specs.declared.state.Timer.{Timer}
-use Rattle.gt_model.specs.State.{State, stands_at, clock, clock_of, goroutine_at, timer_at, due_of, sleeps_until, until_of}
-use Rattle.gt_model.specs.Ready.{is_due}
+use Rattle.gt_rules.specs.State.{State, stands_at, clock, clock_of, goroutine_at, timer_at, due_of, sleeps_until, until_of}
+use Rattle.gt_rules.specs.Ready.{is_due}
 use Rattle.gt_model.specs.Good.{IsGood}
-use Rattle.gt_model.specs.After.{after, first_state}
-use Rattle.gt_model.specs.Legal.{May, due_at, sleep_end}
-use Rattle.gt_model.specs.Finish.{Legal}
-use Rattle.gt_model.specs.Formed.{IsFormed}
-use Rattle.gt_model.specs.History.{History, AllLegal, state_after}
-use Rattle.gt_model.proofs.Formed.{formed-first, formed-Legal, formed-history}
-use Rattle.gt_model.proofs.Lookups.{Standing, standing, AtOperation, at_operation, is_plain, stands_recv}
+use Rattle.gt_rules.specs.After.{after, first_state}
+use Rattle.gt_rules.specs.Legal.{May, due_at, sleep_end}
+use Rattle.gt_rules.specs.Finish.{Legal}
+use Rattle.gt_facts.specs.Formed.{IsFormed}
+use Rattle.gt_rules.specs.History.{History, AllLegal, state_after}
+use Rattle.gt_facts.proofs.Formed.{formed-first, formed-Legal, formed-history}
+use Rattle.gt_facts.proofs.Lookups.{Standing, standing, AtOperation, at_operation, is_plain, stands_recv}
 use Rattle.gt_laws.specs.Told.{clock_by, clock_from, clock_told}
 use Rattle.gt_laws.specs.Laws.{AtEach, InOrder, InTime, IsFresh}
 use Rattle.gt_laws.proofs.Timers.{due-told}

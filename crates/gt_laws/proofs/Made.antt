@@ -9,18 +9,18 @@ use Rattle.gt_model.specs.declared.entry.Outcome.{Outcome}
 use Rattle.gt_model.specs.declared.entry.Reason.{Reason}
 use Rattle.gt_model.specs.declared.state.Timer.{Timer}
 use Rattle.gt_model.specs.Tables.{at, change}
-use Rattle.gt_model.specs.State.{State, timer_at, due_of, stands_at}
-use Rattle.gt_model.specs.Panics.{fault, fault_at, panic_at, when}
+use Rattle.gt_rules.specs.State.{State, timer_at, due_of, stands_at}
+use Rattle.gt_rules.specs.Panics.{fault, fault_at, panic_at, when}
 use Rattle.gt_model.specs.Good.{IsGood}
-use Rattle.gt_model.specs.After.{after, set_due, set_again, first_state}
-use Rattle.gt_model.specs.Legal.{May, Does}
-use Rattle.gt_model.specs.Finish.{Legal}
-use Rattle.gt_model.specs.Formed.{IsFormed}
-use Rattle.gt_model.specs.History.{History, AllLegal, state_after}
-use Rattle.gt_model.proofs.Named.{named-May}
-use Rattle.gt_model.proofs.Still.{panic_stands}
-use Rattle.gt_model.proofs.Declared.{setting_within}
-use Rattle.gt_model.proofs.Formed.{formed-first, formed-Legal}
+use Rattle.gt_rules.specs.After.{after, set_due, set_again, first_state}
+use Rattle.gt_rules.specs.Legal.{May, Does}
+use Rattle.gt_rules.specs.Finish.{Legal}
+use Rattle.gt_facts.specs.Formed.{IsFormed}
+use Rattle.gt_rules.specs.History.{History, AllLegal, state_after}
+use Rattle.gt_facts.proofs.Named.{named-May}
+use Rattle.gt_facts.proofs.Still.{panic_stands}
+use Rattle.gt_facts.proofs.Within.{setting_within}
+use Rattle.gt_facts.proofs.Formed.{formed-first, formed-Legal}
 use Rattle.gt_model.proofs.Items.{at-set_same, at-set_other, at-change_same, at-change_other}
 use Rattle.gt_laws.specs.Told.{made_by, made_from, made_told}
 use Rattle.gt_laws.specs.Laws.{AtEach, IsMisuse, UsesRightly}

@@ -8,12 +8,13 @@ use Rattle.gt_model.specs.declared.entry.Limits.{Limits}
 use Rattle.gt_model.specs.declared.state.Goroutine.{Goroutine}
 use Rattle.gt_model.specs.declared.state.Mode.{Mode}
 use Rattle.gt_model.specs.Tables.{numbered, change_numbered}
-use Rattle.gt_model.specs.State.{State, goroutine_at, stands_at, sleeps_until, until_of, world_of, func_of}
-use Rattle.gt_model.specs.After.{after, first_state, moved_on, asleep, took, in_mode, begun, timer_world}
-use Rattle.gt_model.specs.Legal.{May}
-use Rattle.gt_model.specs.Finish.{Legal}
-use Rattle.gt_model.specs.History.{AllLegal, state_after}
-use Rattle.gt_model.proofs.Lookups.{Standing, standing, Asleep, sleeper, AtOperation, at_operation}
+use Rattle.gt_rules.specs.State.{State, goroutine_at, stands_at, sleeps_until, until_of, world_of}
+use Rattle.gt_model.specs.Script.{func_of}
+use Rattle.gt_rules.specs.After.{after, first_state, moved_on, asleep, took, in_mode, begun, timer_world}
+use Rattle.gt_rules.specs.Legal.{May}
+use Rattle.gt_rules.specs.Finish.{Legal}
+use Rattle.gt_rules.specs.History.{AllLegal, state_after}
+use Rattle.gt_facts.proofs.Lookups.{Standing, standing, Asleep, sleeper, AtOperation, at_operation}
 use Rattle.gt_laws.specs.Told.{until_by, until_from, until_told}
 use Rattle.gt_model.proofs.Items.{numbered-change_same, numbered-change_other}
 use Rattle.gt_laws.proofs.Numbers.{by-number}

@@ -5,9 +5,10 @@ use Rattle.gt_model.specs.declared.script.Script.{Script}
 use Rattle.gt_model.specs.declared.entry.Entry.{Entry}
 use Rattle.gt_model.specs.declared.state.Mode.{Mode}
 use Rattle.gt_model.specs.Tables.{change_numbered}
-use Rattle.gt_model.specs.State.{State, world_of, func_of}
-use Rattle.gt_model.specs.After.{after, first_state, moved_on, asleep, took, in_mode, begun, timer_world}
-use Rattle.gt_model.specs.History.{state_after}
+use Rattle.gt_rules.specs.State.{State, world_of}
+use Rattle.gt_model.specs.Script.{func_of}
+use Rattle.gt_rules.specs.After.{after, first_state, moved_on, asleep, took, in_mode, begun, timer_world}
+use Rattle.gt_rules.specs.History.{state_after}
 use Rattle.gt_model.proofs.Changes.{length-change_numbered}
 use Rattle.gt_laws.specs.Told.{started_by, started_from, started_told}
 

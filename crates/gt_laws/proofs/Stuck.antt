@@ -3,10 +3,11 @@ use Rattle.std.proofs.Common.{◌≡◌, ℕ, zero, suc, refl, subst, Some, fals
 use Rattle.gt_model.specs.declared.state.Goroutine.{Goroutine}
 use Rattle.gt_model.specs.declared.state.Timer.{Timer}
 use Rattle.gt_model.specs.declared.state.Mode.{Mode}
-use Rattle.gt_model.specs.State.{State, goroutine_at, timer_at, clock, is_func}
-use Rattle.gt_model.specs.After.{first_state}
-use Rattle.gt_model.specs.Ready.{is_due, is_ready}
-use Rattle.gt_model.specs.History.{state_after}
+use Rattle.gt_rules.specs.State.{State, goroutine_at, timer_at, clock}
+use Rattle.gt_model.specs.Script.{is_func}
+use Rattle.gt_rules.specs.After.{first_state}
+use Rattle.gt_rules.specs.Ready.{is_due, is_ready}
+use Rattle.gt_rules.specs.History.{state_after}
 use Rattle.gt_laws.specs.Broken.{one_wait, waits_in_vain}
 use Rattle.gt_laws.specs.Ends.{IsStuck}
 

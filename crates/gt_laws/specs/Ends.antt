@@ -5,10 +5,10 @@ use Rattle.gt_model.specs.declared.entry.Entry.{Entry}
 use Rattle.gt_model.specs.declared.entry.Limits.{Limits}
 use Rattle.gt_model.specs.declared.entry.Outcome.{Outcome}
 use Rattle.gt_model.specs.declared.state.Ending.{Ending}
-use Rattle.gt_model.specs.After.{first_state}
-use Rattle.gt_model.specs.Counted.{counted}
-use Rattle.gt_model.specs.History.{state_after}
-use Rattle.gt_model.specs.Still.{IsStill}
+use Rattle.gt_rules.specs.After.{first_state}
+use Rattle.gt_rules.specs.Counted.{counted}
+use Rattle.gt_rules.specs.History.{state_after}
+use Rattle.gt_facts.specs.Still.{IsStill}
 use Rattle.gt_laws.specs.Told.{ending_told, entries_told}
 
 -- nothing can go on after these entries: nobody is ready, no AfterFunc timer has come to its time, and no time is still to come

@@ -5,8 +5,8 @@ use Rattle.gt_model.specs.declared.script.Script.{Script}
 use Rattle.gt_model.specs.declared.script.Instr.{Instr}
 use Rattle.gt_model.specs.declared.entry.Entry.{Entry}
 use Rattle.gt_model.specs.declared.entry.Reason.{Reason}
-use Rattle.gt_model.specs.State.{is_func}
-use Rattle.gt_model.specs.Legal.{due_at, sleep_end}
+use Rattle.gt_model.specs.Script.{is_func}
+use Rattle.gt_rules.specs.Legal.{due_at, sleep_end}
 use Rattle.gt_laws.specs.Told.{clock_told, due_told, instr_told, made_told, started_told, until_told}
 
 -- it holds of each entry of a history, with the entries before it

@@ -8,8 +8,8 @@ use Rattle.gt_model.specs.declared.script.Instr.{Instr}
 use Rattle.gt_model.specs.declared.script.Place.{Place}
 use Rattle.gt_model.specs.declared.entry.Entry.{Entry}
 use Rattle.gt_model.specs.declared.state.Ending.{Ending}
-use Rattle.gt_model.specs.Places.{first_place, place_after}
-use Rattle.gt_model.specs.State.{instr_at, func_of}
+use Rattle.gt_rules.specs.Places.{first_place, place_after}
+use Rattle.gt_model.specs.Script.{instr_at, func_of}
 
 -- the program's clock: the time of its last move
 abbrev pub clock_by : Entry → ℕ → ℕ

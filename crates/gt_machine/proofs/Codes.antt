@@ -8,8 +8,9 @@ use Rattle.gt_model.specs.declared.script.Place.{Place}
 use Rattle.gt_model.specs.declared.state.Goroutine.{Goroutine}
 use Rattle.gt_model.specs.declared.state.Mode.{Mode}
 use Rattle.gt_model.specs.Tables.{numbered}
-use Rattle.gt_model.specs.State.{State, code_of, instr_at, goroutine_at}
-use Rattle.gt_model.specs.Formed.{IsFormed, IsPlacedIn}
+use Rattle.gt_rules.specs.State.{State, goroutine_at}
+use Rattle.gt_model.specs.Script.{code_of, instr_at}
+use Rattle.gt_facts.specs.Formed.{IsFormed, IsPlacedIn}
 use Rattle.gt_machine.specs.Places.{placed_at}
 
 -- the goroutine and its function that were looked up, where the number is a goroutine's

@@ -13,13 +13,14 @@ use Rattle.gt_model.specs.declared.state.Goroutine.{Goroutine}
 use Rattle.gt_model.specs.declared.state.Mode.{Mode}
 use Rattle.gt_model.specs.declared.state.Timer.{Timer}
 use Rattle.gt_model.specs.Tables.{numbered, change_numbered}
-use Rattle.gt_model.specs.State.{State, code_of, goroutine_at, stands, stands_at, until_of, sleeps_until}
+use Rattle.gt_rules.specs.State.{State, goroutine_at, stands, stands_at, until_of, sleeps_until}
+use Rattle.gt_model.specs.Script.{code_of}
 use Rattle.gt_model.specs.Good.{IsGood, instruction_count}
-use Rattle.gt_model.specs.Legal.{operation_at}
-use Rattle.gt_model.specs.Formed.{IsFormed, IsPlacedIn}
+use Rattle.gt_rules.specs.Legal.{operation_at}
+use Rattle.gt_facts.specs.Formed.{IsFormed, IsPlacedIn}
 use Rattle.gt_model.proofs.Tables.{change_numbered-set}
 use Rattle.gt_model.proofs.Changes.{length-change_numbered}
-use Rattle.gt_model.proofs.Lookups.{AtOperation, at_operation}
+use Rattle.gt_facts.proofs.Lookups.{AtOperation, at_operation}
 
 -- the item at the place below a number has that number
 pub numbered_below : {X : Type 0} (xs : List X) (g : ℕ) (x : X) (P : X → Type 0) → IsSomeAnd (numbered xs g) P → slice_get xs (g - 1) ≡ Some x → numbered xs g ≡ Some x

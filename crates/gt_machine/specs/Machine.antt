@@ -1,6 +1,6 @@
 -- The state that a machine's fields mean.
 use Rattle.std.specs.Prelude.{◌+◌, [], ◌∷◌}
-use Rattle.gt_model.specs.State.{State}
+use Rattle.gt_rules.specs.State.{State}
 use Rattle.gt_machine.specs.declared.machine.Machine.{Machine}
 
 abbrev pub state_of : Machine → State

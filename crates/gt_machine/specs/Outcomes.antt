@@ -5,7 +5,7 @@ use Rattle.std.specs.declared.option.Option.TheVariants.{None, Some}
 use Rattle.gt_model.specs.declared.entry.Limits.{Limits}
 use Rattle.gt_model.specs.declared.entry.Outcome.{Outcome}
 use Rattle.gt_model.specs.declared.state.Ending.{Ending}
-use Rattle.gt_model.specs.State.{State}
+use Rattle.gt_rules.specs.State.{State}
 
 -- the outcome of the run, if it has one
 abbrev pub outcome_in : Ending → Option Outcome

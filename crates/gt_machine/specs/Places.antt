@@ -4,7 +4,8 @@ use Rattle.std.specs.declared.option.Option.{Option}
 use Rattle.std.specs.declared.option.Option.TheVariants.{None, Some}
 use Rattle.gt_model.specs.declared.script.Script.{Script}
 use Rattle.gt_model.specs.declared.script.Instr.{Instr}
-use Rattle.gt_model.specs.State.{State, goroutine_at, instr_at}
+use Rattle.gt_rules.specs.State.{State, goroutine_at}
+use Rattle.gt_model.specs.Script.{instr_at}
 
 -- the instruction at a goroutine's place, whatever its mode
 abbrev pub placed_at : Script → State → ℕ → Option Instr

@@ -4,11 +4,11 @@ ghost use Rattle.std.specs.Prelude.{◌≡◌, ◌+◌, ◌<◌, ◌≤◌, ◌+
 ghost use Rattle.std.specs.Option.{option_map};
 ghost use Rattle.gt_model.specs.Tables.{numbered, change, change_numbered};
 ghost use Rattle.gt_model.specs.Good.{IsGood};
-ghost use Rattle.gt_model.specs.State as at;
-ghost use Rattle.gt_model.specs.Panics as panics;
-ghost use Rattle.gt_model.specs.After.{after, moved_on, in_mode, begun, set_due, set_again, moves, ends, with_new, with_goroutine, with_timer, with_due, first_state};
-ghost use Rattle.gt_model.specs.Legal.{May};
-ghost use Rattle.gt_model.specs.Formed.{IsFormed};
+ghost use Rattle.gt_rules.specs.State as at;
+ghost use Rattle.gt_rules.specs.Panics as panics;
+ghost use Rattle.gt_rules.specs.After.{after, moved_on, in_mode, begun, set_due, set_again, moves, ends, with_new, with_goroutine, with_timer, with_due, first_state};
+ghost use Rattle.gt_rules.specs.Legal.{May};
+ghost use Rattle.gt_facts.specs.Formed.{IsFormed};
 ghost use Rattle.gt_machine.specs.Machine.{state_of, counted};
 ghost use Rattle.gt_machine.specs.Outcomes as outcomes;
 ghost use Rattle.gt_machine.specs.Places.{placed_at};

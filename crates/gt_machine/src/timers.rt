@@ -1,7 +1,7 @@
 //! Changes of timers that were made.
 
 ghost use Rattle.std.specs.Prelude.{◌≡◌};
-ghost use Rattle.gt_model.specs.After.{set_due, set_again};
+ghost use Rattle.gt_rules.specs.After.{set_due, set_again};
 
 use gt_model::Timer;
 

@@ -4,9 +4,8 @@ use Rattle.std.proofs.lemmas.Option.{slice_get_within}
 use Rattle.gt_model.specs.declared.script.Script.{Script}
 use Rattle.gt_model.specs.declared.script.Decl.{Decl}
 use Rattle.gt_model.specs.declared.script.What.{What}
-use Rattle.gt_model.specs.State.{State, what_at, is_timer, is_func, names_timer, names_func}
+use Rattle.gt_model.specs.Script.{what_at, is_timer, is_func, names_timer, names_func}
 use Rattle.gt_model.specs.Good.{is_setting}
-use Rattle.gt_model.specs.Formed.{IsFormed}
 
 pub declared_within : (script : Script) (t : ℕ) (P : Option What → Bool) → P None ≡ false → IsTrue (P (what_at script t)) → t < length script.decls
 declared_within script t P h k =
@@ -28,13 +27,3 @@ timer_setting script t h = rw h refl
 pub func_setting : (script : Script) (t : ℕ) → IsTrue (is_func script t) → IsTrue (is_setting script t)
 func_setting script t h =
     elim (is_timer script t) as (λ b. (b || is_func script t) ≡ true) [ true ↦ refl | false ↦ h ]
-
--- and has a place among the timers of a formed state
-pub setting_within : (script : Script) (s : State) (t : ℕ) → IsFormed script s → IsTrue (is_setting script t) → t < length s.timers
-setting_within script s t formed h = rw formed.timers (setting_declared script t h)
-
-pub timer_within : (script : Script) (s : State) (t : ℕ) → IsFormed script s → IsTrue (is_timer script t) → t < length s.timers
-timer_within script s t formed h = setting_within script s t formed (timer_setting script t h)
-
-pub func_within : (script : Script) (s : State) (t : ℕ) → IsFormed script s → IsTrue (is_func script t) → t < length s.timers
-func_within script s t formed h = setting_within script s t formed (func_setting script t h)

@@ -1,11 +1,5 @@
 pub mod Tables
-pub mod Histories
-pub mod GoodCode
-pub mod Lookups
-pub mod Quiet
-pub mod Still
-pub mod Formed
-pub mod Named
-pub mod Changes
 pub mod Items
+pub mod GoodCode
 pub mod Declared
+pub mod Changes

@@ -1,15 +1,17 @@
 -- What a script keeps to that the reader accepts.
-use Rattle.std.specs.Prelude.{ℕ, ◌+◌, ◌-◌, ◌<◌, ◌≤◌, ◌≡◌, ◌==◌, nat_le, Bool, true, false, ◌&&◌, ◌||◌, IsTrue, List, [], ◌∷◌, length, slice_get, sum_by}
+use Rattle.std.specs.Prelude.{ℕ, ◌+◌, ◌-◌, ◌<◌, ◌≤◌, ◌≡◌, ◌≢◌, ◌==◌, nat_le, Bool, true, false, cond, ◌&&◌, ◌||◌, IsTrue, List, [], ◌∷◌, ◌++◌, length, map, slice_get, sum_by, codes}
 use Rattle.std.specs.List.{All, list_all}
+use Rattle.std.specs.Option.{option_map, option_and_then}
+use Rattle.std.specs.declared.option.Option.{Option}
 use Rattle.std.specs.declared.option.Option.TheVariants.{Some}
 use Rattle.gt_model.specs.declared.script.Script.{Script}
 use Rattle.gt_model.specs.declared.script.Decl.{Decl}
 use Rattle.gt_model.specs.declared.script.Func.{Func}
 use Rattle.gt_model.specs.declared.script.What.{What}
 use Rattle.gt_model.specs.declared.script.Instr.{Instr}
-use Rattle.gt_model.specs.declared.time.TheConstants.{CAP}
+use Rattle.gt_model.specs.Times.{greatest_time}
 use Rattle.gt_model.specs.declared.entry.Limits.{Limits}
-use Rattle.gt_model.specs.State.{what_at, is_timer, is_func}
+use Rattle.gt_model.specs.Script.{what_at, is_timer, is_func}
 
 -- a timer that is set and stopped: a channel timer or an AfterFunc timer
 abbrev pub is_setting : Script → ℕ → Bool
@@ -34,11 +36,11 @@ is_name (b ∷ bs) = is_letter b && list_all is_name_byte bs && nat_le (length b
 abbrev pub NamesRightly : Script → Instr → Type 0
 NamesRightly script (Instr.Say n) = Unit {0}
 NamesRightly script Instr.Now = Unit {0}
-NamesRightly script (Instr.Sleep d) = d ≤ CAP
+NamesRightly script (Instr.Sleep d) = d ≤ greatest_time
 NamesRightly script (Instr.Go f) = f < length script.funcs
-NamesRightly script (Instr.New t d) = IsTrue (is_setting script t) × (d ≤ CAP)
+NamesRightly script (Instr.New t d) = IsTrue (is_setting script t) × (d ≤ greatest_time)
 NamesRightly script (Instr.Stop t) = IsTrue (is_setting script t)
-NamesRightly script (Instr.Reset t d) = IsTrue (is_setting script t) × (d ≤ CAP)
+NamesRightly script (Instr.Reset t d) = IsTrue (is_setting script t) × (d ≤ greatest_time)
 NamesRightly script (Instr.Recv o) = IsTrue (is_timer script o)
 NamesRightly script Instr.Finish = Unit {0}
 
@@ -80,11 +82,33 @@ most_entries = 200000
 abbrev pub instruction_count : Script → ℕ
 instruction_count script = sum_by (λ (f : Func). length f.code - 1) script.funcs
 
+-- whether a declaration is that of a function
+abbrev pub is_function : What → Bool
+is_function What.Timer = false
+is_function (What.AfterFunc func) = false
+is_function What.Function = true
+
+-- the places of the functions among declarations, the first of which has the place i
+abbrev pub function_places : ℕ → List Decl → List ℕ
+function_places i [] = []
+function_places i (d ∷ ds) = cond (is_function d.what) (i ∷ []) [] ++ function_places (i + 1) ds
+
+-- the name of a function
+abbrev pub function_name : Script → ℕ → Option (List ℕ)
+function_name script f = option_and_then (λ (func : Func). option_map (λ (d : Decl). d.name) (slice_get script.decls func.decl)) (slice_get script.funcs f)
+
+-- each name is a name, and none is `root`, which is that of the context which nobody makes; no two declarations have the same
+pub record HasNames (decls : List Decl) : Type 0 where
+  pub each : All (λ (d : Decl). IsTrue (is_name d.name)) decls
+  pub none_is_root : All (λ (d : Decl). d.name ≢ codes "root") decls
+  pub differ : (i j : ℕ) (a b : Decl) → slice_get decls i ≡ Some a → slice_get decls j ≡ Some b → a.name ≡ b.name → i ≡ j
+
 pub record IsGood (script : Script) : Type 0 where
-  pub main : script.main < length script.funcs
-  pub names : All (λ (d : Decl). IsTrue (is_name d.name)) script.decls
+  pub main : function_name script script.main ≡ Some (codes "main")
+  pub names : HasNames script.decls
   pub starts : All (λ (d : Decl). StartsRightly script d.what) script.decls
-  pub kinds : All (λ (f : Func). what_at script f.decl ≡ Some What.Function) script.funcs
+  -- the functions are the declarations of functions, in their order
+  pub functions : map (λ (f : Func). f.decl) script.funcs ≡ function_places 0 script.decls
   pub code : All (λ (f : Func). IsGoodCode script f.code) script.funcs
   pub few_names : length script.decls ≤ most_names
   pub few_functions : length script.funcs ≤ most_functions

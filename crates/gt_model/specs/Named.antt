@@ -2,7 +2,7 @@
 use Rattle.std.specs.Prelude.{◌<◌, ◌≤◌, IsTrue, List, [], ◌∷◌, length}
 use Rattle.gt_model.specs.declared.script.Script.{Script}
 use Rattle.gt_model.specs.declared.entry.Entry.{Entry}
-use Rattle.gt_model.specs.State.{is_timer, is_func}
+use Rattle.gt_model.specs.Script.{is_timer, is_func}
 use Rattle.gt_model.specs.Good.{is_setting}
 
 abbrev pub IsNamed : Script → Entry → Type 0

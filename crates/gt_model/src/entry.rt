@@ -9,7 +9,7 @@ pub struct Party {
 
 /// What happened: one call of a goroutine with its answer, or one move of a clock. Goroutines are numbered from 1 in the
 /// order in which they are made; times are in nanoseconds.
-#[derive(Clone, Copy, Debug, PartialEq, Eq)]
+#[derive(Clone, Copy)]
 pub enum Entry {
     /// A goroutine said a number.
     Say {

@@ -1,8 +1,7 @@
 //! The lists of a script. Each is made of a `Vec`, keeps its order, and lends its items as a slice.
 
-ghost use Rattle.std.specs.Prelude.{◌≡◌, IfOk};
+ghost use Rattle.std.specs.Prelude.{◌≡◌};
 
-use crate::NoMemory;
 use crate::script::{Decl, Func, Instr};
 use std::marker::Model;
 
@@ -33,16 +32,6 @@ impl Text {
         ensures { result.now ≡ self.now }
     {
         self.items.as_slice()
-    }
-
-    /// An equal list, or no memory.
-    pub fn copy(&self) -> Result<Text, NoMemory>
-        ensures { IfOk result (λ copy. copy ≡ self.now) }
-    {
-        match Vec::from_slice(*self.items.allocator(), self.items.as_slice()) {
-            Ok(items) => Ok(Text { items }),
-            Err(_) => Err(NoMemory),
-        }
     }
 }
 
@@ -75,17 +64,6 @@ impl Decls {
     {
         self.items.as_slice()
     }
-
-    /// An equal list, or no memory.
-    pub fn copy(&self) -> Result<Decls, NoMemory>
-        ensures { IfOk result (λ copy. copy ≡ self.now) }
-    {
-        let mut items = Vec::new(*self.items.allocator());
-        for item in &self.items {
-            items.push(item.copy()?).map_err(|_| NoMemory)?;
-        }
-        Ok(Decls { items })
-    }
 }
 
 /// The functions, in the order of their lines.
@@ -117,17 +95,6 @@ impl Funcs {
     {
         self.items.as_slice()
     }
-
-    /// An equal list, or no memory.
-    pub fn copy(&self) -> Result<Funcs, NoMemory>
-        ensures { IfOk result (λ copy. copy ≡ self.now) }
-    {
-        let mut items = Vec::new(*self.items.allocator());
-        for item in &self.items {
-            items.push(item.copy()?).map_err(|_| NoMemory)?;
-        }
-        Ok(Funcs { items })
-    }
 }
 
 /// The instructions of a function, in order.
@@ -158,15 +125,5 @@ impl Code {
         ensures { result.now ≡ self.now }
     {
         self.items.as_slice()
-    }
-
-    /// An equal list, or no memory.
-    pub fn copy(&self) -> Result<Code, NoMemory>
-        ensures { IfOk result (λ copy. copy ≡ self.now) }
-    {
-        match Vec::from_slice(*self.items.allocator(), self.items.as_slice()) {
-            Ok(items) => Ok(Code { items }),
-            Err(_) => Err(NoMemory),
-        }
     }
 }

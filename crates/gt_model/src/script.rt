@@ -1,8 +1,5 @@
 //! A script: its declarations, and the code of its functions.
 
-ghost use Rattle.std.specs.Prelude.{◌≡◌, IfOk};
-
-use crate::NoMemory;
 use crate::lists::{Code, Decls, Funcs, Text};
 
 /// A script as the reader makes it. Declarations and functions are in the order of their lines, counted from 0.
@@ -15,21 +12,6 @@ pub struct Script {
     pub main: u32,
 }
 
-impl Script {
-    /// An equal script, or no memory.
-    pub fn copy(&self) -> Result<Script, NoMemory>
-        ensures { IfOk result (λ copy. copy ≡ self.now) }
-    {
-        let decls = self.decls.copy()?;
-        let funcs = self.funcs.copy()?;
-        Ok(Script {
-            decls,
-            funcs,
-            main: self.main,
-        })
-    }
-}
-
 /// A declared name.
 #[derive(Drop)]
 pub struct Decl {
@@ -38,20 +20,8 @@ pub struct Decl {
     pub what: What,
 }
 
-impl Decl {
-    /// An equal declaration, or no memory.
-    pub fn copy(&self) -> Result<Decl, NoMemory>
-        ensures { IfOk result (λ copy. copy ≡ self.now) }
-    {
-        Ok(Decl {
-            name: self.name.copy()?,
-            what: self.what,
-        })
-    }
-}
-
 /// What a name is declared as.
-#[derive(Clone, Copy, Debug, PartialEq, Eq)]
+#[derive(Clone, Copy)]
 pub enum What {
     /// A one-shot channel timer.
     Timer,
@@ -69,20 +39,8 @@ pub struct Func {
     pub code: Code,
 }
 
-impl Func {
-    /// An equal function, or no memory.
-    pub fn copy(&self) -> Result<Func, NoMemory>
-        ensures { IfOk result (λ copy. copy ≡ self.now) }
-    {
-        Ok(Func {
-            decl: self.decl,
-            code: self.code.copy()?,
-        })
-    }
-}
-
 /// An instruction of a goroutine.
-#[derive(Clone, Copy, Debug, PartialEq, Eq)]
+#[derive(Drop)]
 pub enum Instr {
     /// Say a number.
     Say { n: u32 },
@@ -105,7 +63,7 @@ pub enum Instr {
 }
 
 /// Where a goroutine stands.
-#[derive(Clone, Copy, Debug, PartialEq, Eq)]
+#[derive(Clone, Copy)]
 pub struct Place {
     /// The place of the function in the script's `funcs`.
     pub func: u32,

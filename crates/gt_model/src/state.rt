@@ -15,7 +15,7 @@ pub enum Mode {
 }
 
 /// A goroutine.
-#[derive(Clone, Copy, Debug, PartialEq, Eq)]
+#[derive(Clone, Copy)]
 pub struct Goroutine {
     /// The world whose clock it has; the program is world 0.
     pub world: u32,
@@ -24,7 +24,7 @@ pub struct Goroutine {
 }
 
 /// A timer that was made.
-#[derive(Clone, Copy, Debug, PartialEq, Eq)]
+#[derive(Clone, Copy)]
 pub struct Timer {
     /// The world in which it was made, whose clock it has.
     pub world: u32,

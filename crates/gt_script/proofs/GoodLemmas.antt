@@ -15,8 +15,8 @@ use Rattle.gt_model.specs.declared.script.Func.{Func}
 use Rattle.gt_model.specs.declared.script.Decl.{Decl}
 use Rattle.gt_model.specs.declared.script.What.{What}
 use Rattle.gt_model.specs.declared.script.Instr.{Instr}
-use Rattle.gt_model.specs.declared.time.TheConstants.{CAP}
-use Rattle.gt_model.specs.State.{what_at, names_timer, names_func, is_timer as model_is_timer}
+use Rattle.gt_model.specs.Times.{greatest_time}
+use Rattle.gt_model.specs.Script.{what_at, names_timer, names_func, is_timer as model_is_timer}
 use Rattle.gt_model.specs.Good.{is_setting as model_is_setting, is_name, is_finish, NamesRightly, StartsRightly, IsGoodInstr, IsGoodCode, IsGood}
 use Rattle.gt_script.specs.declared.fault.Why.{Why}
 use Rattle.gt_script.specs.declared.fault.ScriptFault.{ScriptFault}
@@ -149,11 +149,11 @@ record Ref (names : Names) : Type 0 where
 abbrev Refers : Names → Instr → Type 0
 Refers names (Instr.Say n) = Unit {0}
 Refers names Instr.Now = Unit {0}
-Refers names (Instr.Sleep d) = d ≤ CAP
+Refers names (Instr.Sleep d) = d ≤ greatest_time
 Refers names (Instr.Go f) = (r : Ref names) × (is_kind_function r.declared.kind ≡ true) × (f ≡ r.declared.func)
-Refers names (Instr.New t d) = (r : Ref names) × (is_kind_function r.declared.kind ≡ false) × (t ≡ r.declared.place) × (d ≤ CAP)
+Refers names (Instr.New t d) = (r : Ref names) × (is_kind_function r.declared.kind ≡ false) × (t ≡ r.declared.place) × (d ≤ greatest_time)
 Refers names (Instr.Stop t) = (r : Ref names) × (is_kind_function r.declared.kind ≡ false) × (t ≡ r.declared.place)
-Refers names (Instr.Reset t d) = (r : Ref names) × (is_kind_function r.declared.kind ≡ false) × (t ≡ r.declared.place) × (d ≤ CAP)
+Refers names (Instr.Reset t d) = (r : Ref names) × (is_kind_function r.declared.kind ≡ false) × (t ≡ r.declared.place) × (d ≤ greatest_time)
 Refers names (Instr.Recv o) = (r : Ref names) × (is_kind_timer r.declared.kind ≡ true) × (o ≡ r.declared.place)
 Refers names Instr.Finish = ⊥
 
@@ -523,10 +523,10 @@ done-shuts names n f k line rest d s m ih = record {
 }
 
 -- a duration is at most the greatest
-capped-most : (n : ℕ) → IfSome (result_ok (capped n)) (λ d. d ≤ CAP)
-capped-most n = cond_both (leb n CAP) (Ok n) (Err DurFault.Big) (λ r. IfSome (result_ok r) (λ d. d ≤ CAP)) (λ e. leb-true n CAP e) (λ e. tt)
+capped-most : (n : ℕ) → IfSome (result_ok (capped n)) (λ d. d ≤ greatest_time)
+capped-most n = cond_both (leb n greatest_time) (Ok n) (Err DurFault.Big) (λ r. IfSome (result_ok r) (λ d. d ≤ greatest_time)) (λ e. leb-true n greatest_time e) (λ e. tt)
 
-outcome-most : (o : Option ℕ) (n : ℕ) → IfSome (result_ok (outcome_of o n)) (λ d. d ≤ CAP)
+outcome-most : (o : Option ℕ) (n : ℕ) → IfSome (result_ok (outcome_of o n)) (λ d. d ≤ greatest_time)
 outcome-most None n = capped-most n
 outcome-most (Some at) n = tt
 
@@ -534,17 +534,17 @@ IfSome-if : {X : Type 0} (b : Bool) (r s : Result ℕ X) (P : ℕ → Type 0) �
 IfSome-if true r s P h k = h
 IfSome-if false r s P h k = k
 
-read-most : (text : List ℕ) → IfSome (result_ok (read_of text)) (λ d. d ≤ CAP)
+read-most : (text : List ℕ) → IfSome (result_ok (read_of text)) (λ d. d ≤ greatest_time)
 read-most text =
-    IfSome-if (eqb (length text) 0) (Err DurFault.Empty) (cond (bytes_eq text (codes "0")) (Ok 0) (cond (begins_with_digit text) (outcome_of (unmet_place text) (nanoseconds_of text)) (Err DurFault.Digit))) (λ d. d ≤ CAP) tt
-    (IfSome-if (bytes_eq text (codes "0")) (Ok 0) (cond (begins_with_digit text) (outcome_of (unmet_place text) (nanoseconds_of text)) (Err DurFault.Digit)) (λ d. d ≤ CAP) (omega arith)
-    (IfSome-if (begins_with_digit text) (outcome_of (unmet_place text) (nanoseconds_of text)) (Err DurFault.Digit) (λ d. d ≤ CAP) (outcome-most (unmet_place text) (nanoseconds_of text)) tt))
+    IfSome-if (eqb (length text) 0) (Err DurFault.Empty) (cond (bytes_eq text (codes "0")) (Ok 0) (cond (begins_with_digit text) (outcome_of (unmet_place text) (nanoseconds_of text)) (Err DurFault.Digit))) (λ d. d ≤ greatest_time) tt
+    (IfSome-if (bytes_eq text (codes "0")) (Ok 0) (cond (begins_with_digit text) (outcome_of (unmet_place text) (nanoseconds_of text)) (Err DurFault.Digit)) (λ d. d ≤ greatest_time) (omega arith)
+    (IfSome-if (begins_with_digit text) (outcome_of (unmet_place text) (nanoseconds_of text)) (Err DurFault.Digit) (λ d. d ≤ greatest_time) (outcome-most (unmet_place text) (nanoseconds_of text)) tt))
 
-some-most : (b : Bool) (o : Option ℕ) → IfSome o (λ d. d ≤ CAP) → IfSome (cond b o None) (λ d. d ≤ CAP)
+some-most : (b : Bool) (o : Option ℕ) → IfSome o (λ d. d ≤ greatest_time) → IfSome (cond b o None) (λ d. d ≤ greatest_time)
 some-most true o h = h
 some-most false o h = tt
 
-duration-most : (word : List ℕ) → IfSome (duration_of word) (λ d. d ≤ CAP)
+duration-most : (word : List ℕ) → IfSome (duration_of word) (λ d. d ≤ greatest_time)
 duration-most word = some-most (is_utf8 word) (result_ok (read_of word)) (read-most word)
 
 -- a right statement that is an instruction refers to what is declared
@@ -568,17 +568,17 @@ refers-recv : (names : Names) (q : List ℕ) (o : Option Declared) → names q �
 refers-recv names q None e h = tt
 refers-recv names q (Some d) e h = (ref names q d e, h, refl)
 
-refers-new : (names : Names) (q : List ℕ) (o : Option Declared) (t : Option ℕ) → names q ≡ o → is_setting o ≡ true → IfSome t (λ d. d ≤ CAP) → IfSome (timed (λ a b. Instr.New a b) o t) (λ i. Refers names i)
+refers-new : (names : Names) (q : List ℕ) (o : Option Declared) (t : Option ℕ) → names q ≡ o → is_setting o ≡ true → IfSome t (λ d. d ≤ greatest_time) → IfSome (timed (λ a b. Instr.New a b) o t) (λ i. Refers names i)
 refers-new names q None t e h c = tt
 refers-new names q (Some d) None e h c = tt
 refers-new names q (Some d) (Some n) e h c = (ref names q d e, setting-kind d.kind h, refl, c)
 
-refers-reset : (names : Names) (q : List ℕ) (o : Option Declared) (t : Option ℕ) → names q ≡ o → is_setting o ≡ true → IfSome t (λ d. d ≤ CAP) → IfSome (timed (λ a b. Instr.Reset a b) o t) (λ i. Refers names i)
+refers-reset : (names : Names) (q : List ℕ) (o : Option Declared) (t : Option ℕ) → names q ≡ o → is_setting o ≡ true → IfSome t (λ d. d ≤ greatest_time) → IfSome (timed (λ a b. Instr.Reset a b) o t) (λ i. Refers names i)
 refers-reset names q None t e h c = tt
 refers-reset names q (Some d) None e h c = tt
 refers-reset names q (Some d) (Some n) e h c = (ref names q d e, setting-kind d.kind h, refl, c)
 
-refers-sleep : (names : Names) (t : Option ℕ) → IfSome t (λ d. d ≤ CAP) → IfSome (option_map (λ (n : ℕ). Instr.Sleep n) t) (λ i. Refers names i)
+refers-sleep : (names : Names) (t : Option ℕ) → IfSome t (λ d. d ≤ greatest_time) → IfSome (option_map (λ (n : ℕ). Instr.Sleep n) t) (λ i. Refers names i)
 refers-sleep names None h = tt
 refers-sleep names (Some d) h = h
 

@@ -5,11 +5,11 @@ use Rattle.gt_model.specs.declared.entry.Limits.{Limits}
 use Rattle.gt_model.specs.declared.entry.Outcome.{Outcome}
 use Rattle.gt_model.specs.declared.state.Ending.{Ending}
 use Rattle.gt_model.specs.Good.{IsGood}
-use Rattle.gt_model.specs.State.{State}
-use Rattle.gt_model.specs.After.{first_state}
-use Rattle.gt_model.specs.History.{History, AllLegal, AllJump, state_after}
+use Rattle.gt_rules.specs.State.{State}
+use Rattle.gt_rules.specs.After.{first_state}
+use Rattle.gt_rules.specs.History.{History, AllLegal, AllJump, state_after}
 use Rattle.gt_model.specs.Named.{AllNamed}
-use Rattle.gt_model.proofs.Named.{AllNamed-legal}
+use Rattle.gt_facts.proofs.Named.{AllNamed-legal}
 use Rattle.gt_laws.proofs.Laws.{each-in_order, each-in_time, each-fresh}
 use Rattle.gt_laws.proofs.Made.{each-uses_rightly}
 use Rattle.gt_laws.proofs.Ends.{each-ends, each-ends_where_stuck}

@@ -2,16 +2,16 @@
 use Rattle.std.proofs.Common.{◌≡◌, ℕ, zero, suc, ◌+◌, ◌<◌, [], ◌∷◌, ◌++◌, refl, sym, subst, arith, Option, None, Some, MatchOption, Bool, false, length, length-append, inl, inr}
 use Rattle.gt_model.specs.declared.entry.Entry.{Entry}
 use Rattle.gt_model.specs.declared.entry.Outcome.{Outcome}
-use Rattle.gt_model.specs.After.{first_state}
-use Rattle.gt_model.specs.History.{ClockJumps}
+use Rattle.gt_rules.specs.After.{first_state}
+use Rattle.gt_rules.specs.History.{ClockJumps}
 use Rattle.gt_book.specs.declared.answers.Did.{Did}
 use Rattle.gt_book.specs.declared.answers.TimerOp.{TimerOp}
 use Rattle.gt_book.specs.declared.step.Step.{Step}
 use Rattle.gt_book.specs.Schedule.{parked_at}
 use Rattle.gt_model.specs.declared.script.Script.{Script}
 use Rattle.gt_model.specs.declared.script.Instr.{Instr}
-use Rattle.gt_model.specs.State.{State, clock_of}
-use Rattle.gt_model.specs.Panics.{fault}
+use Rattle.gt_rules.specs.State.{State, clock_of}
+use Rattle.gt_rules.specs.Panics.{fault}
 use Rattle.gt_book.specs.Steps.{step_of, step_of_instr, step_or_panic, plainly, Steps, Does, entry_of, is_gone, Commits}
 use Rattle.gt_book.specs.declared.answers.Op.{Op}
 use Rattle.gt_book.specs.declared.answers.Commit.{Commit}

@@ -8,8 +8,8 @@ use Rattle.gt_model.specs.declared.script.Script.{Script}
 use Rattle.gt_model.specs.declared.entry.Entry.{Entry}
 use Rattle.gt_model.specs.declared.entry.Limits.{Limits}
 use Rattle.gt_model.specs.declared.entry.Outcome.{Outcome}
-use Rattle.gt_model.specs.After.{first_state}
-use Rattle.gt_model.specs.History.{History, AllJump}
+use Rattle.gt_rules.specs.After.{first_state}
+use Rattle.gt_rules.specs.History.{History, AllJump}
 use Rattle.gt_laws.specs.Laws.{AtEach, InOrder, InTime, IsFresh, UsesRightly}
 use Rattle.gt_laws.specs.Ends.{EndsRightly, EndsWhereStuck}
 use Rattle.gt_script.specs.Grammar.{IsFirstFault, Spells}

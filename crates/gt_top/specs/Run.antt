@@ -4,8 +4,8 @@ use Rattle.std.specs.declared.option.Option.{Option}
 use Rattle.std.specs.declared.option.Option.TheVariants.{None, Some}
 use Rattle.gt_model.specs.declared.script.Script.{Script}
 use Rattle.gt_model.specs.declared.entry.Limits.{Limits}
-use Rattle.gt_model.specs.After.{first_state}
-use Rattle.gt_model.specs.History.{AllJump}
+use Rattle.gt_rules.specs.After.{first_state}
+use Rattle.gt_rules.specs.History.{AllJump}
 use Rattle.gt_book.specs.declared.status.RunStatus.{RunStatus}
 use Rattle.gt_book.specs.Schedule.{status_of}
 use Rattle.gt_book.specs.View.{BookView, outcome_of, queued_count}

@@ -3,7 +3,7 @@
 
 ghost use Rattle.std.specs.Prelude.{◌≡◌, ◌≤◌, ◌<◌, false, IfOk, IsSomeAnd, Some, None};
 ghost use Rattle.gt_model.specs.Good.{IsGood, AreLimits};
-ghost use Rattle.gt_model.specs.State as at;
+ghost use Rattle.gt_rules.specs.State as at;
 ghost use Rattle.gt_book.specs.Least.{NobodyRuns, IsTimeOf};
 ghost use Rattle.gt_book.specs.Schedule.{status_of};
 ghost use Rattle.gt_book.specs.Steps.{MayCommit, is_gone, step_of};

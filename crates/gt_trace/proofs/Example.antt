@@ -7,7 +7,7 @@ use Rattle.gt_model.specs.declared.script.Decl.{Decl}
 use Rattle.gt_model.specs.declared.script.Func.{Func}
 use Rattle.gt_model.specs.declared.script.What.{What}
 use Rattle.gt_model.specs.declared.script.Instr.{Instr}
-use Rattle.gt_model.specs.State.{what_at}
+use Rattle.gt_model.specs.Script.{what_at}
 use Rattle.gt_model.specs.Good.{IsGood, IsGoodCode, IsGoodInstr, StartsRightly, is_name}
 
 abbrev pub ending : List Instr

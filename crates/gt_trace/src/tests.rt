@@ -1,7 +1,7 @@
 // The spelling of each line.
 ghost use Rattle.std.specs.Prelude.{◌≡◌, ◌∷◌, [], ◌<◌, IfOk, IsTrue, length};
 ghost use Rattle.gt_model.specs.Good.{IsGood};
-ghost use Rattle.gt_model.specs.State.{is_timer, is_func};
+ghost use Rattle.gt_model.specs.Script.{is_timer, is_func};
 
 use crate::{write_line, write_trace};
 use gt_io::SureSink;

@@ -1,5 +1,5 @@
 use Rattle.std.proofs.Common.{◌≡◌, ℕ, refl, ap, lit<, lit≤, arith, unwrap_or, Option, Some}
-use Rattle.gt_model.specs.Legal.{sleep_end}
+use Rattle.gt_rules.specs.Legal.{sleep_end}
 use Rattle.gt_examples.proofs.clock_before_sleep.Goals as goal
 
 pub returns : goal.returns

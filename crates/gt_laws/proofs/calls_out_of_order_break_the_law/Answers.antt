@@ -1,7 +1,7 @@
 use Rattle.std.proofs.Common.{◌≡◌, ℕ, [], ◌∷◌, Some, refl, sym, subst}
 use Rattle.gt_model.specs.declared.script.Instr.{Instr}
 use Rattle.gt_model.specs.declared.entry.Entry.{Entry}
-use Rattle.gt_model.specs.Legal.{sleep_end}
+use Rattle.gt_rules.specs.Legal.{sleep_end}
 use Rattle.gt_laws.specs.Laws.{InOrder}
 use Rattle.gt_laws.specs.Broken.{one_sleep, one_start}
 use Rattle.gt_laws.proofs.calls_out_of_order_break_the_law.Goals as goal

@@ -1,6 +1,6 @@
 use Rattle.std.proofs.Common.{rules, refl, sym, ◌∙◌, ◌≡◌, Some, None}
-use Rattle.gt_model.specs.State as at
-use Rattle.gt_model.specs.Panics.{fault}
+use Rattle.gt_rules.specs.State as at
+use Rattle.gt_rules.specs.Panics.{fault}
 use Rattle.gt_machine.specs.Machine.{state_of}
 use Rattle.gt_book.proofs.step.next_step.Goals as goal
 

@@ -1,5 +1,5 @@
 use Rattle.std.proofs.Common.{rules, ◌≡◌, []}
-use Rattle.gt_model.specs.Counted.{counted}
+use Rattle.gt_rules.specs.Counted.{counted}
 use Rattle.gt_book.proofs.Idling.{idle-none}
 use Rattle.gt_book.proofs.tests.a_receive_after_the_only_tick_waits_for_ever.Goals as goal
 

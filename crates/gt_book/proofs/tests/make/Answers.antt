@@ -1,7 +1,7 @@
 use Rattle.std.proofs.Common.{rules, ◌≡◌, ℕ, ◌+◌, min, sym, ap, subst, ◌∙◌, None, Some}
 use Rattle.gt_model.specs.declared.script.Instr.{Instr}
-use Rattle.gt_model.specs.declared.time.TheConstants.{CAP}
-use Rattle.gt_model.specs.State.{clock}
+use Rattle.gt_model.specs.Times.{greatest_time}
+use Rattle.gt_rules.specs.State.{clock}
 use Rattle.gt_book.specs.declared.answers.Did.{Did}
 use Rattle.gt_book.specs.declared.answers.Op.{Op}
 use Rattle.gt_book.specs.declared.answers.TimerOp.{TimerOp}
@@ -16,12 +16,12 @@ use Rattle.gt_book.proofs.tests.make.Goals as goal
 
 -- what may be committed after a step that asks to set a timer, where its goroutine is at a `new`
 may-make : (old : BookView) (did : Did) (new : BookView) (g t d due : ℕ) → IsLawful old → outcome_of old ≡ None → status_of old.schedule g ≡ Some RunStatus.InHand
-    → Steps old g new did → did ≡ Did.Timer (TimerOp.Set t) → placed_at new.script new.state g ≡ Some (Instr.New t d) → due ≡ min (clock new.state 0 + d) CAP
+    → Steps old g new did → did ≡ Did.Timer (TimerOp.Set t) → placed_at new.script new.state g ≡ Some (Instr.New t d) → due ≡ min (clock new.state 0 + d) greatest_time
     → MayCommit new (Op.New g t due 0)
 may-make old did new g t d due lawful running in_hand steps is placed e =
     let only : NeedsOnly old g (TimerOp.Set t) new = steps-timer old g new (TimerOp.Set t) running (subst (Steps old g new) is steps) in
     let here : placed_at old.script old.state g ≡ Some (Instr.New t d) = subst (λ (v : BookView). placed_at v.script v.state g ≡ Some (Instr.New t d)) only.same placed in
-    let time : due ≡ min (clock old.state 0 + d) CAP = subst (λ (v : BookView). due ≡ min (clock v.state 0 + d) CAP) only.same e in
+    let time : due ≡ min (clock old.state 0 + d) greatest_time = subst (λ (v : BookView). due ≡ min (clock v.state 0 + d) greatest_time) only.same e in
     subst (λ (v : BookView). MayCommit v (Op.New g t due 0)) (sym only.same)
     (may-new old g t d due lawful running only.needs (new-placed old.script old.state g t t d only.needs here) in_hand time).0
 

@@ -1,5 +1,5 @@
 use Rattle.std.proofs.Common.{◌∙◌}
-use Rattle.gt_model.specs.After.{moved_on}
+use Rattle.gt_rules.specs.After.{moved_on}
 use Rattle.gt_machine.proofs.Machines.{set_numbered}
 use Rattle.gt_machine.proofs.machine.move_on.Goals as goal
 

@@ -1,6 +1,6 @@
 use Rattle.std.proofs.Common.{◌∙◌, sym, ap, set, refl}
 use Rattle.std.proofs.lemmas.Option.{slice_get_read}
-use Rattle.gt_model.specs.After.{set_due}
+use Rattle.gt_rules.specs.After.{set_due}
 use Rattle.gt_model.proofs.Tables.{change-set}
 use Rattle.gt_machine.proofs.machine.put_due.Goals as goal
 

@@ -1,5 +1,5 @@
 use Rattle.std.proofs.Common.{◌∙◌}
-use Rattle.gt_model.specs.After.{in_mode}
+use Rattle.gt_rules.specs.After.{in_mode}
 use Rattle.gt_machine.proofs.Machines.{set_numbered}
 use Rattle.gt_machine.proofs.machine.put_mode.Goals as goal
 

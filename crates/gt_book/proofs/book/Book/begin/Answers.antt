@@ -1,6 +1,6 @@
 use Rattle.std.proofs.Common.{rules, sym, subst, ◌≡◌, ◌+◌, ◌≤◌, ℕ, None, length, []}
 use Rattle.gt_model.specs.Good.{IsGood}
-use Rattle.gt_model.specs.After.{first_state}
+use Rattle.gt_rules.specs.After.{first_state}
 use Rattle.gt_tournament.specs.Keys.{key_of}
 use Rattle.gt_machine.specs.Machine.{state_of}
 use Rattle.gt_book.specs.Scheduler.{schedule_of, IsScheduler}

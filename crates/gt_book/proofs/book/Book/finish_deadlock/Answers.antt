@@ -1,6 +1,6 @@
 use Rattle.std.proofs.Common.{subst, sym, ap, ◌∙◌, ◌≡◌, None, []}
-use Rattle.gt_model.specs.Finish.{IsIdle}
-use Rattle.gt_model.specs.Counted.{counted}
+use Rattle.gt_rules.specs.Finish.{IsIdle}
+use Rattle.gt_rules.specs.Counted.{counted}
 use Rattle.gt_book.specs.View.{BookView, outcome_of, with_entries}
 use Rattle.gt_model.specs.declared.entry.Entry.{Entry}
 use Rattle.gt_model.specs.declared.entry.Outcome.{Outcome}

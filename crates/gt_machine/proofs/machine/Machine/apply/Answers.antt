@@ -4,14 +4,15 @@ use Rattle.gt_model.specs.declared.script.Instr.{Instr}
 use Rattle.gt_model.specs.declared.state.Goroutine.{Goroutine}
 use Rattle.gt_model.specs.declared.state.Mode.{Mode}
 use Rattle.gt_model.specs.Tables.{change_numbered}
-use Rattle.gt_model.specs.State.{State, func_of}
-use Rattle.gt_model.specs.After.{after, moved_on, in_mode, with_new, with_due}
-use Rattle.gt_model.specs.Legal.{May}
+use Rattle.gt_rules.specs.State.{State}
+use Rattle.gt_model.specs.Script.{func_of}
+use Rattle.gt_rules.specs.After.{after, moved_on, in_mode, with_new, with_due}
+use Rattle.gt_rules.specs.Legal.{May}
 use Rattle.gt_model.proofs.Changes.{length-change_numbered}
-use Rattle.gt_model.proofs.Named.{named-May}
+use Rattle.gt_facts.proofs.Named.{named-May}
 use Rattle.gt_machine.specs.Machine.{state_of, counted}
-use Rattle.gt_model.proofs.Declared.{timer_within, func_within, setting_within}
-use Rattle.gt_model.proofs.Formed.{timer_world-zero}
+use Rattle.gt_facts.proofs.Within.{timer_within, func_within, setting_within}
+use Rattle.gt_facts.proofs.Formed.{timer_world-zero}
 use Rattle.gt_machine.proofs.Machines.{inside_standing, inside_sleeping, inside_receiving, room_changed, room_begun}
 use Rattle.gt_machine.proofs.machine.Machine.apply.Goals as goal
 

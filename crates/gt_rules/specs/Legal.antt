@@ -5,17 +5,18 @@ use Rattle.std.specs.declared.option.Option.TheVariants.{None, Some}
 use Rattle.gt_model.specs.declared.script.Script.{Script}
 use Rattle.gt_model.specs.declared.script.Instr.{Instr}
 use Rattle.gt_model.specs.declared.entry.Entry.{Entry}
-use Rattle.gt_model.specs.declared.time.TheConstants.{CAP}
+use Rattle.gt_model.specs.Times.{greatest_time}
 use Rattle.gt_model.specs.declared.entry.Party.{Party}
 use Rattle.gt_model.specs.declared.entry.Reason.{Reason}
 use Rattle.gt_model.specs.declared.state.Timer.{Timer}
-use Rattle.gt_model.specs.State.{State, stands_at, clock, clock_of, sleeps_until, next_number, timer_at, due_of, is_timer, is_func}
-use Rattle.gt_model.specs.Panics.{panic_at}
-use Rattle.gt_model.specs.Ready.{is_due}
+use Rattle.gt_rules.specs.State.{State, stands_at, clock, clock_of, sleeps_until, next_number, timer_at, due_of}
+use Rattle.gt_model.specs.Script.{is_timer, is_func}
+use Rattle.gt_rules.specs.Panics.{panic_at}
+use Rattle.gt_rules.specs.Ready.{is_due}
 
 -- the due time of a setting made at a clock: never past the greatest time
 abbrev pub due_at : ℕ → ℕ → ℕ
-due_at now d = min (now + d) CAP
+due_at now d = min (now + d) greatest_time
 
 -- the time until which `sleep` sleeps: for 0 there is none
 abbrev pub sleep_end : ℕ → ℕ → Option ℕ
@@ -54,7 +55,7 @@ MayPanic script s p reason = panic_at script s p.g ≡ Some (p.case_no, reason)
 
 -- where the clock of a world may move, and to which time
 abbrev pub MovesClock : State → ℕ → ℕ → Type 0
-MovesClock s zero to = (clock s 0 < to) × (to ≤ CAP)
+MovesClock s zero to = (clock s 0 < to) × (to ≤ greatest_time)
 MovesClock s (suc world) to = ⊥
 
 -- which entry may come next while the run goes on. The end of the run has rows of its own, in Finish

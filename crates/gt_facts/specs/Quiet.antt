@@ -5,9 +5,9 @@ use Rattle.std.specs.declared.option.Option.TheVariants.{Some}
 use Rattle.gt_model.specs.declared.script.Script.{Script}
 use Rattle.gt_model.specs.declared.state.Goroutine.{Goroutine}
 use Rattle.gt_model.specs.declared.state.Timer.{Timer}
-use Rattle.gt_model.specs.State.{State, clock, goroutine_at, timer_at}
-use Rattle.gt_model.specs.Ready.{is_firm}
-use Rattle.gt_model.specs.Counted.{counted}
+use Rattle.gt_rules.specs.State.{State, clock, goroutine_at, timer_at}
+use Rattle.gt_rules.specs.Ready.{is_firm}
+use Rattle.gt_rules.specs.Counted.{counted}
 
 -- everything belongs to the program
 pub record IsOneWorld (s : State) : Type 0 where

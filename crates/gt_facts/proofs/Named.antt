@@ -7,16 +7,17 @@ use Rattle.gt_model.specs.declared.script.Place.{Place}
 use Rattle.gt_model.specs.declared.entry.Entry.{Entry}
 use Rattle.gt_model.specs.declared.entry.Limits.{Limits}
 use Rattle.gt_model.specs.declared.entry.Reason.{Reason}
-use Rattle.gt_model.specs.State.{State, stands_at, sleeps_until, next_number, instr_at}
-use Rattle.gt_model.specs.Panics.{panic_at}
+use Rattle.gt_rules.specs.State.{State, stands_at, sleeps_until, next_number}
+use Rattle.gt_model.specs.Script.{instr_at}
+use Rattle.gt_rules.specs.Panics.{panic_at}
 use Rattle.gt_model.specs.Good.{IsGood, IsGoodCode, NamesRightly}
-use Rattle.gt_model.specs.After.{after}
-use Rattle.gt_model.specs.Legal.{Does, May, operation_at}
-use Rattle.gt_model.specs.Finish.{Legal}
-use Rattle.gt_model.specs.History.{AllLegal}
+use Rattle.gt_rules.specs.After.{after}
+use Rattle.gt_rules.specs.Legal.{Does, May, operation_at}
+use Rattle.gt_rules.specs.Finish.{Legal}
+use Rattle.gt_rules.specs.History.{AllLegal}
 use Rattle.gt_model.specs.Named.{IsNamed, AllNamed}
 use Rattle.gt_model.proofs.GoodCode.{all_at}
-use Rattle.gt_model.proofs.Lookups.{Standing, standing}
+use Rattle.gt_facts.proofs.Lookups.{Standing, standing}
 
 -- an instruction in the code of a good script names what it may
 pub names-instr_at : (script : Script) (p : Place) (i : Instr) → IsGood script → instr_at script p ≡ Some i → NamesRightly script i

@@ -4,12 +4,12 @@ use Rattle.gt_model.specs.declared.script.Script.{Script}
 use Rattle.gt_model.specs.declared.entry.Entry.{Entry}
 use Rattle.gt_model.specs.declared.entry.Limits.{Limits}
 use Rattle.gt_model.specs.declared.entry.Outcome.{Outcome}
-use Rattle.gt_model.specs.declared.time.TheConstants.{CAP}
+use Rattle.gt_model.specs.Times.{greatest_time}
 use Rattle.gt_model.specs.Tables.{least}
 use Rattle.gt_model.specs.declared.state.Ending.{Ending}
-use Rattle.gt_model.specs.State.{State}
-use Rattle.gt_model.specs.Counted.{counted}
-use Rattle.gt_model.specs.Legal.{May}
+use Rattle.gt_rules.specs.State.{State}
+use Rattle.gt_rules.specs.Counted.{counted}
+use Rattle.gt_rules.specs.Legal.{May}
 
 abbrev pub IsProgramClock : Entry → Type 0
 IsProgramClock (Entry.Clock zero to) = Unit {0}
@@ -22,7 +22,7 @@ IsIdle script s = (e : Entry) → May script s e → IsProgramClock e
 -- an idle jump: the program's clock moves to its least counted time, and a slip more, where nothing else may come
 pub record IsJump (script : Script) (s : State) (slip to : ℕ) : Type 0 where
   pub idle : IsIdle script s
-  pub to_least : IsSomeAnd (least (counted script s 0)) (λ t. to ≡ min (t + slip) CAP)
+  pub to_least : IsSomeAnd (least (counted script s 0)) (λ t. to ≡ min (t + slip) greatest_time)
 
 -- the run goes on: it has not ended, and its limit is not reached
 pub record IsRunning (limits : Limits) (s : State) : Type 0 where

@@ -6,7 +6,7 @@ use Rattle.gt_model.specs.declared.script.Script.{Script}
 use Rattle.gt_model.specs.declared.script.Instr.{Instr}
 use Rattle.gt_model.specs.declared.entry.Reason.{Reason}
 use Rattle.gt_model.specs.declared.state.Goroutine.{Goroutine}
-use Rattle.gt_model.specs.State.{State, stands, goroutine_at, timer_at}
+use Rattle.gt_rules.specs.State.{State, stands, goroutine_at, timer_at}
 
 -- the reason, if the test says so
 abbrev pub when : Bool → Reason → Option Reason

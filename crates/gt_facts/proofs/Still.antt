@@ -10,15 +10,16 @@ use Rattle.gt_model.specs.declared.entry.Reason.{Reason}
 use Rattle.gt_model.specs.declared.state.Goroutine.{Goroutine}
 use Rattle.gt_model.specs.declared.state.Timer.{Timer}
 use Rattle.gt_model.specs.declared.state.Mode.{Mode}
-use Rattle.gt_model.specs.State.{State, goroutine_at, stands, stands_at, instr_at, until_of, sleeps_until, clock, clock_of, world_of, next_number, timer_at, due_of, is_func}
-use Rattle.gt_model.specs.Panics.{fault, fault_at, panic_of, panic_at}
-use Rattle.gt_model.specs.Ready.{is_due, is_ready, is_ready_in, is_ready_instr}
+use Rattle.gt_rules.specs.State.{State, goroutine_at, stands, stands_at, until_of, sleeps_until, clock, clock_of, world_of, next_number, timer_at, due_of}
+use Rattle.gt_model.specs.Script.{instr_at, is_func}
+use Rattle.gt_rules.specs.Panics.{fault, fault_at, panic_of, panic_at}
+use Rattle.gt_rules.specs.Ready.{is_due, is_ready, is_ready_in, is_ready_instr}
 use Rattle.gt_model.specs.Good.{IsGood}
-use Rattle.gt_model.specs.Legal.{Does, Receives, operation, operation_at, due_at, sleep_end, was_set}
-use Rattle.gt_model.specs.Finish.{IsIdle}
-use Rattle.gt_model.specs.Still.{IsStill}
-use Rattle.gt_model.proofs.Lookups.{Standing, standing, stands_recv, Asleep, sleeper}
-use Rattle.gt_model.proofs.Named.{names-Does}
+use Rattle.gt_rules.specs.Legal.{Does, Receives, operation, operation_at, due_at, sleep_end, was_set}
+use Rattle.gt_rules.specs.Finish.{IsIdle}
+use Rattle.gt_facts.specs.Still.{IsStill}
+use Rattle.gt_facts.proofs.Lookups.{Standing, standing, stands_recv, Asleep, sleeper}
+use Rattle.gt_facts.proofs.Named.{names-Does}
 
 -- ---- a still program is idle
 

@@ -5,9 +5,9 @@ use Rattle.gt_model.specs.declared.entry.Entry.{Entry}
 use Rattle.gt_model.specs.declared.entry.Limits.{Limits}
 use Rattle.gt_model.specs.declared.entry.Outcome.{Outcome}
 use Rattle.gt_model.specs.declared.state.Ending.{Ending}
-use Rattle.gt_model.specs.State.{State}
-use Rattle.gt_model.specs.After.{after, first_state}
-use Rattle.gt_model.specs.Finish.{Legal, IsJump}
+use Rattle.gt_rules.specs.State.{State}
+use Rattle.gt_rules.specs.After.{after, first_state}
+use Rattle.gt_rules.specs.Finish.{Legal, IsJump}
 
 -- the state after these entries
 abbrev pub state_after : Script → State → List Entry → State

@@ -5,9 +5,9 @@ use Rattle.gt_model.specs.declared.entry.Entry.{Entry}
 use Rattle.gt_model.specs.declared.entry.Limits.{Limits}
 use Rattle.gt_model.specs.declared.entry.Verdict.{Verdict}
 use Rattle.gt_model.specs.declared.state.Ending.{Ending}
-use Rattle.gt_model.specs.State.{State}
-use Rattle.gt_model.specs.After.{after, first_state}
-use Rattle.gt_model.specs.Finish.{Legal}
+use Rattle.gt_rules.specs.State.{State}
+use Rattle.gt_rules.specs.After.{after, first_state}
+use Rattle.gt_rules.specs.Finish.{Legal}
 
 abbrev pub is_over : State → Bool
 is_over s = elim s.ending [ Ending.Finished outcome ↦ true | _ ↦ false ]

@@ -7,7 +7,8 @@ use Rattle.gt_model.specs.declared.script.Script.{Script}
 use Rattle.gt_model.specs.declared.script.Instr.{Instr}
 use Rattle.gt_model.specs.declared.state.Goroutine.{Goroutine}
 use Rattle.gt_model.specs.declared.state.Timer.{Timer}
-use Rattle.gt_model.specs.State.{State, until_of, stands, is_func}
+use Rattle.gt_rules.specs.State.{State, until_of, stands}
+use Rattle.gt_model.specs.Script.{is_func}
 
 -- the time until which a goroutine of world w sleeps
 abbrev pub sleep_of : ℕ → Goroutine → Option ℕ

@@ -3,10 +3,10 @@ use Rattle.std.proofs.Common.{◌≡◌, List, [], ◌∷◌, ◌++◌, refl}
 use Rattle.gt_model.specs.declared.script.Script.{Script}
 use Rattle.gt_model.specs.declared.entry.Entry.{Entry}
 use Rattle.gt_model.specs.declared.entry.Limits.{Limits}
-use Rattle.gt_model.specs.State.{State}
-use Rattle.gt_model.specs.After.{after}
-use Rattle.gt_model.specs.Finish.{Legal}
-use Rattle.gt_model.specs.History.{AllLegal, state_after}
+use Rattle.gt_rules.specs.State.{State}
+use Rattle.gt_rules.specs.After.{after}
+use Rattle.gt_rules.specs.Finish.{Legal}
+use Rattle.gt_rules.specs.History.{AllLegal, state_after}
 
 pub state_after-append : (script : Script) (s : State) (h : List Entry) (e : Entry) → state_after script s (h ++ e ∷ []) ≡ after script (state_after script s h) e
 state_after-append script s [] e = refl

@@ -7,10 +7,11 @@ use Rattle.gt_model.specs.declared.script.Instr.{Instr}
 use Rattle.gt_model.specs.declared.state.Goroutine.{Goroutine}
 use Rattle.gt_model.specs.declared.state.Mode.{Mode}
 use Rattle.gt_model.specs.Tables.{numbered}
-use Rattle.gt_model.specs.State.{State, goroutine_at, stands, stands_at, instr_at, until_of, sleeps_until}
-use Rattle.gt_model.specs.Counted.{receives}
+use Rattle.gt_rules.specs.State.{State, goroutine_at, stands, stands_at, until_of, sleeps_until}
+use Rattle.gt_model.specs.Script.{instr_at}
+use Rattle.gt_rules.specs.Counted.{receives}
 use Rattle.gt_model.specs.declared.entry.Party.{Party}
-use Rattle.gt_model.specs.Legal.{operation, operation_at}
+use Rattle.gt_rules.specs.Legal.{operation, operation_at}
 
 pub all-item : {X : Type 0} (p : X → Bool) (xs : List X) (i : ℕ) (x : X) → slice_get xs i ≡ Some x → list_all p xs ≡ true → p x ≡ true
 all-item p [] i x e h = cc

@@ -10,16 +10,17 @@ use Rattle.gt_model.specs.declared.state.Goroutine.{Goroutine}
 use Rattle.gt_model.specs.declared.state.Timer.{Timer}
 use Rattle.gt_model.specs.declared.state.Mode.{Mode}
 use Rattle.gt_model.specs.Tables.{numbered, at}
-use Rattle.gt_model.specs.State.{State, goroutine_at, stands, stands_at, instr_at, until_of, clock, timer_at, due_of, is_func}
-use Rattle.gt_model.specs.Panics.{fault}
-use Rattle.gt_model.specs.Ready.{is_firm, goes_on, is_due, is_ready_in, is_ready_instr}
-use Rattle.gt_model.specs.Still.{IsStill}
-use Rattle.gt_model.specs.Counted.{sleep_of, receives, awaits, is_awaited, counted_timer}
-use Rattle.gt_model.specs.Finish.{IsIdle}
-use Rattle.gt_model.specs.Quiet.{IsQuiet, none_due}
-use Rattle.gt_model.proofs.Lookups.{all-item, any-numbered, Standing, standing}
+use Rattle.gt_rules.specs.State.{State, goroutine_at, stands, stands_at, until_of, clock, timer_at, due_of}
+use Rattle.gt_model.specs.Script.{instr_at, is_func}
+use Rattle.gt_rules.specs.Panics.{fault}
+use Rattle.gt_rules.specs.Ready.{is_firm, goes_on, is_due, is_ready_in, is_ready_instr}
+use Rattle.gt_facts.specs.Still.{IsStill}
+use Rattle.gt_rules.specs.Counted.{sleep_of, receives, awaits, is_awaited, counted_timer}
+use Rattle.gt_rules.specs.Finish.{IsIdle}
+use Rattle.gt_facts.specs.Quiet.{IsQuiet, none_due}
+use Rattle.gt_facts.proofs.Lookups.{all-item, any-numbered, Standing, standing}
 use Rattle.gt_model.proofs.Items.{at-is}
-use Rattle.gt_model.proofs.Still.{or_left, or_right, still-IsIdle, stands_there}
+use Rattle.gt_facts.proofs.Still.{or_left, or_right, still-IsIdle, stands_there}
 
 all_numbered : {X : Type 0} (p : X → Bool) (xs : List X) (g : ℕ) (x : X) → numbered xs g ≡ Some x → list_all p xs ≡ true → p x ≡ true
 all_numbered p xs zero x e h = cc

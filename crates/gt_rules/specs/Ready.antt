@@ -6,8 +6,9 @@ use Rattle.gt_model.specs.declared.script.Script.{Script}
 use Rattle.gt_model.specs.declared.script.Instr.{Instr}
 use Rattle.gt_model.specs.declared.state.Goroutine.{Goroutine}
 use Rattle.gt_model.specs.declared.state.Mode.{Mode}
-use Rattle.gt_model.specs.State.{State, instr_at, clock, due_of}
-use Rattle.gt_model.specs.Panics.{fault}
+use Rattle.gt_rules.specs.State.{State, clock, due_of}
+use Rattle.gt_model.specs.Script.{instr_at}
+use Rattle.gt_rules.specs.Panics.{fault}
 
 -- whether an optional time is set and at or below a clock
 abbrev pub is_due : Option ℕ → ℕ → Bool

@@ -12,8 +12,9 @@ use Rattle.gt_model.specs.declared.state.Mode.{Mode}
 use Rattle.gt_model.specs.declared.state.Timer.{Timer}
 use Rattle.gt_model.specs.declared.state.Ending.{Ending}
 use Rattle.gt_model.specs.Tables.{change, change_numbered}
-use Rattle.gt_model.specs.State.{State, stands_at, world_of, timer_at, func_of}
-use Rattle.gt_model.specs.Places.{first_place, place_after}
+use Rattle.gt_rules.specs.State.{State, stands_at, world_of, timer_at}
+use Rattle.gt_model.specs.Script.{func_of}
+use Rattle.gt_rules.specs.Places.{first_place, place_after}
 
 -- goroutine g changed
 abbrev pub with_goroutine : State → ℕ → (Goroutine → Goroutine) → State

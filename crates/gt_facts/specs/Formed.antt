@@ -5,9 +5,10 @@ use Rattle.gt_model.specs.declared.script.Script.{Script}
 use Rattle.gt_model.specs.declared.state.Goroutine.{Goroutine}
 use Rattle.gt_model.specs.declared.state.Timer.{Timer}
 use Rattle.gt_model.specs.declared.state.Mode.{Mode}
-use Rattle.gt_model.specs.declared.time.TheConstants.{CAP}
-use Rattle.gt_model.specs.State.{State, code_of, clock, goroutine_at, timer_at, until_of}
-use Rattle.gt_model.specs.Quiet.{IsOneWorld}
+use Rattle.gt_model.specs.Times.{greatest_time}
+use Rattle.gt_rules.specs.State.{State, clock, goroutine_at, timer_at, until_of}
+use Rattle.gt_model.specs.Script.{code_of}
+use Rattle.gt_facts.specs.Quiet.{IsOneWorld}
 
 -- a place in a code of n instructions: a sleeper goes on behind it
 abbrev pub IsPlacedIn : ℕ → ℕ → Mode → Type 0
@@ -21,12 +22,12 @@ pub record IsFormed (script : Script) (s : State) : Type 0 where
   pub world : IsOneWorld s
   -- the program's clock is the only one, and is a time
   pub one_clock : s.clocks ≡ clock s 0 ∷ []
-  pub time : clock s 0 ≤ CAP
+  pub time : clock s 0 ≤ greatest_time
   -- each goroutine stands in its code, and sleeps until a time
   pub placed : (g : ℕ) (r : Goroutine) → goroutine_at s g ≡ Some r → IsPlaced script r
-  pub untils : (g : ℕ) (r : Goroutine) → goroutine_at s g ≡ Some r → IfSome (until_of r.mode) (λ until. until ≤ CAP)
+  pub untils : (g : ℕ) (r : Goroutine) → goroutine_at s g ≡ Some r → IfSome (until_of r.mode) (λ until. until ≤ greatest_time)
   -- an entry makes one goroutine at most
   pub few : length s.goroutines ≤ s.entries + 1
   -- there is a timer or none for each declaration, and it is due at a time
   pub timers : length s.timers ≡ length script.decls
-  pub dues : (t : ℕ) (r : Timer) → timer_at s t ≡ Some r → IfSome r.due (λ due. due ≤ CAP)
+  pub dues : (t : ℕ) (r : Timer) → timer_at s t ≡ Some r → IfSome r.due (λ due. due ≤ greatest_time)

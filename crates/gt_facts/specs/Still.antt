@@ -4,8 +4,9 @@ use Rattle.std.specs.declared.option.Option.TheVariants.{Some}
 use Rattle.gt_model.specs.declared.script.Script.{Script}
 use Rattle.gt_model.specs.declared.state.Goroutine.{Goroutine}
 use Rattle.gt_model.specs.declared.state.Timer.{Timer}
-use Rattle.gt_model.specs.State.{State, goroutine_at, timer_at, clock, is_func}
-use Rattle.gt_model.specs.Ready.{is_due, is_ready}
+use Rattle.gt_rules.specs.State.{State, goroutine_at, timer_at, clock}
+use Rattle.gt_model.specs.Script.{is_func}
+use Rattle.gt_rules.specs.Ready.{is_due, is_ready}
 
 -- nobody is ready, and no AfterFunc timer has come to its time
 pub record IsStill (script : Script) (s : State) : Type 0 where

@@ -17,17 +17,18 @@ use Rattle.gt_model.specs.declared.state.Goroutine.{Goroutine}
 use Rattle.gt_model.specs.declared.state.Timer.{Timer}
 use Rattle.gt_model.specs.declared.state.Mode.{Mode}
 use Rattle.gt_model.specs.declared.state.Ending.{Ending}
-use Rattle.gt_model.specs.declared.time.TheConstants.{CAP}
+use Rattle.gt_model.specs.Times.{greatest_time}
 use Rattle.gt_model.specs.Tables.{change, change_numbered, at, flatten}
-use Rattle.gt_model.specs.State.{State, code_of, goroutine_at, stands_at, instr_at, until_of, sleeps_until, clock, clock_of, world_of, timer_at, is_func, names_func, func_of}
+use Rattle.gt_rules.specs.State.{State, goroutine_at, stands_at, until_of, sleeps_until, clock, clock_of, world_of, timer_at}
+use Rattle.gt_model.specs.Script.{code_of, instr_at, is_func, names_func, func_of}
 use Rattle.gt_model.specs.Good.{IsGood, IsGoodCode, IsGoodInstr, NamesRightly, StartsRightly, is_finish}
-use Rattle.gt_model.specs.After.{after, first_state, moved_on, in_mode, asleep, begun, set_due, set_again, timer_world}
-use Rattle.gt_model.specs.Legal.{May, Receives, operation, due_at, sleep_end}
-use Rattle.gt_model.specs.Finish.{Legal}
-use Rattle.gt_model.specs.History.{AllLegal, state_after}
-use Rattle.gt_model.specs.Formed.{IsFormed, IsPlaced, IsPlacedIn}
-use Rattle.gt_model.proofs.GoodCode.{HasItem, has_item, all_at}
-use Rattle.gt_model.proofs.Lookups.{Standing, standing, AtOperation, at_operation}
+use Rattle.gt_rules.specs.After.{after, first_state, moved_on, in_mode, asleep, begun, set_due, set_again, timer_world}
+use Rattle.gt_rules.specs.Legal.{May, Receives, operation, due_at, sleep_end}
+use Rattle.gt_rules.specs.Finish.{Legal}
+use Rattle.gt_rules.specs.History.{AllLegal, state_after}
+use Rattle.gt_facts.specs.Formed.{IsFormed, IsPlaced, IsPlacedIn}
+use Rattle.gt_model.proofs.GoodCode.{HasItem, has_item, all_at, main_within}
+use Rattle.gt_facts.proofs.Lookups.{Standing, standing, AtOperation, at_operation}
 use Rattle.gt_model.proofs.Items.{at-is}
 use Rattle.gt_model.proofs.Changes.{AllAt, AllNumbered, all-change, all-set, all_numbered-change, all_numbered-append, length-change, length-change_numbered}
 
@@ -35,16 +36,16 @@ use Rattle.gt_model.proofs.Changes.{AllAt, AllNumbered, all-change, all-set, all
 
 pub record AreClocks (clocks : List ℕ) : Type 0 where
   pub one : clocks ≡ slice_index clocks 0 ∷ []
-  pub time : slice_index clocks 0 ≤ CAP
+  pub time : slice_index clocks 0 ≤ greatest_time
 
 pub record IsFormedGoroutine (script : Script) (r : Goroutine) : Type 0 where
   pub world : r.world ≡ 0
   pub placed : IsPlaced script r
-  pub until : IfSome (until_of r.mode) (λ until. until ≤ CAP)
+  pub until : IfSome (until_of r.mode) (λ until. until ≤ greatest_time)
 
 pub record IsFormedTimer (r : Timer) : Type 0 where
   pub world : r.world ≡ 0
-  pub due : IfSome r.due (λ due. due ≤ CAP)
+  pub due : IfSome r.due (λ due. due ≤ greatest_time)
 
 pub record AreGoroutines (script : Script) (gs : List Goroutine) : Type 0 where
   pub each : AllNumbered (IsFormedGoroutine script) gs
@@ -146,7 +147,7 @@ none_numbered script (suc g) r e = cc
 pub formed-first : (script : Script) → IsGood script → IsFormed script (first_state script)
 formed-first script good =
     formed-parts script (first_state script) (record { one = refl; time = omega arith })
-    (record { each = all_numbered-append (IsFormedGoroutine script) [] (begun script 0 script.main) (none_numbered script) (begun-formed script 0 script.main good refl good.main) })
+    (record { each = all_numbered-append (IsFormedGoroutine script) [] (begun script 0 script.main) (none_numbered script) (begun-formed script 0 script.main good refl (main_within script good)) })
     (omega arith)
     (record { count = length-map script.decls (λ (d : Decl). None); each = all-none script.decls })
 
@@ -158,7 +159,7 @@ moved-formed script s g i r good formed h next e =
     record { world = formed.world.goroutines g r e; placed = follows script s g i r good h next e; until = tt }
 
 asleep-formed : (script : Script) (s : State) (g : ℕ) (i : Instr) (until : Option ℕ) (r : Goroutine) → IsGood script → IsFormed script s → stands_at script s g ≡ Some i → is_finish i ≡ false
-    → IfSome until (λ u. u ≤ CAP) → goroutine_at s g ≡ Some r → IsFormedGoroutine script (asleep script until r)
+    → IfSome until (λ u. u ≤ greatest_time) → goroutine_at s g ≡ Some r → IsFormedGoroutine script (asleep script until r)
 asleep-formed script s g i None r good formed h next time e = moved-formed script s g i r good formed h next e
 asleep-formed script s g i (Some until) r good formed h next time e =
     record { world = formed.world.goroutines g r e; placed = follows script s g i r good h next e; until = time }
@@ -196,11 +197,11 @@ changed_goroutines script s g f formed new = record { each = all_numbered-change
 
 -- ---- timers
 
-set_due-formed : (due : Option ℕ) (o : Option Timer) → IfSome due (λ d. d ≤ CAP) → IfSome o IsFormedTimer → IfSome (set_due due o) IsFormedTimer
+set_due-formed : (due : Option ℕ) (o : Option Timer) → IfSome due (λ d. d ≤ greatest_time) → IfSome o IsFormedTimer → IfSome (set_due due o) IsFormedTimer
 set_due-formed due None time h = tt
 set_due-formed due (Some r) time h = let was : IsFormedTimer r = h in record { world = was.world; due = time }
 
-set_again-formed : (due period : ℕ) (o : Option Timer) → due ≤ CAP → IfSome o IsFormedTimer → IfSome (set_again due period o) IsFormedTimer
+set_again-formed : (due period : ℕ) (o : Option Timer) → due ≤ greatest_time → IfSome o IsFormedTimer → IfSome (set_again due period o) IsFormedTimer
 set_again-formed due period None time h = tt
 set_again-formed due period (Some r) time h = let was : IsFormedTimer r = h in record { world = was.world; due = time }
 
@@ -213,7 +214,7 @@ changed_timers script s t f formed new =
       each = all-change (λ (o : Option Timer). IfSome o IsFormedTimer) s.timers t f ts.each (λ o e. new o (ts.each t o e));
     }
 
-due_timers : (script : Script) (s : State) (t : ℕ) (due : Option ℕ) → IsFormed script s → IfSome due (λ d. d ≤ CAP) → AreTimers script (change s.timers t (set_due due))
+due_timers : (script : Script) (s : State) (t : ℕ) (due : Option ℕ) → IsFormed script s → IfSome due (λ d. d ≤ greatest_time) → AreTimers script (change s.timers t (set_due due))
 due_timers script s t due formed time = changed_timers script s t (set_due due) formed (λ o h. set_due-formed due o time h)
 
 set_timers : (script : Script) (s : State) (t : ℕ) (r : Timer) → IsFormed script s → IsFormedTimer r → AreTimers script (set s.timers t (Some r))
@@ -226,10 +227,10 @@ set_timers script s t r formed new =
 
 -- ---- times and worlds
 
-due_at-time : (now d : ℕ) → due_at now d ≤ CAP
+due_at-time : (now d : ℕ) → due_at now d ≤ greatest_time
 due_at-time now d = omega arith
 
-sleep_end-time : (now d : ℕ) → IfSome (sleep_end now d) (λ until. until ≤ CAP)
+sleep_end-time : (now d : ℕ) → IfSome (sleep_end now d) (λ until. until ≤ greatest_time)
 sleep_end-time now zero = tt
 sleep_end-time now (suc d) = due_at-time now (suc d)
 
@@ -303,7 +304,7 @@ formed-moves : (script : Script) (s : State) (g : ℕ) (i : Instr) (ts : List (O
 formed-moves script s g i ts good formed h next timers =
     formed-changes script s g (moved_on script) ts s.ending formed (λ r e. moved-formed script s g i r good formed h next e) timers
 
-set-clocks : (clocks : List ℕ) (to : ℕ) → clocks ≡ slice_index clocks 0 ∷ [] → to ≤ CAP → AreClocks (set clocks 0 to)
+set-clocks : (clocks : List ℕ) (to : ℕ) → clocks ≡ slice_index clocks 0 ∷ [] → to ≤ greatest_time → AreClocks (set clocks 0 to)
 set-clocks clocks to one time = subst (λ (cs : List ℕ). AreClocks (set cs 0 to)) (sym one) (record { one = refl; time = time })
 
 pub formed-after : (script : Script) (s : State) (e : Entry) → IsGood script → IsFormed script s → May script s e → IsFormed script (after script s e)
@@ -317,25 +318,25 @@ formed-after script s (Entry.Go g child f) good formed may =
 formed-after script s (Entry.End g) good formed may =
     formed-changes script s g (in_mode Mode.Ended) s.timers (after script s (Entry.End g)).ending formed (λ r e. ended-formed script s g r formed e) (timers-of script s formed)
 formed-after script s (Entry.Sleep g until) good formed may =
-    let time : IfSome until (λ u. u ≤ CAP) = subst (λ (o : Option ℕ). IfSome o (λ u. u ≤ CAP)) (sym may.2) (sleep_end-time (clock_of s g) may.0) in
+    let time : IfSome until (λ u. u ≤ greatest_time) = subst (λ (o : Option ℕ). IfSome o (λ u. u ≤ greatest_time)) (sym may.2) (sleep_end-time (clock_of s g) may.0) in
     formed-changes script s g (asleep script until) s.timers s.ending formed
     (λ r e. asleep-formed script s g (Instr.Sleep may.0) until r good formed may.1.stands refl time e) (timers-of script s formed)
 formed-after script s (Entry.Wake g) good formed may =
     formed-changes script s g (moved_on script) s.timers s.ending formed (λ r e. woken-formed script s g (clock_of s g) r formed may e) (timers-of script s formed)
 formed-after script s (Entry.New g t due) good formed may =
-    let time : due ≤ CAP = subst (λ d. d ≤ CAP) (sym may.2) (due_at-time (clock_of s g) may.0) in
+    let time : due ≤ greatest_time = subst (λ d. d ≤ greatest_time) (sym may.2) (due_at-time (clock_of s g) may.0) in
     let new : Timer = record { world = world_of s g; due = Some due; period = 0 } in
     formed-moves script s g (Instr.New t may.0) (set s.timers t (Some new)) good formed may.1.stands refl
     (set_timers script s t new formed (record { world = world_of-zero script s g formed; due = time }))
 formed-after script s (Entry.Stop g t was) good formed may =
     formed-moves script s g (Instr.Stop t) (change s.timers t (set_due None)) good formed may.0.stands refl (due_timers script s t None formed tt)
 formed-after script s (Entry.Reset g t was due) good formed may =
-    let time : due ≤ CAP = subst (λ d. d ≤ CAP) (sym may.3) (due_at-time (clock_of s g) may.0) in
+    let time : due ≤ greatest_time = subst (λ d. d ≤ greatest_time) (sym may.3) (due_at-time (clock_of s g) may.0) in
     formed-moves script s g (Instr.Reset t may.0) (change s.timers t (set_again due 0)) good formed may.1.stands refl
     (changed_timers script s t (set_again due 0) formed (λ o h. set_again-formed due 0 o time h))
 formed-after script s (Entry.TRecv p t due next) good formed may =
     let on : StandsOn script s p.g = receives-on script s p t may.0 in
-    let time : IfSome next (λ u. u ≤ CAP) = subst (λ (o : Option ℕ). IfSome o (λ u. u ≤ CAP)) (sym may.4) tt in
+    let time : IfSome next (λ u. u ≤ greatest_time) = subst (λ (o : Option ℕ). IfSome o (λ u. u ≤ greatest_time)) (sym may.4) tt in
     formed-moves script s p.g on.instr (change s.timers t (set_due next)) good formed on.stands on.next (due_timers script s t next formed time)
 formed-after script s (Entry.FireFunc t child) good formed may =
     formed-begins script s s.goroutines (begun script (timer_world s t) (func_of script t)) (change s.timers t (set_due None)) formed (goroutines-of script s formed) refl

@@ -1,0 +1,7 @@
+pub mod Histories
+pub mod Lookups
+pub mod Quiet
+pub mod Still
+pub mod Formed
+pub mod Within
+pub mod Named

@@ -1,0 +1,2 @@
+//! What the states of the one-thread timer machine keep that a run reaches, in specs/ and proofs/.
+#![tactic(auto)]

@@ -1,0 +1,41 @@
+-- What is looked up in a script.
+use Rattle.std.specs.Prelude.{ℕ, Bool, true, false, List, [], slice_get}
+use Rattle.std.specs.Option.{option_map}
+use Rattle.std.specs.declared.option.Option.{Option}
+use Rattle.std.specs.declared.option.Option.TheVariants.{None, Some}
+use Rattle.gt_model.specs.declared.script.Script.{Script}
+use Rattle.gt_model.specs.declared.script.Decl.{Decl}
+use Rattle.gt_model.specs.declared.script.What.{What}
+use Rattle.gt_model.specs.declared.script.Instr.{Instr}
+use Rattle.gt_model.specs.declared.script.Place.{Place}
+
+-- what the script declares at a place
+abbrev pub what_at : Script → ℕ → Option What
+what_at script i = option_map (λ (d : Decl). d.what) (slice_get script.decls i)
+
+-- the code of a function
+abbrev pub code_of : Script → ℕ → List Instr
+code_of script f = elim (slice_get script.funcs f) [ None ↦ [] | Some func ↦ func.code ]
+
+-- the instruction at a place
+abbrev pub instr_at : Script → Place → Option Instr
+instr_at script p = slice_get (code_of script p.func) p.at
+
+-- a channel timer; an AfterFunc timer
+abbrev pub names_timer : Option What → Bool
+names_timer (Some What.Timer) = true
+names_timer _ = false
+
+abbrev pub names_func : Option What → Bool
+names_func (Some (What.AfterFunc func)) = true
+names_func _ = false
+
+abbrev pub is_timer : Script → ℕ → Bool
+is_timer script t = names_timer (what_at script t)
+
+abbrev pub is_func : Script → ℕ → Bool
+is_func script t = names_func (what_at script t)
+
+-- the function that an AfterFunc timer starts
+abbrev pub func_of : Script → ℕ → ℕ
+func_of script t = elim (what_at script t) [ None ↦ 0 | Some what ↦ elim what [ What.AfterFunc f ↦ f | _ ↦ 0 ] ]

@@ -1,0 +1,10 @@
+pub mod State
+pub mod Places
+pub mod Panics
+pub mod Ready
+pub mod Counted
+pub mod After
+pub mod Legal
+pub mod Finish
+pub mod History
+pub mod Verdict
