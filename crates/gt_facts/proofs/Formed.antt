@@ -22,7 +22,8 @@ use Rattle.gt_model.specs.Tables.{change, change_numbered, at, flatten}
 use Rattle.gt_rules.specs.State.{State, goroutine_at, stands_at, until_of, sleeps_until, clock, clock_of, world_of, timer_at}
 use Rattle.gt_model.specs.Script.{code_of, instr_at, is_func, names_func, func_of}
 use Rattle.gt_model.specs.Good.{IsGood, IsGoodCode, IsGoodInstr, NamesRightly, StartsRightly, is_finish}
-use Rattle.gt_rules.specs.After.{after, first_state, moved_on, in_mode, asleep, begun, set_due, set_again, timer_world}
+use Rattle.gt_rules.specs.Change.{sleeps}
+use Rattle.gt_rules.specs.After.{after, first_state, moved_on, moved, in_mode, begun, set_due, set_again, timer_world}
 use Rattle.gt_rules.specs.Legal.{May, Receives, operation, due_at, sleep_end}
 use Rattle.gt_rules.specs.Finish.{Legal}
 use Rattle.gt_rules.specs.History.{AllLegal, state_after}
@@ -159,7 +160,7 @@ moved-formed script s g i r good formed h next e =
     record { world = formed.world.goroutines g r e; placed = follows script s g i r good h next e; until = tt }
 
 asleep-formed : (script : Script) (s : State) (g : ℕ) (i : Instr) (until : Option ℕ) (r : Goroutine) → IsGood script → IsFormed script s → stands_at script s g ≡ Some i → is_finish i ≡ false
-    → IfSome until (λ u. u ≤ greatest_time) → goroutine_at s g ≡ Some r → IsFormedGoroutine script (asleep script until r)
+    → IfSome until (λ u. u ≤ greatest_time) → goroutine_at s g ≡ Some r → IsFormedGoroutine script (moved script (sleeps until) r)
 asleep-formed script s g i None r good formed h next time e = moved-formed script s g i r good formed h next e
 asleep-formed script s g i (Some until) r good formed h next time e =
     record { world = formed.world.goroutines g r e; placed = follows script s g i r good h next e; until = time }
@@ -319,7 +320,7 @@ formed-after script s (Entry.End g) good formed may =
     formed-changes script s g (in_mode Mode.Ended) s.timers (after script s (Entry.End g)).ending formed (λ r e. ended-formed script s g r formed e) (timers-of script s formed)
 formed-after script s (Entry.Sleep g until) good formed may =
     let time : IfSome until (λ u. u ≤ greatest_time) = subst (λ (o : Option ℕ). IfSome o (λ u. u ≤ greatest_time)) (sym may.2) (sleep_end-time (clock_of s g) may.0) in
-    formed-changes script s g (asleep script until) s.timers s.ending formed
+    formed-changes script s g (moved script (sleeps until)) s.timers s.ending formed
     (λ r e. asleep-formed script s g (Instr.Sleep may.0) until r good formed may.1.stands refl time e) (timers-of script s formed)
 formed-after script s (Entry.Wake g) good formed may =
     formed-changes script s g (moved_on script) s.timers s.ending formed (λ r e. woken-formed script s g (clock_of s g) r formed may e) (timers-of script s formed)

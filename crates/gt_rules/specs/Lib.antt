@@ -3,6 +3,7 @@ pub mod Places
 pub mod Panics
 pub mod Ready
 pub mod Counted
+pub mod Change
 pub mod After
 pub mod Legal
 pub mod Finish
