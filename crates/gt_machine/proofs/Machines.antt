@@ -1,5 +1,5 @@
 -- Goroutines by number and by place; what stands where in a formed state.
-use Rattle.std.proofs.Common.{◌≡◌, ℕ, zero, suc, ◌-◌, ◌+◌, ◌^◌, ◌<◌, ◌≤◌, List, [], ◌∷◌, ◌++◌, map, length, get_or, refl, sym, subst, ◌∙◌, ap, set, slice_get, Option, None, Some, option_map, sub-one, IsSomeAnd, arith}
+use Rattle.std.proofs.Common.{◌≡◌, ℕ, zero, suc, ◌-◌, ◌+◌, ◌^◌, ◌<◌, ◌≤◌, List, [], ◌∷◌, ◌++◌, map, length, get_or, refl, sym, ◌∙◌, ap, set, slice_get, Option, None, Some, sub-one, IsSomeAnd, IfSome, arith}
 use Rattle.std.specs.Prelude.{replicate}
 use Rattle.std.proofs.lemmas.Option.{get_or_from_slice_get, slice_get_within}
 use Rattle.std.proofs.lemmas.List.Sums.{get_or-le-sum_by}
@@ -8,19 +8,24 @@ use Rattle.gt_model.specs.declared.script.Script.{Script}
 use Rattle.gt_model.specs.declared.script.Decl.{Decl}
 use Rattle.gt_model.specs.declared.script.Func.{Func}
 use Rattle.gt_model.specs.declared.script.Instr.{Instr}
-use Rattle.gt_model.specs.declared.entry.Party.{Party}
 use Rattle.gt_model.specs.declared.state.Goroutine.{Goroutine}
 use Rattle.gt_model.specs.declared.state.Mode.{Mode}
 use Rattle.gt_model.specs.declared.state.Timer.{Timer}
 use Rattle.gt_model.specs.Tables.{numbered, change_numbered}
-use Rattle.gt_rules.specs.State.{State, goroutine_at, stands, stands_at, until_of, sleeps_until}
+use Rattle.gt_rules.specs.State.{State, world_of, goroutine_at}
 use Rattle.gt_model.specs.Script.{code_of}
 use Rattle.gt_model.specs.Good.{IsGood, instruction_count}
-use Rattle.gt_rules.specs.Legal.{operation_at}
+use Rattle.gt_rules.specs.Change.{change_of}
+use Rattle.gt_rules.specs.Legal.{May}
 use Rattle.gt_facts.specs.Formed.{IsFormed, IsPlacedIn}
-use Rattle.gt_model.proofs.Tables.{change_numbered-set}
+use Rattle.gt_facts.proofs.Makers.{there-May}
+use Rattle.gt_machine.specs.Machine.{IsInside, retimed_in}
+use Rattle.gt_model.specs.declared.entry.Entry.{Entry}
+use Rattle.gt_model.proofs.Tables.{change-set, change_numbered-set}
+use Rattle.gt_rules.specs.declared.change.Move.{Move}
+use Rattle.gt_rules.specs.declared.change.Setting.{Setting}
+use Rattle.gt_rules.specs.After.{retimed, number_of, set_due, set_again}
 use Rattle.gt_model.proofs.Changes.{length-change_numbered}
-use Rattle.gt_facts.proofs.Lookups.{AtOperation, at_operation}
 
 -- the item at the place below a number has that number
 pub numbered_below : {X : Type 0} (xs : List X) (g : ℕ) (x : X) (P : X → Type 0) → IsSomeAnd (numbered xs g) P → slice_get xs (g - 1) ≡ Some x → numbered xs g ≡ Some x
@@ -54,37 +59,20 @@ place_short : (n place : ℕ) (m : Mode) → IsPlacedIn n place m → n ≤ 1000
 place_short n place (Mode.Sleeping until) h k = let inside : place + 1 < n = h in omega arith
 place_short n place _ h k = let inside : place < n = h in omega arith
 
--- a goroutine that is there, at a place that leaves room to move on
-abbrev pub IsInside : State → ℕ → Type 0
-IsInside s g = IsSomeAnd (numbered s.goroutines g) (λ r. r.place.at < 2 ^ 32 - 1)
-
-inside_there : (script : Script) (s : State) (g : ℕ) → IsGood script → IsFormed script s → (goroutine_at s g ≡ None → ⊥) → IsInside s g
+inside_there : (script : Script) (s : State) (g : ℕ) → IsGood script → IsFormed script s → (goroutine_at s g ≡ None → ⊥) → IsInside s.goroutines g
 inside_there script s g good formed there =
     elim (goroutine_at s g) as (λ o. goroutine_at s g ≡ o → IsSomeAnd o (λ r. r.place.at < 2 ^ 32 - 1)) [
       | None ↦ λ e. absurd (there e)
       | Some r ↦ λ e. place_short (length (code_of script r.place.func)) r.place.at r.mode (formed.placed g r e) (code_short script r.place.func good)
     ] refl
 
-none-stands_at : (script : Script) (s : State) (g : ℕ) (i : Instr) → stands_at script s g ≡ Some i → goroutine_at s g ≡ None → ⊥
-none-stands_at script s g i h e =
-    let none : stands_at script s g ≡ None = ap (λ (o : Option Goroutine). elim o [ None ↦ None | Some r ↦ stands script r ]) e in
-    cc
-
-none-sleeps_until : (s : State) (g : ℕ) (P : ℕ → Type 0) → IsSomeAnd (sleeps_until s g) P → goroutine_at s g ≡ None → ⊥
-none-sleeps_until s g P h e =
-    subst (λ (o : Option Goroutine). IsSomeAnd (elim (option_map (λ (r : Goroutine). r.mode) o) [ None ↦ None | Some mode ↦ until_of mode ]) P) e h
-
--- who stands at an instruction is inside; so is who sleeps, and who stands at a receive
-pub inside_standing : (script : Script) (s : State) (g : ℕ) (i : Instr) → IsGood script → IsFormed script s → stands_at script s g ≡ Some i → IsInside s g
-inside_standing script s g i good formed h = inside_there script s g good formed (none-stands_at script s g i h)
-
-pub inside_sleeping : (script : Script) (s : State) (g : ℕ) (P : ℕ → Type 0) → IsGood script → IsFormed script s → IsSomeAnd (sleeps_until s g) P → IsInside s g
-inside_sleeping script s g P good formed h = inside_there script s g good formed (none-sleeps_until s g P h)
-
-pub inside_receiving : (script : Script) (s : State) (p : Party) (t : ℕ) → IsGood script → IsFormed script s → operation_at script s p ≡ Some t → IsInside s p.g
-inside_receiving script s p t good formed h =
-    let at : AtOperation script s p t = at_operation script s p t h in
-    inside_standing script s p.g at.instr good formed at.stands
+-- who makes an entry is inside
+pub inside-May : (script : Script) (s : State) (e : Entry) → IsGood script → IsFormed script s → May script s e → IfSome (change_of e).mover (λ m. IsInside s.goroutines m.0)
+inside-May script s e good formed may =
+    elim (change_of e).mover as (λ o. IfSome o (λ m. goroutine_at s m.0 ≡ None → ⊥) → IfSome o (λ m. IsInside s.goroutines m.0)) [
+      | None ↦ λ h. tt
+      | Some m ↦ λ h. inside_there script s m.0 good formed h
+    ] (there-May script s e may)
 
 -- ---- the first timers
 
@@ -103,3 +91,12 @@ pub room_begun : (gs hs : List Goroutine) (r : Goroutine) (x y : ℕ) → hs ≡
 room_begun gs hs r x y e k =
     let more : length hs ≡ length gs + 1 = ap length e ∙ length-append gs (r ∷ []) in
     omega arith
+
+-- ---- the timers
+
+-- a change of a timer is a write at its place
+pub retimed-set : (script : Script) (s : State) (mover : Option (ℕ × Move)) (ts : List (Option Timer)) (t : ℕ) (setting : Setting) (was : Option Timer)
+    → slice_get ts t ≡ Some was → set ts t (retimed_in (world_of s (number_of mover)) setting was) ≡ retimed script s mover t ts setting
+retimed-set script s mover ts t (Setting.Made due) was e = refl
+retimed-set script s mover ts t (Setting.SetAnew due) was e = sym (change-set ts t (set_again due 0) was e)
+retimed-set script s mover ts t (Setting.Ended due) was e = sym (change-set ts t (set_due due) was e)

@@ -1,8 +1,9 @@
-//! The state of the one-thread machine in tables whose memory is taken once: clock, goroutines and timers of one world, found by their places, and how far the
-//! run is. Each entry does to the tables what it does to the state.
+//! The state of the one-thread machine in tables whose memory is taken once: clocks, goroutines and timers, found by their places, and how far the run
+//! is. Each entry does to the tables what it does to the state.
 #![tactic(auto)]
 
+mod changes;
+mod lookups;
 mod machine;
-mod timers;
 
-pub use machine::{Machine, PROGRAM};
+pub use machine::Machine;

@@ -1,37 +1,33 @@
 //! The tables.
 
-ghost use Rattle.std.specs.Prelude.{◌≡◌, ◌+◌, ◌<◌, ◌≤◌, ◌++◌, ◌∷◌, [], IfOk, IsSome, IsSomeAnd, IsTrue, Some, is_some, length, ◌^◌, ◌-◌, set, slice_get, replicate};
-ghost use Rattle.std.specs.Option.{option_map};
-ghost use Rattle.gt_model.specs.Tables.{numbered, change, change_numbered};
+ghost use Rattle.std.specs.Prelude.{ℕ, ◌≡◌, ◌+◌, ◌<◌, ◌≤◌, IfOk, IfSome, IsSome, IsSomeAnd, Some, length, ◌^◌, ◌-◌, ◌++◌, ◌∷◌, [], replicate};
+ghost use Rattle.std.specs.Option.{option_copied, option_map};
+ghost use Rattle.gt_model.specs.Tables.{numbered};
 ghost use Rattle.gt_model.specs.Good.{IsGood};
 ghost use Rattle.gt_rules.specs.State as at;
 ghost use Rattle.gt_rules.specs.Panics as panics;
-ghost use Rattle.gt_rules.specs.After.{after, moved_on, in_mode, begun, set_due, set_again, moves, ends, with_new, with_goroutine, with_timer, with_due, first_state};
+ghost use Rattle.gt_rules.specs.After as after;
 ghost use Rattle.gt_rules.specs.Legal.{May};
+ghost use Rattle.gt_rules.specs.Change.{started};
 ghost use Rattle.gt_facts.specs.Formed.{IsFormed};
-ghost use Rattle.gt_machine.specs.Machine.{state_of, counted};
+ghost use Rattle.gt_machine.specs.Machine.{state_of, IsInside, with_new};
 ghost use Rattle.gt_machine.specs.Outcomes as outcomes;
 ghost use Rattle.gt_machine.specs.Places.{placed_at};
 
-use crate::timers::{set_anew, with_due};
+use crate::changes::{begun, moved, retimed};
+use crate::lookups::{function_of, instr_at};
 use gt_model::{
-    Decl, Ending, Entry, Goroutine, Instr, Limits, Mode, NoMemory, Outcome, Place, Reason, Script,
-    Timer, What,
+    Ending, Entry, Goroutine, Instr, Limits, Mode, NoMemory, Outcome, Reason, Script, Timer,
 };
 use gt_room::Room;
+use gt_rules::{Move, Setting, Start, clock_of, ending_of, mover_of, start_of, timer_of};
 use std::alloc::Global;
 
-/// The number of the program's world, the only one so far.
-pub const PROGRAM: u32 = 0;
-
-/// The number of the goroutine that runs `main`.
-const MAIN: u32 = 1;
-
-/// The state of the machine of one world.
+/// The state of the machine.
 #[derive(Drop)]
 pub struct Machine {
-    /// The program's clock, in nanoseconds.
-    pub clock: u64,
+    /// The clocks by world, in nanoseconds; the program is world 0.
+    pub clocks: Vec<u64>,
     /// How many entries were made, the end of the run not counted.
     pub entries: u64,
     /// The goroutines; number 1 is at place 0.
@@ -42,232 +38,32 @@ pub struct Machine {
     pub ending: Ending,
 }
 
-/// A goroutine of the program at the beginning of a function.
-fn begun(f: u32) -> Goroutine
-    ensures { (script : _) → result ≡ begun script 0 f }
-{
-    Goroutine {
-        world: PROGRAM,
-        place: Place { func: f, at: 0 },
-        mode: Mode::At,
-    }
-}
-
-/// Goroutine g moves on after its instruction.
-fn move_on(goroutines: &mut Room<Goroutine>, g: u32)
-    requires inside { IsSomeAnd (numbered goroutines.old.items g) (λ r. r.place.at < 2 ^ 32 - 1) }
-    ensures items { (script : _) → goroutines.new.items ≡ change_numbered goroutines.old.items g (moved_on script) }
-    ensures spare { goroutines.new.spare ≡ goroutines.old.spare }
-{
-    let mut moved = *goroutines.at((g - 1) as usize);
-    moved.place.at += 1;
-    moved.mode = Mode::At;
-    goroutines.set((g - 1) as usize, moved);
-}
-
-/// Goroutine g goes into a mode.
-fn put_mode(goroutines: &mut Room<Goroutine>, g: u32, mode: Mode)
-    requires { IsSomeAnd (numbered goroutines.old.items g) (λ _. Unit {0}) }
-    ensures items { goroutines.new.items ≡ change_numbered goroutines.old.items g (in_mode mode) }
-    ensures spare { goroutines.new.spare ≡ goroutines.old.spare }
-{
-    let mut changed = *goroutines.at((g - 1) as usize);
-    changed.mode = mode;
-    goroutines.set((g - 1) as usize, changed);
-}
-
-/// The timer at a place is changed.
-fn put_timer(timers: &mut Vec<Option<Timer>>, t: u32, timer: Option<Timer>)
-    requires { t < length timers.old.items }
-    ensures { timers.new.items ≡ set timers.old.items t timer }
-{
-    timers[t as usize] = timer;
-}
-
-/// The due time of a timer is changed.
-fn put_due(timers: &mut Vec<Option<Timer>>, t: u32, due: Option<u64>)
-    requires { t < length timers.old.items }
-    ensures { timers.new.items ≡ change timers.old.items t (set_due due) }
-{
-    let changed = with_due(timers[t as usize], due);
-    timers[t as usize] = changed;
-}
-
-/// A timer is set anew.
-fn put_anew(timers: &mut Vec<Option<Timer>>, t: u32, due: u64, period: u64)
-    requires { t < length timers.old.items }
-    ensures { timers.new.items ≡ change timers.old.items t (set_again due period) }
-{
-    let changed = set_anew(timers[t as usize], due, period);
-    timers[t as usize] = changed;
-}
-
 /// So many timers, none of them made.
 fn unmade(alloc: Global, n: usize) -> Result<Vec<Option<Timer>>, NoMemory>
     ensures { IfOk result (λ timers. timers.items ≡ replicate n None) }
 {
-    match vec![in alloc; None; n] {
-        Ok(timers) => Ok(timers),
-        Err(_) => Err(NoMemory),
-    }
+    vec![in alloc; None; n].map_err(|_| NoMemory)
 }
 
 impl Machine {
-    ghost use Rattle.gt_machine.specs.Machine.{state_of};
-
     /// The first state of a script, with room for the goroutines of a run of so many entries. It takes their memory here.
     pub fn begin(alloc: Global, script: &Script, most: u64) -> Result<Machine, NoMemory>
         requires good { IsGood script.now }
         requires few { most ≤ 200000 }
-        ensures state { IfOk result (λ m. state_of m ≡ first_state script.now) }
+        ensures state { IfOk result (λ m. state_of m ≡ after.first_state script.now) }
         ensures room { IfOk result (λ m. m.goroutines.spare ≡ most) }
     {
+        let clocks = vec![in alloc; 0].map_err(|_| NoMemory)?;
         let mut goroutines = Room::with_room(alloc, most as usize + 1).map_err(|_| NoMemory)?;
-        goroutines.put(begun(script.main));
+        goroutines.put(begun(script, 0, script.main));
         let timers = unmade(alloc, script.decls.as_slice().len())?;
         Ok(Machine {
-            clock: 0,
+            clocks,
             entries: 0,
             goroutines,
             timers,
             ending: Ending::Running,
         })
-    }
-
-    /// Goroutine g moves on.
-    fn pass(&mut self, g: u32)
-        requires inside { IsSomeAnd (numbered self.old.goroutines.items g) (λ r. r.place.at < 2 ^ 32 - 1) }
-        requires few { self.old.entries < 200000 }
-        ensures state { (script : _) → state_of self.new ≡ counted (moves script (state_of self.old) g) }
-        ensures room { self.new.goroutines.spare ≡ self.old.goroutines.spare }
-    {
-        self.entries += 1;
-        move_on(&mut self.goroutines, g);
-    }
-
-    /// Goroutine g moves on, and a new one begins.
-    fn start(&mut self, g: u32, f: u32)
-        requires inside { IsSomeAnd (numbered self.old.goroutines.items g) (λ r. r.place.at < 2 ^ 32 - 1) }
-        requires few { self.old.entries < 200000 }
-        requires room { 0 < self.old.goroutines.spare }
-        ensures state { (script : _) → state_of self.new ≡ counted (with_new script (moves script (state_of self.old) g) 0 f) }
-        ensures room { self.new.goroutines.spare + 1 ≡ self.old.goroutines.spare }
-    {
-        self.entries += 1;
-        move_on(&mut self.goroutines, g);
-        self.goroutines.put(begun(f));
-    }
-
-    /// The function of goroutine g ends, and with main's the run.
-    fn end(&mut self, g: u32)
-        requires inside { IsSomeAnd (numbered self.old.goroutines.items g) (λ _. Unit {0}) }
-        requires few { self.old.entries < 200000 }
-        ensures state { state_of self.new ≡ counted (ends (state_of self.old) g) }
-        ensures room { self.new.goroutines.spare ≡ self.old.goroutines.spare }
-    {
-        self.entries += 1;
-        put_mode(&mut self.goroutines, g, Mode::Ended);
-        if g == MAIN {
-            self.ending = Ending::MainEnded;
-        }
-    }
-
-    /// Goroutine g falls asleep until a time.
-    fn fall_asleep(&mut self, g: u32, until: u64)
-        requires inside { IsSomeAnd (numbered self.old.goroutines.items g) (λ _. Unit {0}) }
-        requires few { self.old.entries < 200000 }
-        ensures state { state_of self.new ≡ counted (with_goroutine (state_of self.old) g (in_mode (Mode.Sleeping until))) }
-        ensures room { self.new.goroutines.spare ≡ self.old.goroutines.spare }
-    {
-        self.entries += 1;
-        put_mode(&mut self.goroutines, g, Mode::Sleeping { until });
-    }
-
-    /// Goroutine g makes a timer.
-    fn make(&mut self, g: u32, t: u32, due: u64)
-        requires inside { IsSomeAnd (numbered self.old.goroutines.items g) (λ r. r.place.at < 2 ^ 32 - 1) }
-        requires few { self.old.entries < 200000 }
-        requires place { t < length self.old.timers.items }
-        ensures state { (script : _) → state_of self.new
-            ≡ counted (moves script (with_timer (state_of self.old) t (record { world = 0; due = Some due; period = 0 })) g) }
-        ensures room { self.new.goroutines.spare ≡ self.old.goroutines.spare }
-    {
-        let timer = Timer {
-            world: PROGRAM,
-            due: Some(due),
-            period: 0,
-        };
-        self.entries += 1;
-        put_timer(&mut self.timers, t, Some(timer));
-        move_on(&mut self.goroutines, g);
-    }
-
-    /// Goroutine g moves on, and a timer has another due time.
-    fn change_due(&mut self, g: u32, t: u32, due: Option<u64>)
-        requires inside { IsSomeAnd (numbered self.old.goroutines.items g) (λ r. r.place.at < 2 ^ 32 - 1) }
-        requires few { self.old.entries < 200000 }
-        requires place { t < length self.old.timers.items }
-        ensures state { (script : _) → state_of self.new ≡ counted (moves script (with_due (state_of self.old) t due) g) }
-        ensures room { self.new.goroutines.spare ≡ self.old.goroutines.spare }
-    {
-        self.entries += 1;
-        put_due(&mut self.timers, t, due);
-        move_on(&mut self.goroutines, g);
-    }
-
-    /// Goroutine g sets a timer anew.
-    fn reset(&mut self, g: u32, t: u32, due: u64)
-        requires inside { IsSomeAnd (numbered self.old.goroutines.items g) (λ r. r.place.at < 2 ^ 32 - 1) }
-        requires few { self.old.entries < 200000 }
-        requires place { t < length self.old.timers.items }
-        ensures state { (script : _) → state_of self.new
-            ≡ counted (moves script (record (state_of self.old) { timers = change (state_of self.old).timers t (set_again due 0) }) g) }
-        ensures room { self.new.goroutines.spare ≡ self.old.goroutines.spare }
-    {
-        self.entries += 1;
-        put_anew(&mut self.timers, t, due, 0);
-        move_on(&mut self.goroutines, g);
-    }
-
-    /// An AfterFunc timer starts its function.
-    fn fire(&mut self, t: u32, f: u32)
-        requires few { self.old.entries < 200000 }
-        requires room { 0 < self.old.goroutines.spare }
-        requires place { t < length self.old.timers.items }
-        ensures state { (script : _) → state_of self.new ≡ counted (with_new script (with_due (state_of self.old) t None) 0 f) }
-        ensures room { self.new.goroutines.spare + 1 ≡ self.old.goroutines.spare }
-    {
-        self.entries += 1;
-        put_due(&mut self.timers, t, None);
-        self.goroutines.put(begun(f));
-    }
-
-    /// The program's clock moves.
-    fn move_clock(&mut self, at: u64)
-        requires few { self.old.entries < 200000 }
-        ensures state { state_of self.new ≡ counted (record (state_of self.old) { clocks = set (state_of self.old).clocks 0 at }) }
-        ensures room { self.new.goroutines.spare ≡ self.old.goroutines.spare }
-    {
-        self.entries += 1;
-        self.clock = at;
-    }
-
-    /// A goroutine has misused an object.
-    fn panic(&mut self)
-        requires few { self.old.entries < 200000 }
-        ensures state { state_of self.new ≡ counted (record (state_of self.old) { ending = Ending.Panicked }) }
-        ensures room { self.new.goroutines.spare ≡ self.old.goroutines.spare }
-    {
-        self.entries += 1;
-        self.ending = Ending::Panicked;
-    }
-
-    /// The run ends with an outcome.
-    pub fn finish(&mut self, outcome: Outcome)
-        ensures state { (script : _) → state_of self.new ≡ after script (state_of self.old) (Entry.Finish outcome) }
-        ensures room { self.new.goroutines ≡ self.old.goroutines }
-    {
-        self.ending = Ending::Finished(outcome);
     }
 
     /// The entry is made, and the state goes on.
@@ -277,29 +73,98 @@ impl Machine {
         requires may { May script.now (state_of self.old) entry.now }
         requires room { 0 < self.old.goroutines.spare }
         requires few { self.old.entries < 200000 }
-        ensures state { state_of self.new ≡ after script.now (state_of self.old) entry.now }
+        ensures state { state_of self.new ≡ after.after script.now (state_of self.old) entry.now }
         ensures room { length self.new.goroutines.items + self.new.goroutines.spare
             ≡ length self.old.goroutines.items + self.old.goroutines.spare }
     {
-        match *entry {
-            Entry::Say { g, .. } => self.pass(g),
-            Entry::Now { g, .. } => self.pass(g),
-            Entry::Wake { g } => self.pass(g),
-            Entry::Sleep { g, until: None } => self.pass(g),
-            Entry::Sleep {
-                g,
-                until: Some(until),
-            } => self.fall_asleep(g, until),
-            Entry::Go { g, f, .. } => self.start(g, f),
-            Entry::End { g } => self.end(g),
-            Entry::New { g, t, due } => self.make(g, t, due),
-            Entry::Stop { g, t, .. } => self.change_due(g, t, None),
-            Entry::Reset { g, t, due, .. } => self.reset(g, t, due),
-            Entry::TRecv { p, t, next, .. } => self.change_due(p.g, t, next),
-            Entry::FireFunc { t, .. } => self.fire(t, function_of(script, t)),
-            Entry::Clock { at, .. } => self.move_clock(at),
-            Entry::Panic { .. } => self.panic(),
-            Entry::Finish { outcome } => self.finish(outcome),
+        let mover = mover_of(entry);
+        let begins = self.started(script, start_of(entry));
+        self.retime(script, mover, timer_of(entry));
+        self.move_on(script, mover);
+        self.start(begins);
+        self.move_clock(clock_of(entry));
+        self.end(ending_of(entry));
+        self.entries += 1;
+    }
+
+    /// The run ends with an outcome.
+    pub fn finish(&mut self, outcome: Outcome)
+        ensures state { (script : _) → state_of self.new ≡ after.after script (state_of self.old) (Entry.Finish outcome) }
+        ensures room { self.new.goroutines ≡ self.old.goroutines }
+    {
+        self.ending = Ending::Finished(outcome);
+    }
+
+    /// The goroutine that is started, in the world of who starts it.
+    fn started(&self, script: &Script, start: Option<Start>) -> Option<Goroutine>
+        ensures { result ≡ option_map (after.started_by script.now (state_of self.now)) start }
+    {
+        Some(match start? {
+            Start::ByGoroutine { g, f } => begun(script, self.world_of(g), f),
+            Start::ByTimer { t } => begun(script, self.timer_world(t), function_of(script, t)),
+        })
+    }
+
+    /// What becomes of a timer, by who makes the entry.
+    fn retime(&mut self, script: &Script, mover: Option<(u32, Move)>, change: Option<(u32, Setting)>)
+        requires { IfSome change (λ x. x.0 < length self.old.timers.items) }
+        ensures state { state_of self.new ≡ record (state_of self.old) {
+            timers = after.with_retimed script.now (state_of self.old) mover (state_of self.old).timers change } }
+        ensures room { self.new.goroutines ≡ self.old.goroutines }
+    {
+        let Some((t, setting)) = change else {
+            return;
+        };
+        let world = self.mover_world(mover);
+        self.timers[t as usize] = retimed(world, self.timers[t as usize], setting);
+    }
+
+    /// What becomes of who makes the entry.
+    fn move_on(&mut self, script: &Script, mover: Option<(u32, Move)>)
+        requires { IfSome mover (λ x. IsInside self.old.goroutines.items x.0) }
+        ensures state { state_of self.new ≡ record (state_of self.old) {
+            goroutines = after.with_mover script.now (state_of self.old).goroutines mover } }
+        ensures many { length self.new.goroutines.items ≡ length self.old.goroutines.items }
+        ensures spare { self.new.goroutines.spare ≡ self.old.goroutines.spare }
+    {
+        if let Some((g, how)) = mover {
+            let place = g as usize - 1;
+            let was = *self.goroutines.at(place);
+            self.goroutines.set(place, moved(script, was, how));
+        }
+    }
+
+    /// A goroutine begins, if one is started.
+    fn start(&mut self, begins: Option<Goroutine>)
+        requires { 0 < self.old.goroutines.spare }
+        ensures state { state_of self.new ≡ record (state_of self.old) {
+            goroutines = with_new (state_of self.old).goroutines begins } }
+        ensures room { length self.new.goroutines.items + self.new.goroutines.spare
+            ≡ length self.old.goroutines.items + self.old.goroutines.spare }
+    {
+        if let Some(r) = begins {
+            self.goroutines.put(r);
+        }
+    }
+
+    /// A clock moves, if the entry moves one.
+    fn move_clock(&mut self, clock: Option<(u32, u64)>)
+        requires { IfSome clock (λ x. x.0 < length self.old.clocks.items) }
+        ensures state { state_of self.new ≡ record (state_of self.old) { clocks = after.with_clock (state_of self.old).clocks clock } }
+        ensures room { self.new.goroutines ≡ self.old.goroutines }
+    {
+        if let Some((world, at)) = clock {
+            self.clocks[world as usize] = at;
+        }
+    }
+
+    /// The run ends, if the entry ends it.
+    fn end(&mut self, ending: Option<Ending>)
+        ensures state { state_of self.new ≡ record (state_of self.old) { ending = after.option_or (state_of self.old).ending ending } }
+        ensures room { self.new.goroutines ≡ self.old.goroutines }
+    {
+        if let Some(ending) = ending {
+            self.ending = ending;
         }
     }
 }
@@ -328,10 +193,50 @@ impl Machine {
         }
     }
 
+    /// The world of goroutine g; 0 where no goroutine has that number.
+    fn world_of(&self, g: u32) -> u32
+        ensures { result ≡ at.world_of (state_of self.now) g }
+    {
+        self.goroutine(g).map_or(0, |r| r.world)
+    }
+
+    /// The world of who makes an entry; 0 where nobody does.
+    fn mover_world(&self, mover: Option<(u32, Move)>) -> u32
+        ensures { result ≡ at.world_of (state_of self.now) (after.number_of mover) }
+    {
+        match mover {
+            Some((g, _)) => self.world_of(g),
+            None => 0,
+        }
+    }
+
+    /// The world in which timer t was made; 0 where it was not made.
+    fn timer_world(&self, t: u32) -> u32
+        ensures { result ≡ after.timer_world (state_of self.now) t }
+    {
+        self.timer(t).map_or(0, |timer| timer.world)
+    }
+
+    /// The clock of a world, in nanoseconds.
+    pub fn clock(&self, world: u32) -> u64
+        requires { world < length self.now.clocks.items }
+        ensures { result ≡ at.clock (state_of self.now) world }
+    {
+        self.clocks[world as usize]
+    }
+
+    /// The clock of the world of goroutine g, in nanoseconds.
+    pub fn clock_of(&self, g: u32) -> u64
+        requires { at.world_of (state_of self.now) g < length self.now.clocks.items }
+        ensures { result ≡ at.clock_of (state_of self.now) g }
+    {
+        self.clock(self.world_of(g))
+    }
+
     /// The instruction at which goroutine g stands. None where there is no such goroutine, where it sleeps and where it has
     /// ended.
-    pub fn stands_at(&self, script: &Script, g: u32) -> Option<Instr>
-        ensures { result ≡ at.stands_at script.now (state_of self.now) g }
+    pub fn stands_at<'a>(&self, script: &'a Script, g: u32) -> Option<&'a Instr>
+        ensures { option_copied result ≡ at.stands_at script.now (state_of self.now) g }
     {
         match self.goroutine(g) {
             Some(
@@ -431,29 +336,4 @@ fn when(test: bool, reason: Reason) -> Option<Reason>
     ensures { result ≡ panics.when test reason }
 {
     if test { Some(reason) } else { None }
-}
-
-/// The instruction at a place; none where no code has that place.
-fn instr_at(script: &Script, place: Place) -> Option<Instr>
-    ensures { result ≡ at.instr_at script.now place }
-{
-    match script.funcs.as_slice().get(place.func as usize) {
-        Some(func) => func.code.as_slice().get(place.at as usize).copied(),
-        None => None,
-    }
-}
-
-/// The function that an AfterFunc timer starts.
-fn function_of(script: &Script, t: u32) -> u32
-    ensures { result ≡ at.func_of script.now t }
-{
-    match script.decls.as_slice().get(t as usize) {
-        Some(
-            Decl {
-                what: What::AfterFunc { func },
-                ..
-            },
-        ) => *func,
-        _ => 0,
-    }
 }

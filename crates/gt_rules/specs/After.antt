@@ -14,7 +14,10 @@ use Rattle.gt_model.specs.Tables.{change, change_numbered}
 use Rattle.gt_rules.specs.State.{State, stands_at, world_of, timer_at}
 use Rattle.gt_model.specs.Script.{func_of}
 use Rattle.gt_rules.specs.Places.{first_place, place_after}
-use Rattle.gt_rules.specs.Change.{Change, Move, goes_on, falls_asleep, ends, Setting, made, set_anew, ended, Start, by_goroutine, by_timer, change_of}
+use Rattle.gt_rules.specs.declared.change.Move.{Move}
+use Rattle.gt_rules.specs.declared.change.Setting.{Setting}
+use Rattle.gt_rules.specs.declared.change.Start.{Start}
+use Rattle.gt_rules.specs.Change.{Change, change_of}
 
 abbrev pub in_mode : Mode → Goroutine → Goroutine
 in_mode mode r = record r { mode = mode }
@@ -24,9 +27,9 @@ abbrev pub moved_on : Script → Goroutine → Goroutine
 moved_on script r = record r { place = place_after script r.place; mode = Mode.At }
 
 abbrev pub moved : Script → Move → Goroutine → Goroutine
-moved script (goes_on case_no) r = moved_on script r
-moved script (falls_asleep until) r = in_mode (Mode.Sleeping until) r
-moved script ends r = in_mode Mode.Ended r
+moved script (Move.GoesOn case_no) r = moved_on script r
+moved script (Move.FallsAsleep until) r = in_mode (Mode.Sleeping until) r
+moved script Move.Ends r = in_mode Mode.Ended r
 
 -- a new goroutine at the beginning of function f
 abbrev pub begun : Script → ℕ → ℕ → Goroutine
@@ -63,10 +66,10 @@ timer_world s t = elim (timer_at s t) [ None ↦ 0 | Some r ↦ r.world ]
 
 -- the timer after a change of it, by goroutine g of the change where somebody makes it
 abbrev pub retimed : Script → State → Option (ℕ × Move) → ℕ → List (Option Timer) → Setting → List (Option Timer)
-retimed script s mover t timers (made due) =
+retimed script s mover t timers (Setting.Made due) =
     set timers t (Some (record { world = world_of s (number_of mover); due = Some due; period = new_period script s (number_of mover) t }))
-retimed script s mover t timers (set_anew due) = change timers t (set_again due (new_period script s (number_of mover) t))
-retimed script s mover t timers (ended due) = change timers t (set_due due)
+retimed script s mover t timers (Setting.SetAnew due) = change timers t (set_again due (new_period script s (number_of mover) t))
+retimed script s mover t timers (Setting.Ended due) = change timers t (set_due due)
 
 abbrev pub with_mover : Script → List Goroutine → Option (ℕ × Move) → List Goroutine
 with_mover script gs None = gs
@@ -74,8 +77,8 @@ with_mover script gs (Some m) = change_numbered gs m.0 (moved script m.1)
 
 -- a goroutine that is started has the world of who starts it
 abbrev pub started_by : Script → State → Start → Goroutine
-started_by script s (by_goroutine g f) = begun script (world_of s g) f
-started_by script s (by_timer t) = begun script (timer_world s t) (func_of script t)
+started_by script s (Start.ByGoroutine g f) = begun script (world_of s g) f
+started_by script s (Start.ByTimer t) = begun script (timer_world s t) (func_of script t)
 
 abbrev pub with_starts : Script → State → List Goroutine → List Start → List Goroutine
 with_starts script s gs [] = gs

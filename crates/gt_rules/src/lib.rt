@@ -1,2 +1,7 @@
-//! The rules of the one-thread timer machine, in specs/: its state, which entry may come next, and the state after it.
+//! The rules of the one-thread timer machine, in specs/: its state, which entry may come next, and the state after it. The code tells what an entry
+//! changes.
 #![tactic(auto)]
+
+mod change;
+
+pub use change::{Move, Setting, Start, clock_of, ending_of, mover_of, start_of, timer_of};

@@ -1,5 +1,0 @@
-use Rattle.std.proofs.Common.{refl}
-use Rattle.gt_machine.proofs.machine.Machine.fire.Goals as goal
-
-pub returns-clause-state : goal.returns-clause-state
-returns-clause-state c = λ script. rw (c.put.ensures.items, c.put_due.ensures, c.begun.ensures script) refl

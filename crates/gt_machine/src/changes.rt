@@ -1,0 +1,93 @@
+//! What becomes of one goroutine, and of one timer.
+
+ghost use Rattle.std.specs.Prelude.{◌≡◌, ◌<◌, ◌-◌, ◌^◌, Some};
+ghost use Rattle.gt_rules.specs.Places as places;
+ghost use Rattle.gt_rules.specs.After as after;
+ghost use Rattle.gt_machine.specs.Machine.{retimed_in};
+
+use gt_model::{Goroutine, Mode, Place, Script, Timer};
+use gt_rules::{Move, Setting};
+
+/// The first place of a function.
+fn first_place(_script: &Script, f: u32) -> Place
+    ensures { result ≡ places.first_place _script.now f }
+{
+    Place { func: f, at: 0 }
+}
+
+/// The place after an instruction.
+fn place_after(_script: &Script, place: Place) -> Place
+    requires { place.at < 2 ^ 32 - 1 }
+    ensures { result ≡ places.place_after _script.now place }
+{
+    Place {
+        at: place.at + 1,
+        ..place
+    }
+}
+
+/// A goroutine of a world at the beginning of a function.
+pub fn begun(script: &Script, world: u32, f: u32) -> Goroutine
+    ensures { result ≡ after.begun script.now world f }
+{
+    Goroutine {
+        world,
+        place: first_place(script, f),
+        mode: Mode::At,
+    }
+}
+
+/// What becomes of a goroutine.
+pub fn moved(script: &Script, r: Goroutine, how: Move) -> Goroutine
+    requires { r.place.at < 2 ^ 32 - 1 }
+    ensures { result ≡ after.moved script.now how r }
+{
+    match how {
+        Move::GoesOn { .. } => Goroutine {
+            place: place_after(script, r.place),
+            mode: Mode::At,
+            ..r
+        },
+        Move::FallsAsleep { until } => Goroutine {
+            mode: Mode::Sleeping { until },
+            ..r
+        },
+        Move::Ends => Goroutine {
+            mode: Mode::Ended,
+            ..r
+        },
+    }
+}
+
+/// A timer with another due time, if it was made.
+fn with_due(timer: Option<Timer>, due: Option<u64>) -> Option<Timer>
+    ensures { result ≡ after.set_due due timer }
+{
+    timer.map(|timer| Timer { due, ..timer })
+}
+
+/// A timer that is set anew, if it was made.
+fn set_anew(timer: Option<Timer>, due: u64, period: u64) -> Option<Timer>
+    ensures { result ≡ after.set_again due period timer }
+{
+    timer.map(|timer| Timer {
+        due: Some(due),
+        period,
+        ..timer
+    })
+}
+
+/// What becomes of a timer, by somebody of a world. No timer ticks again so far, so each period is 0.
+pub fn retimed(world: u32, was: Option<Timer>, setting: Setting) -> Option<Timer>
+    ensures { result ≡ retimed_in world setting was }
+{
+    match setting {
+        Setting::Made { due } => Some(Timer {
+            world,
+            due: Some(due),
+            period: 0,
+        }),
+        Setting::SetAnew { due } => set_anew(was, due, 0),
+        Setting::Ended { next } => with_due(was, next),
+    }
+}

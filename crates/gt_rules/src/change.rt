@@ -1,0 +1,112 @@
+//! What an entry changes: the tellers of one table.
+
+ghost use Rattle.std.specs.Prelude.{◌≡◌};
+ghost use Rattle.gt_rules.specs.Change as table;
+
+use gt_model::{Ending, Entry};
+
+/// What becomes of the goroutine that makes an entry.
+#[derive(Clone, Copy)]
+pub enum Move {
+    /// It goes on after this case of its instruction, from 1; 0 stands for a plain instruction.
+    GoesOn { case_no: u32 },
+    /// It sleeps until a time, in nanoseconds.
+    FallsAsleep { until: u64 },
+    /// Its function has ended.
+    Ends,
+}
+
+/// What becomes of a timer.
+#[derive(Clone, Copy)]
+pub enum Setting {
+    /// It is made, due at a time, in nanoseconds.
+    Made { due: u64 },
+    /// It is set anew, due at a time, in nanoseconds.
+    SetAnew { due: u64 },
+    /// Its setting ends; it may have another due time then, in nanoseconds.
+    Ended { next: Option<u64> },
+}
+
+/// Who starts a goroutine.
+#[derive(Clone, Copy)]
+pub enum Start {
+    /// Goroutine `g`, which names the function at place `f`.
+    ByGoroutine { g: u32, f: u32 },
+    /// The AfterFunc timer of this declaration, which names the function.
+    ByTimer { t: u32 },
+}
+
+/// The goroutine whose place or mode an entry changes, and what becomes of it.
+pub fn mover_of(entry: &Entry) -> Option<(u32, Move)>
+    ensures { result ≡ (table.change_of entry.now).mover }
+{
+    let case_no = 0;
+    match *entry {
+        Entry::Say { g, .. }
+        | Entry::Now { g, .. }
+        | Entry::Go { g, .. }
+        | Entry::Wake { g }
+        | Entry::New { g, .. }
+        | Entry::Stop { g, .. }
+        | Entry::Reset { g, .. }
+        | Entry::Sleep { g, until: None } => Some((g, Move::GoesOn { case_no })),
+        Entry::TRecv { p, .. } => Some((p.g, Move::GoesOn { case_no: p.case_no })),
+        Entry::Sleep {
+            g,
+            until: Some(until),
+        } => Some((g, Move::FallsAsleep { until })),
+        Entry::End { g } => Some((g, Move::Ends)),
+        Entry::FireFunc { .. }
+        | Entry::Clock { .. }
+        | Entry::Panic { .. }
+        | Entry::Finish { .. } => None,
+    }
+}
+
+/// The timer that an entry changes, and what becomes of it.
+pub fn timer_of(entry: &Entry) -> Option<(u32, Setting)>
+    ensures { result ≡ (table.change_of entry.now).timer }
+{
+    match *entry {
+        Entry::New { t, due, .. } => Some((t, Setting::Made { due })),
+        Entry::Reset { t, due, .. } => Some((t, Setting::SetAnew { due })),
+        Entry::Stop { t, .. } | Entry::FireFunc { t, .. } => {
+            Some((t, Setting::Ended { next: None }))
+        }
+        Entry::TRecv { t, next, .. } => Some((t, Setting::Ended { next })),
+        _ => None,
+    }
+}
+
+/// Who starts a goroutine by an entry. An entry starts one at most so far.
+pub fn start_of(entry: &Entry) -> Option<Start>
+    ensures { (table.change_of entry.now).starts ≡ table.started result }
+{
+    match *entry {
+        Entry::Go { g, f, .. } => Some(Start::ByGoroutine { g, f }),
+        Entry::FireFunc { t, .. } => Some(Start::ByTimer { t }),
+        _ => None,
+    }
+}
+
+/// The world whose clock an entry moves, and the time of that clock, in nanoseconds.
+pub fn clock_of(entry: &Entry) -> Option<(u32, u64)>
+    ensures { result ≡ (table.change_of entry.now).clock }
+{
+    match *entry {
+        Entry::Clock { world, at } => Some((world, at)),
+        _ => None,
+    }
+}
+
+/// How far the run is after an entry, where the entry says it.
+pub fn ending_of(entry: &Entry) -> Option<Ending>
+    ensures { result ≡ (table.change_of entry.now).ending }
+{
+    match *entry {
+        Entry::End { g: 1 } => Some(Ending::MainEnded),
+        Entry::Panic { .. } => Some(Ending::Panicked),
+        Entry::Finish { outcome } => Some(Ending::Finished(outcome)),
+        _ => None,
+    }
+}
