@@ -5,3 +5,4 @@ pub mod Still
 pub mod Formed
 pub mod Within
 pub mod Named
+pub mod Fits
