@@ -7,3 +7,4 @@ pub mod Panics
 pub mod Laws
 pub mod Made
 pub mod Ends
+pub mod Converse

@@ -6,6 +6,7 @@ ghost use Rattle.gt_model.specs.declared.script.Script.{Script};
 ghost use Rattle.gt_model.specs.declared.entry.Entry.{Entry};
 ghost use Rattle.gt_model.specs.declared.entry.Limits.{Limits};
 ghost use Rattle.gt_model.specs.declared.entry.Outcome.{Outcome};
+ghost use Rattle.gt_model.specs.declared.state.Ending.{Ending};
 ghost use Rattle.gt_model.specs.Good.{IsGood};
 ghost use Rattle.gt_rules.specs.After.{first_state};
 ghost use Rattle.gt_rules.specs.Counted.{counted};
@@ -14,6 +15,7 @@ ghost use Rattle.gt_rules.specs.State.{State};
 ghost use Rattle.gt_facts.specs.Quiet.{IsQuiet};
 ghost use Rattle.gt_rules.specs.Finish.{IsIdle};
 ghost use Rattle.gt_facts.specs.Still.{IsStill};
+ghost use Rattle.gt_laws.specs.Told.{ending_told};
 ghost use Rattle.gt_laws.specs.Laws.{AtEach, InOrder, InTime, IsFresh, UsesRightly};
 ghost use Rattle.gt_laws.specs.Ends.{EndsRightly, EndsWhereStuck};
 ghost use Rattle.gt_laws.specs.GoesOn.{counted_told, IsStillTold, IsStuckTold};
@@ -54,6 +56,13 @@ pub fn a_run_ends_for_its_cause()
 pub fn a_stuck_run_ends()
     ensures { (script : Script) (limits : Limits) (slip : ℕ) (h : List Entry) (outcome : Outcome)
         → IsGood script → History script limits h outcome → AllJump script slip (first_state script) h → AtEach (EndsWhereStuck script limits) h }
+{}
+
+/// These laws say all that the machine's rules ask: a list of entries that keeps them at each entry and has a finish is a complete history.
+pub fn what_keeps_the_laws_is_a_history()
+    ensures { (script : Script) (limits : Limits) (h : List Entry) (outcome : Outcome)
+        → IsGood script → AtEach (InOrder script) h → AtEach (InTime script) h → AtEach IsFresh h → AtEach (UsesRightly script) h
+        → AtEach (EndsRightly script limits) h → ending_told h ≡ Ending.Finished outcome → History script limits h outcome }
 {}
 
 /// Where nothing can go on is told by the entries and the script alone: it is where the machine's state after them stands still and counts no time.
