@@ -1,5 +1,5 @@
 -- A run ends for its cause, and a deadlock is reported exactly where nothing can go on.
-use Rattle.std.proofs.Common.{◌≡◌, ℕ, zero, ◌+◌, ◌==◌, ◌<◌, min, List, [], ◌∷◌, ◌++◌, refl, sym, subst, ◌∙◌, arith, cond, None, Some, true, false, IsSomeAnd}
+use Rattle.std.proofs.Common.{◌≡◌, ℕ, zero, ◌+◌, ◌==◌, ◌<◌, min, List, [], refl, sym, subst, ◌∙◌, arith, cond, None, Some, true, false, IsSomeAnd}
 use Rattle.gt_model.specs.declared.script.Script.{Script}
 use Rattle.gt_model.specs.declared.entry.Entry.{Entry}
 use Rattle.gt_model.specs.declared.entry.Limits.{Limits}
@@ -9,16 +9,17 @@ use Rattle.gt_model.specs.Good.{IsGood}
 use Rattle.gt_model.specs.Tables.{least}
 use Rattle.gt_model.specs.Times.{greatest_time}
 use Rattle.gt_rules.specs.State.{State}
-use Rattle.gt_rules.specs.After.{after, first_state}
+use Rattle.gt_rules.specs.After.{first_state}
 use Rattle.gt_rules.specs.Counted.{counted}
 use Rattle.gt_rules.specs.Finish.{IsRunning, IsJump}
-use Rattle.gt_rules.specs.History.{History, AllJump, ClockJumps, state_after}
+use Rattle.gt_rules.specs.History.{History, AllJump, ClockJumps}
 use Rattle.gt_facts.proofs.Still.{still-IsIdle, idle-IsStill}
 use Rattle.gt_laws.specs.Told.{entries_told}
 use Rattle.gt_laws.specs.Laws.{AtEach}
 use Rattle.gt_laws.specs.Ends.{IsOn, SaysRightly, EndsRightly, EndsWhereStuck}
 use Rattle.gt_laws.proofs.Shown.{ending-told, entries-told}
 use Rattle.gt_laws.proofs.GoesOn.{reached, stuck-told, told-stuck}
+use Rattle.gt_laws.proofs.Jumps.{jumps-at}
 use Rattle.gt_laws.proofs.Comes.{Comes, comes, each}
 
 on : (script : Script) (limits : Limits) (front : List Entry) (e : Entry) → Comes script limits front e → IsRunning limits (reached script front) → IsOn limits front
@@ -48,11 +49,6 @@ pub each-ends : (script : Script) (limits : Limits) (h : List Entry) (outcome : 
 each-ends = each EndsRightly ends
 
 -- ---- where nothing can go on
-
-jumps-at : (script : Script) (slip : ℕ) (s : State) (front : List Entry) (e : Entry) (rest : List Entry) → AllJump script slip s (front ++ e ∷ rest)
-    → ClockJumps script slip (state_after script s front) e
-jumps-at script slip s [] e rest all = all.0
-jumps-at script slip s (x ∷ front) e rest all = jumps-at script slip (after script s x) front e rest all.1
 
 no-jump : (script : Script) (s : State) (slip to : ℕ) → counted script s 0 ≡ [] → IsJump script s slip to → ⊥
 no-jump script s slip to none jump = subst (λ (times : List ℕ). IsSomeAnd (least times) (λ t. to ≡ min (t + slip) greatest_time)) none jump.to_least

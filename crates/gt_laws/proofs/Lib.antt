@@ -6,5 +6,6 @@ pub mod Comes
 pub mod Panics
 pub mod Laws
 pub mod Made
+pub mod Jumps
 pub mod Ends
 pub mod Converse

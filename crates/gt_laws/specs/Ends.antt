@@ -1,5 +1,5 @@
--- How a run ends, and where: told by its entries and its script alone.
-use Rattle.std.specs.Prelude.{◌≡◌, ◌<◌, List}
+-- How a run ends, where, and where its clock jumps: told by its entries and its script alone.
+use Rattle.std.specs.Prelude.{ℕ, zero, suc, ◌+◌, ◌≡◌, ◌<◌, min, IsSomeAnd, List}
 use Rattle.std.specs.declared.option.Option.{Option}
 use Rattle.std.specs.declared.option.Option.TheVariants.{None, Some}
 use Rattle.gt_model.specs.declared.script.Script.{Script}
@@ -7,9 +7,11 @@ use Rattle.gt_model.specs.declared.entry.Entry.{Entry}
 use Rattle.gt_model.specs.declared.entry.Limits.{Limits}
 use Rattle.gt_model.specs.declared.entry.Outcome.{Outcome}
 use Rattle.gt_model.specs.declared.state.Ending.{Ending}
+use Rattle.gt_model.specs.Tables.{least}
+use Rattle.gt_model.specs.Times.{greatest_time}
 use Rattle.gt_rules.specs.Change.{change_of}
 use Rattle.gt_laws.specs.Told.{ending_told, entries_told}
-use Rattle.gt_laws.specs.GoesOn.{IsStuckTold}
+use Rattle.gt_laws.specs.GoesOn.{counted_told, IsStillTold, IsStuckTold}
 
 -- the run has not ended, and its limit is not reached
 abbrev pub IsOn : Limits → List Entry → Type 0
@@ -38,3 +40,14 @@ EndsRightly script limits front e = SaysRightly script limits front (change_of e
 -- where nothing can go on, the run ends with a deadlock
 abbrev pub EndsWhereStuck : Script → Limits → List Entry → Entry → Type 0
 EndsWhereStuck script limits front e = IsOn limits front → IsStuckTold script front → e ≡ Entry.Finish Outcome.Deadlock
+
+-- the move of a clock of this world: that of the program's is an idle jump. The program stands still, and its clock moves to the least counted time,
+-- and a slip more
+abbrev pub MovesIdly : Script → ℕ → List Entry → ℕ → ℕ → Type 0
+MovesIdly script slip front zero to =
+    IsStillTold script front × IsSomeAnd (least (counted_told script 0 front)) (λ time. to ≡ min (time + slip) greatest_time)
+MovesIdly script slip front (suc world) to = Unit {0}
+
+-- each move of the program's clock is an idle jump
+abbrev pub JumpsToLeast : Script → ℕ → List Entry → Entry → Type 0
+JumpsToLeast script slip front e = elim (change_of e).clock [ None ↦ Unit {0} | Some x ↦ MovesIdly script slip front x.0 x.1 ]

@@ -17,7 +17,7 @@ ghost use Rattle.gt_rules.specs.Finish.{IsIdle};
 ghost use Rattle.gt_facts.specs.Still.{IsStill};
 ghost use Rattle.gt_laws.specs.Told.{ending_told};
 ghost use Rattle.gt_laws.specs.Laws.{AtEach, InOrder, InTime, IsFresh, UsesRightly};
-ghost use Rattle.gt_laws.specs.Ends.{EndsRightly, EndsWhereStuck};
+ghost use Rattle.gt_laws.specs.Ends.{EndsRightly, EndsWhereStuck, JumpsToLeast};
 ghost use Rattle.gt_laws.specs.GoesOn.{counted_told, IsStillTold, IsStuckTold};
 ghost use Rattle.gt_laws.specs.Broken as broken;
 
@@ -56,6 +56,15 @@ pub fn a_run_ends_for_its_cause()
 pub fn a_stuck_run_ends()
     ensures { (script : Script) (limits : Limits) (slip : ℕ) (h : List Entry) (outcome : Outcome)
         → IsGood script → History script limits h outcome → AllJump script slip (first_state script) h → AtEach (EndsWhereStuck script limits) h }
+{}
+
+/// Where the program's clock moves by idle jumps alone is told by the entries and the script: it moves only where the program stands still, to its least
+/// counted time and a slip more.
+pub fn a_clock_jumps_to_the_least_time()
+    ensures told { (script : Script) (limits : Limits) (slip : ℕ) (h : List Entry) (outcome : Outcome)
+        → IsGood script → History script limits h outcome → AllJump script slip (first_state script) h → AtEach (JumpsToLeast script slip) h }
+    ensures jumps { (script : Script) (limits : Limits) (slip : ℕ) (h : List Entry) (outcome : Outcome)
+        → IsGood script → History script limits h outcome → AtEach (JumpsToLeast script slip) h → AllJump script slip (first_state script) h }
 {}
 
 /// These laws say all that the machine's rules ask: a list of entries that keeps them at each entry and has a finish is a complete history.
@@ -135,4 +144,10 @@ pub fn a_wrong_end_breaks_the_law()
     ensures time_after_the_end { (limits : Limits) → ¬ AtEach (EndsRightly broken.two_calls limits) broken.time_after_the_end }
     ensures stuck { IsStuckTold broken.one_wait broken.waits_in_vain }
     ensures in_vain { (limits : Limits) → 2 < limits.entries → ¬ AtEach (EndsWhereStuck broken.one_wait limits) broken.goes_on_in_vain }
+{}
+
+/// A jump of the clock past the end of a sleep, or where somebody could go on, is none of a history whose clock moves by idle jumps alone.
+pub fn a_far_jump_breaks_the_law()
+    ensures far { ¬ AtEach (JumpsToLeast broken.one_sleep 0) broken.jumps_far }
+    ensures early { (slip : ℕ) → ¬ AtEach (JumpsToLeast broken.one_sleep slip) broken.jumps_early }
 {}
