@@ -102,12 +102,12 @@ exits_early = Entry.Say 1 1 ∷ Entry.Finish Outcome.Exit ∷ []
 abbrev pub limit_early : List Entry
 limit_early = Entry.Finish Outcome.Limit ∷ []
 
--- the clock jumps past the end of a sleep; and where main could go on
-abbrev pub jumps_early : List Entry
-jumps_early = Entry.Clock 0 9 ∷ []
-
+-- the clock jumps past the end of a sleep, and where main could go on
 abbrev pub jumps_far : List Entry
 jumps_far = Entry.Sleep 1 (Some 9) ∷ Entry.Clock 0 11 ∷ []
+
+abbrev pub jumps_early : List Entry
+jumps_early = Entry.Clock 0 9 ∷ []
 
 -- it waits for a timer that was stopped; and time goes on without a deadlock
 abbrev pub waits_in_vain : List Entry
