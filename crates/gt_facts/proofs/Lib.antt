@@ -5,4 +5,4 @@ pub mod Still
 pub mod Formed
 pub mod Within
 pub mod Named
-pub mod Makers
+pub mod Fits

@@ -1,9 +1,11 @@
 pub mod Numbers
-pub mod Timers
-pub mod Sleeps
-pub mod Calls
-pub mod Starts
+pub mod Shown
+pub mod Everyone
+pub mod GoesOn
+pub mod Comes
+pub mod Panics
 pub mod Laws
-pub mod Ends
 pub mod Made
-pub mod Stuck
+pub mod Jumps
+pub mod Ends
+pub mod Converse

@@ -1,5 +1,5 @@
 -- Lists of entries that break a law.
-use Rattle.std.specs.Prelude.{List, [], ◌∷◌, ◌++◌, true, codes}
+use Rattle.std.specs.Prelude.{List, [], ◌∷◌, ◌++◌, true, false, codes}
 use Rattle.std.specs.declared.option.Option.TheVariants.{None, Some}
 use Rattle.gt_model.specs.declared.script.Script.{Script}
 use Rattle.gt_model.specs.declared.script.Instr.{Instr}
@@ -49,6 +49,14 @@ one_wait = record {
   main = 0;
 }
 
+-- func main / timer t / stop t / end
+abbrev pub one_stop : Script
+one_stop = record {
+  decls = (record { name = codes "main"; what = What.Function }) ∷ (record { name = codes "t"; what = What.Timer }) ∷ [];
+  funcs = (record { decl = 0; code = Instr.Stop 1 ∷ Instr.Finish ∷ [] }) ∷ [];
+  main = 0;
+}
+
 -- it falls asleep while it sleeps; the sleep is shorter than its call says
 abbrev pub asleep_twice : List Entry
 asleep_twice = Entry.Sleep 1 (Some 9) ∷ Entry.Sleep 1 (Some 9) ∷ []
@@ -56,16 +64,26 @@ asleep_twice = Entry.Sleep 1 (Some 9) ∷ Entry.Sleep 1 (Some 9) ∷ []
 abbrev pub cut_short : List Entry
 cut_short = Entry.Sleep 1 (Some 4) ∷ Entry.Clock 0 4 ∷ Entry.Wake 1 ∷ []
 
+-- who is awake wakes
+abbrev pub wakes_awake : List Entry
+wakes_awake = Entry.Wake 1 ∷ []
+
 -- who is started has a number that is taken
 abbrev pub number_twice : List Entry
 number_twice = Entry.Go 1 1 0 ∷ Entry.Go 1 2 0 ∷ Entry.End 1 ∷ []
 
--- a timer that is made twice; a panic at a call that is no misuse
+-- a timer that is made twice; one that is stopped and was not made; a panic at a call that is no misuse; a panic for another reason
 abbrev pub made_twice : List Entry
 made_twice = Entry.New 1 0 5 ∷ Entry.New 1 0 5 ∷ []
 
+abbrev pub unmade : List Entry
+unmade = Entry.Stop 1 1 (Some false) ∷ []
+
 abbrev pub for_nothing : List Entry
 for_nothing = Entry.Panic (record { g = 1; case_no = 0 }) Reason.Unmade ∷ []
+
+abbrev pub for_another_reason : List Entry
+for_another_reason = Entry.Panic (record { g = 1; case_no = 0 }) Reason.Twice ∷ []
 
 -- a deadlock while a sleep goes on; a call after the end of main's function
 abbrev pub given_up : List Entry
@@ -74,6 +92,23 @@ given_up = Entry.Sleep 1 (Some 9) ∷ Entry.Finish Outcome.Deadlock ∷ []
 abbrev pub after_the_end : List Entry
 after_the_end = Entry.Say 1 1 ∷ Entry.End 1 ∷ Entry.Say 1 2 ∷ []
 
+-- time goes on after it; an exit before it; a limit before its count of entries
+abbrev pub time_after_the_end : List Entry
+time_after_the_end = Entry.End 1 ∷ Entry.Clock 0 5 ∷ []
+
+abbrev pub exits_early : List Entry
+exits_early = Entry.Say 1 1 ∷ Entry.Finish Outcome.Exit ∷ []
+
+abbrev pub limit_early : List Entry
+limit_early = Entry.Finish Outcome.Limit ∷ []
+
+-- the clock jumps past the end of a sleep, and where main could go on
+abbrev pub jumps_far : List Entry
+jumps_far = Entry.Sleep 1 (Some 9) ∷ Entry.Clock 0 11 ∷ []
+
+abbrev pub jumps_early : List Entry
+jumps_early = Entry.Clock 0 9 ∷ []
+
 -- it waits for a timer that was stopped; and time goes on without a deadlock
 abbrev pub waits_in_vain : List Entry
 waits_in_vain = Entry.New 1 1 5 ∷ Entry.Stop 1 1 (Some true) ∷ []
@@ -81,9 +116,25 @@ waits_in_vain = Entry.New 1 1 5 ∷ Entry.Stop 1 1 (Some true) ∷ []
 abbrev pub goes_on_in_vain : List Entry
 goes_on_in_vain = waits_in_vain ++ Entry.Clock 0 9 ∷ []
 
--- a sleep that ends too early
+-- a sleep that ends too early; a clock that falls; a clock above the greatest time, 2^63 - 1; a look at the clock that sees another time
 abbrev pub early : List Entry
-early = Entry.Sleep 1 (Some 5000000) ∷ Entry.Clock 0 4999999 ∷ Entry.Wake 1 ∷ []
+early = Entry.Sleep 1 (Some 9) ∷ Entry.Clock 0 8 ∷ Entry.Wake 1 ∷ []
+
+abbrev pub falls_back : List Entry
+falls_back = Entry.Clock 0 5 ∷ Entry.Clock 0 4 ∷ []
+
+abbrev pub past_all_time : List Entry
+past_all_time = Entry.Clock 0 9223372036854775808 ∷ []
+
+abbrev pub wrong_time : List Entry
+wrong_time = Entry.Clock 0 5 ∷ Entry.Now 1 6 ∷ []
+
+-- a stop that answers that a timer which is set is not; an AfterFunc timer that fires after it was stopped
+abbrev pub denied : List Entry
+denied = Entry.New 1 0 1 ∷ Entry.Sleep 1 (Some 5) ∷ Entry.Clock 0 5 ∷ Entry.Wake 1 ∷ Entry.Stop 1 0 (Some false) ∷ []
+
+abbrev pub fires_stopped : List Entry
+fires_stopped = Entry.New 1 0 5 ∷ Entry.Stop 1 0 (Some true) ∷ Entry.Clock 0 5 ∷ Entry.FireFunc 0 2 ∷ []
 
 -- a receive of the value of a setting that a reset ended
 abbrev pub stale : List Entry

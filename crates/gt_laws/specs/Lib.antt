@@ -1,4 +1,5 @@
 pub mod Told
+pub mod GoesOn
 pub mod Laws
 pub mod Ends
 pub mod Broken

@@ -1,137 +1,184 @@
--- What the entries of a history tell so far, read by themselves: the machine's state is not named here.
-use Rattle.std.specs.Prelude.{ℕ, zero, ◌+◌, ◌==◌, if◌then◌else◌, Bool, true, false, List, [], ◌∷◌}
+-- What the entries of a history tell so far, by what each changes: the machine's state is not named here.
+use Rattle.std.specs.Prelude.{ℕ, ◌+◌, ◌==◌, if◌then◌else◌, Bool, true, false, List, [], ◌∷◌, ◌++◌, length, map, set}
+use Rattle.std.specs.List.{fold}
 use Rattle.std.specs.declared.option.Option.{Option}
 use Rattle.std.specs.declared.option.Option.TheVariants.{None, Some}
-use Rattle.std.specs.Option.{option_map, option_and_then}
+use Rattle.std.specs.Option.{option_map, option_and_then, unwrap_or}
 use Rattle.gt_model.specs.declared.script.Script.{Script}
+use Rattle.gt_model.specs.declared.script.Decl.{Decl}
 use Rattle.gt_model.specs.declared.script.Instr.{Instr}
 use Rattle.gt_model.specs.declared.script.Place.{Place}
 use Rattle.gt_model.specs.declared.entry.Entry.{Entry}
 use Rattle.gt_model.specs.declared.state.Ending.{Ending}
-use Rattle.gt_rules.specs.Places.{first_place, place_after}
+use Rattle.gt_model.specs.Tables.{numbered, at, change_numbered}
 use Rattle.gt_model.specs.Script.{instr_at, func_of}
+use Rattle.gt_rules.specs.Places.{first_place, place_after}
+use Rattle.gt_rules.specs.declared.change.Move.{Move}
+use Rattle.gt_rules.specs.declared.change.Setting.{Setting}
+use Rattle.gt_rules.specs.declared.change.Start.{Start}
+use Rattle.gt_rules.specs.Change.{Change, change_of}
 
--- the program's clock: the time of its last move
-abbrev pub clock_by : Entry → ℕ → ℕ
-clock_by (Entry.Clock zero to) clock = to
-clock_by _ clock = clock
+-- what these entries make of v, each by its change
+abbrev pub told : {V : Type 0} → (V → Change → V) → V → List Entry → V
+told by v h = fold (λ v e. by v (change_of e)) v h
 
-abbrev pub clock_from : ℕ → List Entry → ℕ
-clock_from clock [] = clock
-clock_from clock (e ∷ h) = clock_from (clock_by e clock) h
+-- the clock of world w: the time of its last move
+abbrev pub clock_by : ℕ → ℕ → Change → ℕ
+clock_by w now c = elim c.clock [ None ↦ now | Some x ↦ if x.0 == w then x.1 else now ]
 
-abbrev pub clock_told : List Entry → ℕ
-clock_told h = clock_from 0 h
+abbrev pub clock_told : ℕ → List Entry → ℕ
+clock_told w h = told (clock_by w) 0 h
 
--- the due time of timer t: that of its last setting, if no stop, no receive and no firing of t came after it
-abbrev pub due_by : ℕ → Entry → Option ℕ → Option ℕ
-due_by t (Entry.New g u due) told = if u == t then Some due else told
-due_by t (Entry.Reset g u was due) told = if u == t then Some due else told
-due_by t (Entry.Stop g u was) told = if u == t then None else told
-due_by t (Entry.TRecv p u due next) told = if u == t then next else told
-due_by t (Entry.FireFunc u child) told = if u == t then None else told
-due_by t _ told = told
+-- the due time of timer t: that of its last setting, if nothing ended it
+abbrev pub due_set : Setting → Option ℕ
+due_set (Setting.Made due) = Some due
+due_set (Setting.SetAnew due) = Some due
+due_set (Setting.Ended next) = next
 
-abbrev pub due_from : ℕ → Option ℕ → List Entry → Option ℕ
-due_from t told [] = told
-due_from t told (e ∷ h) = due_from t (due_by t e told) h
+abbrev pub due_by : ℕ → Option ℕ → Change → Option ℕ
+due_by t due c = elim c.timer [ None ↦ due | Some x ↦ if x.0 == t then due_set x.1 else due ]
 
 abbrev pub due_told : ℕ → List Entry → Option ℕ
-due_told t h = due_from t None h
+due_told t h = told (due_by t) None h
 
 -- whether timer t was made
-abbrev pub made_by : ℕ → Entry → Bool → Bool
-made_by t (Entry.New g u due) told = if u == t then true else told
-made_by t _ told = told
+abbrev pub makes : Setting → Bool → Bool
+makes (Setting.Made due) was = true
+makes (Setting.SetAnew due) was = was
+makes (Setting.Ended next) was = was
 
-abbrev pub made_from : ℕ → Bool → List Entry → Bool
-made_from t told [] = told
-made_from t told (e ∷ h) = made_from t (made_by t e told) h
+abbrev pub made_by : ℕ → Bool → Change → Bool
+made_by t was c = elim c.timer [ None ↦ was | Some x ↦ if x.0 == t then makes x.1 was else was ]
 
 abbrev pub made_told : ℕ → List Entry → Bool
-made_told t h = made_from t false h
-
--- the time until which goroutine g sleeps
-abbrev pub until_by : ℕ → Entry → Option ℕ → Option ℕ
-until_by g (Entry.Sleep h until) told = if h == g then until else told
-until_by g (Entry.Wake h) told = if h == g then None else told
-until_by g _ told = told
-
-abbrev pub until_from : ℕ → Option ℕ → List Entry → Option ℕ
-until_from g told [] = told
-until_from g told (e ∷ h) = until_from g (until_by g e told) h
-
-abbrev pub until_told : ℕ → List Entry → Option ℕ
-until_told g h = until_from g None h
+made_told t h = told (made_by t) false h
 
 -- how a run ends: with main's function, with a panic, or with a finish that gives its outcome
-abbrev pub ending_by : Entry → Ending → Ending
-ending_by (Entry.End g) told = if g == 1 then Ending.MainEnded else told
-ending_by (Entry.Panic p reason) told = Ending.Panicked
-ending_by (Entry.Finish outcome) told = Ending.Finished outcome
-ending_by _ told = told
-
-abbrev pub ending_from : Ending → List Entry → Ending
-ending_from told [] = told
-ending_from told (e ∷ h) = ending_from (ending_by e told) h
+abbrev pub ending_by : Ending → Change → Ending
+ending_by ending c = unwrap_or c.ending ending
 
 abbrev pub ending_told : List Entry → Ending
-ending_told h = ending_from Ending.Running h
+ending_told h = told ending_by Ending.Running h
 
--- how many entries count against the limit: all but a finish
-abbrev pub entries_by : Entry → ℕ → ℕ
-entries_by (Entry.Finish outcome) n = n
-entries_by _ n = n + 1
-
-abbrev pub entries_from : ℕ → List Entry → ℕ
-entries_from n [] = n
-entries_from n (e ∷ h) = entries_from (entries_by e n) h
+-- how many entries count against the limit
+abbrev pub entries_by : ℕ → Change → ℕ
+entries_by n c = n + c.counted
 
 abbrev pub entries_told : List Entry → ℕ
-entries_told h = entries_from 0 h
+entries_told h = told entries_by 0 h
 
 -- how many goroutines there are: main's, and one more at each start
-abbrev pub started_by : Entry → ℕ → ℕ
-started_by (Entry.Go g child f) n = n + 1
-started_by (Entry.FireFunc t child) n = n + 1
-started_by _ n = n
-
-abbrev pub started_from : ℕ → List Entry → ℕ
-started_from n [] = n
-started_from n (e ∷ h) = started_from (started_by e n) h
+abbrev pub started_by : ℕ → Change → ℕ
+started_by n c = n + length c.starts
 
 abbrev pub started_told : List Entry → ℕ
-started_told h = started_from 1 h
+started_told h = told started_by 1 h
 
--- Where goroutine g is in its code: at main's first instruction, or at that of the function with which it was started; then where its last call has
--- led it. After its end it is nowhere
-abbrev pub goes_on : Script → Bool → Option Place → Option Place
-goes_on script calls told = if calls then option_map (place_after script) told else told
+-- ---- all goroutines at once, since who is started has the world of who starts it
 
-abbrev pub place_by : Script → ℕ → Entry → Option Place → Option Place
-place_by script g (Entry.Say h n) told = goes_on script (h == g) told
-place_by script g (Entry.Now h at) told = goes_on script (h == g) told
-place_by script g (Entry.Go h child f) told = if child == g then Some (first_place script f) else goes_on script (h == g) told
-place_by script g (Entry.End h) told = if h == g then None else told
-place_by script g (Entry.Sleep h None) told = goes_on script (h == g) told
-place_by script g (Entry.Sleep h (Some until)) told = told
-place_by script g (Entry.Wake h) told = goes_on script (h == g) told
-place_by script g (Entry.New h t due) told = goes_on script (h == g) told
-place_by script g (Entry.Stop h t was) told = goes_on script (h == g) told
-place_by script g (Entry.Reset h t was due) told = goes_on script (h == g) told
-place_by script g (Entry.TRecv p t due next) told = goes_on script (p.g == g) told
-place_by script g (Entry.FireFunc t child) told = if child == g then Some (first_place script (func_of script t)) else told
-place_by script g (Entry.Clock world to) told = told
-place_by script g (Entry.Panic p reason) told = told
-place_by script g (Entry.Finish outcome) told = told
+pub data Wait : Type 0 where
+  awake : Wait
+  asleep : ℕ → Wait
 
-abbrev pub place_from : Script → ℕ → Option Place → List Entry → Option Place
-place_from script g told [] = told
-place_from script g told (e ∷ h) = place_from script g (place_by script g e told) h
+-- a goroutine: its world, where it is in its code (nowhere after its end), and its wait
+pub record ToldGoroutine : Type 0 where
+  pub world : ℕ
+  pub place : Option Place
+  pub wait : Wait
+
+-- the goroutines by number, from 1, and the world in which each timer was made, by declaration
+pub record Everyone : Type 0 where
+  pub goroutines : List ToldGoroutine
+  pub owners : List (Option ℕ)
+
+abbrev pub world_in : Option ToldGoroutine → ℕ
+world_in None = 0
+world_in (Some r) = r.world
+
+-- a call leads a goroutine to the place after its instruction
+abbrev pub led : Script → Move → ToldGoroutine → ToldGoroutine
+led script (Move.GoesOn case_no) r = record r { place = option_map (place_after script) r.place; wait = awake }
+led script (Move.FallsAsleep until) r = record r { wait = asleep until }
+led script Move.Ends r = record r { place = None; wait = awake }
+
+abbrev pub with_led : Script → List ToldGoroutine → Option (ℕ × Move) → List ToldGoroutine
+with_led script rs None = rs
+with_led script rs (Some m) = change_numbered rs m.0 (led script m.1)
+
+-- who begins stands at the first place of its function
+abbrev pub beginner : Script → ℕ → ℕ → ToldGoroutine
+beginner script world f = record { world = world; place = Some (first_place script f); wait = awake }
+
+abbrev pub begun_by : Script → Everyone → Start → ToldGoroutine
+begun_by script all (Start.ByGoroutine g f) = beginner script (world_in (numbered all.goroutines g)) f
+begun_by script all (Start.ByTimer t) = beginner script (unwrap_or (at all.owners t) 0) (func_of script t)
+
+-- a timer that somebody makes is of that one's world
+abbrev pub mover_world : List ToldGoroutine → Option (ℕ × Move) → ℕ
+mover_world rs None = 0
+mover_world rs (Some m) = world_in (numbered rs m.0)
+
+abbrev pub owned : ℕ → ℕ → List (Option ℕ) → Setting → List (Option ℕ)
+owned world t owners (Setting.Made due) = set owners t (Some world)
+owned world t owners (Setting.SetAnew due) = owners
+owned world t owners (Setting.Ended next) = owners
+
+abbrev pub with_owned : ℕ → List (Option ℕ) → Option (ℕ × Setting) → List (Option ℕ)
+with_owned world owners None = owners
+with_owned world owners (Some x) = owned world x.0 owners x.1
+
+abbrev pub everyone_by : Script → Everyone → Change → Everyone
+everyone_by script all c = record {
+  goroutines = with_led script all.goroutines c.mover ++ map (begun_by script all) c.starts;
+  owners = with_owned (mover_world all.goroutines c.mover) all.owners c.timer;
+}
+
+abbrev pub everyone_first : Script → Everyone
+everyone_first script = record { goroutines = beginner script 0 script.main ∷ []; owners = map (λ (d : Decl). None) script.decls }
+
+abbrev pub everyone_told : Script → List Entry → Everyone
+everyone_told script h = told (everyone_by script) (everyone_first script) h
+
+abbrev pub goroutine_told : Script → ℕ → List Entry → Option ToldGoroutine
+goroutine_told script g h = numbered (everyone_told script h).goroutines g
+
+-- the world of goroutine g, the world of timer t, and the clock that g has
+abbrev pub world_told : Script → ℕ → List Entry → ℕ
+world_told script g h = world_in (goroutine_told script g h)
+
+abbrev pub owner_told : Script → ℕ → List Entry → ℕ
+owner_told script t h = unwrap_or (at (everyone_told script h).owners t) 0
+
+abbrev pub now_told : Script → ℕ → List Entry → ℕ
+now_told script g h = clock_told (world_told script g h) h
+
+-- where goroutine g is, and its wait
+abbrev pub place_of : Option ToldGoroutine → Option Place
+place_of None = None
+place_of (Some r) = r.place
+
+abbrev pub wait_of : Option ToldGoroutine → Wait
+wait_of None = awake
+wait_of (Some r) = r.wait
 
 abbrev pub place_told : Script → ℕ → List Entry → Option Place
-place_told script g h = place_from script g (if 1 == g then Some (first_place script script.main) else None) h
+place_told script g h = place_of (goroutine_told script g h)
 
--- the instruction there
-abbrev pub instr_told : Script → ℕ → List Entry → Option Instr
-instr_told script g h = option_and_then (instr_at script) (place_told script g h)
+abbrev pub wait_told : Script → ℕ → List Entry → Wait
+wait_told script g h = wait_of (goroutine_told script g h)
+
+-- the time until which it sleeps
+abbrev pub until_in : Wait → Option ℕ
+until_in awake = None
+until_in (asleep until) = Some until
+
+abbrev pub until_told : Script → ℕ → List Entry → Option ℕ
+until_told script g h = until_in (wait_told script g h)
+
+-- the instruction at which it stands: none where it sleeps, or is nowhere
+abbrev pub stands_in : Script → Option Place → Wait → Option Instr
+stands_in script place awake = option_and_then (instr_at script) place
+stands_in script place (asleep until) = None
+
+abbrev pub stands_told : Script → ℕ → List Entry → Option Instr
+stands_told script g h = stands_in script (place_told script g h) (wait_told script g h)

@@ -1,20 +1,24 @@
 //! What each complete history keeps, read from its entries alone, and where a program is idle: each function's contract is a law.
 #![tactic(auto)]
 
-ghost use Rattle.std.specs.Prelude.{ℕ, ◌<◌, List};
+ghost use Rattle.std.specs.Prelude.{ℕ, ◌<◌, ◌≡◌, List, []};
 ghost use Rattle.gt_model.specs.declared.script.Script.{Script};
 ghost use Rattle.gt_model.specs.declared.entry.Entry.{Entry};
 ghost use Rattle.gt_model.specs.declared.entry.Limits.{Limits};
 ghost use Rattle.gt_model.specs.declared.entry.Outcome.{Outcome};
+ghost use Rattle.gt_model.specs.declared.state.Ending.{Ending};
 ghost use Rattle.gt_model.specs.Good.{IsGood};
 ghost use Rattle.gt_rules.specs.After.{first_state};
-ghost use Rattle.gt_rules.specs.History.{AllJump, History};
+ghost use Rattle.gt_rules.specs.Counted.{counted};
+ghost use Rattle.gt_rules.specs.History.{AllJump, AllLegal, History, state_after};
 ghost use Rattle.gt_rules.specs.State.{State};
 ghost use Rattle.gt_facts.specs.Quiet.{IsQuiet};
 ghost use Rattle.gt_rules.specs.Finish.{IsIdle};
 ghost use Rattle.gt_facts.specs.Still.{IsStill};
+ghost use Rattle.gt_laws.specs.Told.{ending_told};
 ghost use Rattle.gt_laws.specs.Laws.{AtEach, InOrder, InTime, IsFresh, UsesRightly};
-ghost use Rattle.gt_laws.specs.Ends.{EndsRightly, EndsWhereStuck, IsStuck};
+ghost use Rattle.gt_laws.specs.Ends.{EndsRightly, EndsWhereStuck, JumpsToLeast};
+ghost use Rattle.gt_laws.specs.GoesOn.{counted_told, IsStillTold, IsStuckTold};
 ghost use Rattle.gt_laws.specs.Broken as broken;
 
 /// Each goroutine makes its calls once and in order, and each call gives the number, the end of the sleep or the due time that it should.
@@ -26,7 +30,7 @@ pub fn calls_come_in_order()
 /// Nothing comes before its time.
 pub fn nothing_comes_early()
     ensures { (script : Script) (limits : Limits) (h : List Entry) (outcome : Outcome)
-        → IsGood script → History script limits h outcome → AtEach InTime h }
+        → IsGood script → History script limits h outcome → AtEach (InTime script) h }
 {}
 
 /// No value of a setting that a stop, a reset or a receive ended is received, and none twice.
@@ -35,7 +39,7 @@ pub fn no_value_is_stale()
         → IsGood script → History script limits h outcome → AtEach IsFresh h }
 {}
 
-/// A timer is made once and used where it was made; each misuse panics, and each panic is a misuse.
+/// A timer is made once and used where it was made: a call that would be a misuse is never made, and each panic is one, for the reason that it gives.
 pub fn a_panic_is_a_misuse()
     ensures { (script : Script) (limits : Limits) (h : List Entry) (outcome : Outcome)
         → IsGood script → History script limits h outcome → AtEach (UsesRightly script) h }
@@ -51,7 +55,37 @@ pub fn a_run_ends_for_its_cause()
 /// Where nothing can go on, a run whose clock moves by idle jumps alone ends with a deadlock.
 pub fn a_stuck_run_ends()
     ensures { (script : Script) (limits : Limits) (slip : ℕ) (h : List Entry) (outcome : Outcome)
-        → History script limits h outcome → AllJump script slip (first_state script) h → AtEach (EndsWhereStuck script limits) h }
+        → IsGood script → History script limits h outcome → AllJump script slip (first_state script) h → AtEach (EndsWhereStuck script limits) h }
+{}
+
+/// Where the program's clock moves by idle jumps alone is told by the entries and the script: it moves only where the program stands still, to its least
+/// counted time and a slip more.
+pub fn a_clock_jumps_to_the_least_time()
+    ensures told { (script : Script) (limits : Limits) (slip : ℕ) (h : List Entry) (outcome : Outcome)
+        → IsGood script → History script limits h outcome → AllJump script slip (first_state script) h → AtEach (JumpsToLeast script slip) h }
+    ensures jumps { (script : Script) (limits : Limits) (slip : ℕ) (h : List Entry) (outcome : Outcome)
+        → IsGood script → History script limits h outcome → AtEach (JumpsToLeast script slip) h → AllJump script slip (first_state script) h }
+{}
+
+/// These laws say all that the machine's rules ask: a list of entries that keeps them at each entry and has a finish is a complete history.
+pub fn what_keeps_the_laws_is_a_history()
+    ensures { (script : Script) (limits : Limits) (h : List Entry) (outcome : Outcome)
+        → IsGood script → AtEach (InOrder script) h → AtEach (InTime script) h → AtEach IsFresh h → AtEach (UsesRightly script) h
+        → AtEach (EndsRightly script limits) h → ending_told h ≡ Ending.Finished outcome → History script limits h outcome }
+{}
+
+/// Where nothing can go on is told by the entries and the script alone: it is where the machine's state after them stands still and counts no time.
+pub fn the_entries_tell_where_nothing_goes_on()
+    ensures stuck { (script : Script) (limits : Limits) (h : List Entry) → IsGood script → AllLegal script limits (first_state script) h
+        → IsStuckTold script h → IsStill script (state_after script (first_state script) h) × (counted script (state_after script (first_state script) h) 0 ≡ []) }
+    ensures told { (script : Script) (limits : Limits) (h : List Entry) → IsGood script → AllLegal script limits (first_state script) h
+        → IsStill script (state_after script (first_state script) h) → counted script (state_after script (first_state script) h) 0 ≡ [] → IsStuckTold script h }
+    ensures still { (script : Script) (limits : Limits) (h : List Entry) → IsGood script → AllLegal script limits (first_state script) h
+        → IsStillTold script h → IsStill script (state_after script (first_state script) h) }
+    ensures still_told { (script : Script) (limits : Limits) (h : List Entry) → IsGood script → AllLegal script limits (first_state script) h
+        → IsStill script (state_after script (first_state script) h) → IsStillTold script h }
+    ensures counted { (script : Script) (limits : Limits) (h : List Entry) (w : ℕ) → IsGood script → AllLegal script limits (first_state script) h
+        → counted_told script w h ≡ counted script (state_after script (first_state script) h) w }
 {}
 
 /// A program is idle exactly where nobody is ready and no AfterFunc timer has come to its time.
@@ -65,38 +99,55 @@ pub fn a_quiet_program_is_idle()
     ensures { (script : Script) (s : State) → IsQuiet script s → IsIdle script s }
 {}
 
-/// Calls in another order, calls made twice and calls left out are no histories. Nor is a sleep within a sleep, one that is cut short, or a number
-/// given twice.
+/// Calls in another order, calls made twice and calls left out are no histories. Nor is a wake-up of who is awake, a sleep within a
+/// sleep, one that is cut short, or a number given twice.
 pub fn calls_out_of_order_break_the_law()
     ensures swapped { ¬ AtEach (InOrder broken.two_calls) broken.swapped }
     ensures twice { ¬ AtEach (InOrder broken.two_calls) broken.twice }
     ensures left_out { ¬ AtEach (InOrder broken.two_calls) broken.left_out }
+    ensures wakes_awake { ¬ AtEach (InOrder broken.one_sleep) broken.wakes_awake }
     ensures asleep_twice { ¬ AtEach (InOrder broken.one_sleep) broken.asleep_twice }
     ensures cut_short { ¬ AtEach (InOrder broken.one_sleep) broken.cut_short }
     ensures number_twice { ¬ AtEach (InOrder broken.one_start) broken.number_twice }
 {}
 
-/// A sleep that ends early is no history.
+/// A sleep that ends early is no history, nor is a clock that falls or passes the greatest time, or a look at it that sees another time.
 pub fn an_early_wake_breaks_the_law()
-    ensures { ¬ AtEach InTime broken.early }
+    ensures early { ¬ AtEach (InTime broken.one_sleep) broken.early }
+    ensures falls_back { ¬ AtEach (InTime broken.one_sleep) broken.falls_back }
+    ensures past_all_time { ¬ AtEach (InTime broken.one_sleep) broken.past_all_time }
+    ensures wrong_time { ¬ AtEach (InTime broken.one_sleep) broken.wrong_time }
 {}
 
-/// A receive of the value of a setting that a reset ended is no history.
+/// A receive of the value of a setting that a reset ended is no history, nor is a stop that denies a setting, or a timer that fires after it was stopped.
 pub fn a_stale_value_breaks_the_law()
-    ensures { ¬ AtEach IsFresh broken.stale }
+    ensures stale { ¬ AtEach IsFresh broken.stale }
+    ensures denied { ¬ AtEach IsFresh broken.denied }
+    ensures fires_stopped { ¬ AtEach IsFresh broken.fires_stopped }
 {}
 
-/// A timer that is made twice, and a panic without a misuse, are no histories.
+/// A timer that is made twice or stopped before it was made, and a panic without a misuse or for another reason, are no histories.
 pub fn a_misuse_without_a_panic_breaks_the_law()
     ensures made_twice { ¬ AtEach (UsesRightly broken.two_calls) broken.made_twice }
+    ensures unmade { ¬ AtEach (UsesRightly broken.one_stop) broken.unmade }
     ensures for_nothing { ¬ AtEach (UsesRightly broken.two_calls) broken.for_nothing }
+    ensures for_another_reason { ¬ AtEach (UsesRightly broken.one_stop) broken.for_another_reason }
 {}
 
-/// A deadlock while somebody sleeps is no end of a history, and nothing comes after main's function has ended. Where main waits for a timer that was
-/// stopped nothing can go on, and time does not pass without a deadlock.
+/// A deadlock while somebody sleeps is no end of a history, an exit or a limit before its time is none, and nothing comes after main's function has ended.
+/// Where main waits for a timer that was stopped nothing can go on, and time does not pass without a deadlock.
 pub fn a_wrong_end_breaks_the_law()
     ensures given_up { (limits : Limits) → ¬ AtEach (EndsRightly broken.one_sleep limits) broken.given_up }
+    ensures exits_early { (limits : Limits) → ¬ AtEach (EndsRightly broken.two_calls limits) broken.exits_early }
+    ensures limit_early { (limits : Limits) → 0 < limits.entries → ¬ AtEach (EndsRightly broken.two_calls limits) broken.limit_early }
     ensures after_the_end { (limits : Limits) → ¬ AtEach (EndsRightly broken.two_calls limits) broken.after_the_end }
-    ensures stuck { IsStuck broken.one_wait broken.waits_in_vain }
+    ensures time_after_the_end { (limits : Limits) → ¬ AtEach (EndsRightly broken.two_calls limits) broken.time_after_the_end }
+    ensures stuck { IsStuckTold broken.one_wait broken.waits_in_vain }
     ensures in_vain { (limits : Limits) → 2 < limits.entries → ¬ AtEach (EndsWhereStuck broken.one_wait limits) broken.goes_on_in_vain }
+{}
+
+/// A jump of the clock past the end of a sleep, or where somebody could go on, is none of a history whose clock moves by idle jumps alone.
+pub fn a_far_jump_breaks_the_law()
+    ensures far { ¬ AtEach (JumpsToLeast broken.one_sleep 0) broken.jumps_far }
+    ensures early { (slip : ℕ) → ¬ AtEach (JumpsToLeast broken.one_sleep slip) broken.jumps_early }
 {}

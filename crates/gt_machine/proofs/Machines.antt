@@ -1,5 +1,5 @@
 -- Goroutines by number and by place; what stands where in a formed state.
-use Rattle.std.proofs.Common.{◌≡◌, ℕ, zero, suc, ◌-◌, ◌+◌, ◌^◌, ◌<◌, ◌≤◌, List, [], ◌∷◌, ◌++◌, map, length, get_or, refl, sym, ◌∙◌, ap, set, slice_get, Option, None, Some, sub-one, IsSomeAnd, IfSome, arith}
+use Rattle.std.proofs.Common.{◌≡◌, ℕ, zero, suc, ◌-◌, ◌+◌, ◌^◌, ◌<◌, ◌≤◌, List, [], ◌∷◌, ◌++◌, map, length, get_or, refl, sym, ◌∙◌, ap, set, slice_get, Option, None, Some, sub-one, IsSomeAnd, IfSome, is_some, true, arith}
 use Rattle.std.specs.Prelude.{replicate}
 use Rattle.std.proofs.lemmas.Option.{get_or_from_slice_get, slice_get_within}
 use Rattle.std.proofs.lemmas.List.Sums.{get_or-le-sum_by}
@@ -11,14 +11,14 @@ use Rattle.gt_model.specs.declared.script.Instr.{Instr}
 use Rattle.gt_model.specs.declared.state.Goroutine.{Goroutine}
 use Rattle.gt_model.specs.declared.state.Mode.{Mode}
 use Rattle.gt_model.specs.declared.state.Timer.{Timer}
-use Rattle.gt_model.specs.Tables.{numbered, change_numbered}
+use Rattle.gt_model.specs.Tables.{numbered, change_numbered, at}
 use Rattle.gt_rules.specs.State.{State, world_of, goroutine_at}
 use Rattle.gt_model.specs.Script.{code_of}
 use Rattle.gt_model.specs.Good.{IsGood, instruction_count}
 use Rattle.gt_rules.specs.Change.{change_of}
 use Rattle.gt_rules.specs.Legal.{May}
 use Rattle.gt_facts.specs.Formed.{IsFormed, IsPlacedIn}
-use Rattle.gt_facts.proofs.Makers.{there-May}
+use Rattle.gt_facts.proofs.Fits.{IsLive, FitsTimer, mover-fits, timer-fits}
 use Rattle.gt_machine.specs.Machine.{IsInside, retimed_in}
 use Rattle.gt_model.specs.declared.entry.Entry.{Entry}
 use Rattle.gt_model.proofs.Tables.{change-set, change_numbered-set}
@@ -59,20 +59,38 @@ place_short : (n place : ℕ) (m : Mode) → IsPlacedIn n place m → n ≤ 1000
 place_short n place (Mode.Sleeping until) h k = let inside : place + 1 < n = h in omega arith
 place_short n place _ h k = let inside : place < n = h in omega arith
 
-inside_there : (script : Script) (s : State) (g : ℕ) → IsGood script → IsFormed script s → (goroutine_at s g ≡ None → ⊥) → IsInside s.goroutines g
-inside_there script s g good formed there =
+inside_there : (script : Script) (s : State) (g : ℕ) → IsGood script → IsFormed script s → IsLive s g → IsInside s.goroutines g
+inside_there script s g good formed live =
     elim (goroutine_at s g) as (λ o. goroutine_at s g ≡ o → IsSomeAnd o (λ r. r.place.at < 2 ^ 32 - 1)) [
-      | None ↦ λ e. absurd (there e)
+      | None ↦ λ e. let none : None ≡ Some live.who = sym e ∙ live.there in cc
       | Some r ↦ λ e. place_short (length (code_of script r.place.func)) r.place.at r.mode (formed.placed g r e) (code_short script r.place.func good)
     ] refl
 
 -- who makes an entry is inside
 pub inside-May : (script : Script) (s : State) (e : Entry) → IsGood script → IsFormed script s → May script s e → IfSome (change_of e).mover (λ m. IsInside s.goroutines m.0)
 inside-May script s e good formed may =
-    elim (change_of e).mover as (λ o. IfSome o (λ m. goroutine_at s m.0 ≡ None → ⊥) → IfSome o (λ m. IsInside s.goroutines m.0)) [
+    elim (change_of e).mover as (λ o. IfSome o (λ m. IsLive s m.0) → IfSome o (λ m. IsInside s.goroutines m.0)) [
       | None ↦ λ h. tt
       | Some m ↦ λ h. inside_there script s m.0 good formed h
-    ] (there-May script s e may)
+    ] (mover-fits script s e may)
+
+some-within : (ts : List (Option Timer)) (t : ℕ) → is_some (at ts t) ≡ true → t < length ts
+some-within [] t h = cc
+some-within (x ∷ xs) zero h = omega arith
+some-within (x ∷ xs) (suc t) h = let k : t < length xs = some-within xs t h in omega arith
+
+-- the timer of an entry has its place
+within-fits : (s : State) (t : ℕ) (setting : Setting) → FitsTimer s t setting → t < length s.timers
+within-fits s t (Setting.Made due) h = h.0
+within-fits s t (Setting.SetAnew due) h = some-within s.timers t h
+within-fits s t (Setting.Ended due) h = some-within s.timers t h
+
+pub within-May : (script : Script) (s : State) (e : Entry) → IsGood script → IsFormed script s → May script s e → IfSome (change_of e).timer (λ x. x.0 < length s.timers)
+within-May script s e good formed may =
+    elim (change_of e).timer as (λ o. IfSome o (λ x. FitsTimer s x.0 x.1) → IfSome o (λ x. x.0 < length s.timers)) [
+      | None ↦ λ h. tt
+      | Some x ↦ λ h. within-fits s x.0 x.1 h
+    ] (timer-fits script s e good formed may)
 
 -- ---- the first timers
 

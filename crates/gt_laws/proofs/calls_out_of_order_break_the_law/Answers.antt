@@ -1,4 +1,4 @@
-use Rattle.std.proofs.Common.{◌≡◌, ℕ, [], ◌∷◌, Some, refl, sym, subst}
+use Rattle.std.proofs.Common.{◌≡◌, ℕ, [], ◌∷◌, None, Some, true, false, refl, sym, subst}
 use Rattle.gt_model.specs.declared.script.Instr.{Instr}
 use Rattle.gt_model.specs.declared.entry.Entry.{Entry}
 use Rattle.gt_rules.specs.Legal.{sleep_end}
@@ -18,17 +18,23 @@ returns-clause-left_out c = λ h. cc (h (Entry.Say 1 1 ∷ []) (Entry.End 1) [] 
 pub returns-clause-asleep_twice : goal.returns-clause-asleep_twice
 returns-clause-asleep_twice c = λ h.
     let again : InOrder one_sleep (Entry.Sleep 1 (Some 9) ∷ []) (Entry.Sleep 1 (Some 9)) = h (Entry.Sleep 1 (Some 9) ∷ []) (Entry.Sleep 1 (Some 9)) [] refl in
-    cc again.2
+    let awake : None ≡ Some (Instr.Sleep again.0) = again.1 in
+    cc awake
 
 pub returns-clause-cut_short : goal.returns-clause-cut_short
 returns-clause-cut_short c = λ h.
     let short : InOrder one_sleep [] (Entry.Sleep 1 (Some 4)) = h [] (Entry.Sleep 1 (Some 4)) (Entry.Clock 0 4 ∷ Entry.Wake 1 ∷ []) refl in
     let called : Some (Instr.Sleep 9) ≡ Some (Instr.Sleep short.0) = short.1 in
     let length : 9 ≡ short.0 = cc in
-    let until : Some 4 ≡ sleep_end 0 9 = subst (λ (d : ℕ). Some 4 ≡ sleep_end 0 d) (sym length) short.3 in
+    let until : Some 4 ≡ sleep_end 0 9 = subst (λ (d : ℕ). Some 4 ≡ sleep_end 0 d) (sym length) short.2 in
     cc until
 
 pub returns-clause-number_twice : goal.returns-clause-number_twice
 returns-clause-number_twice c = λ h.
     let start : InOrder one_start [] (Entry.Go 1 1 0) = h [] (Entry.Go 1 1 0) (Entry.Go 1 2 0 ∷ Entry.End 1 ∷ []) refl in
     cc start.1
+
+pub returns-clause-wakes_awake : goal.returns-clause-wakes_awake
+returns-clause-wakes_awake c = λ h.
+    let sleeps : false ≡ true = h [] (Entry.Wake 1) [] refl in
+    cc sleeps

@@ -1,13 +1,12 @@
 use Rattle.std.proofs.Common.{◌≡◌, refl, ◌+◌, ap, sym, subst, length, IfSome}
 use Rattle.gt_rules.specs.State.{State}
-use Rattle.gt_facts.proofs.Makers.{timer-May}
 use Rattle.gt_machine.specs.Machine.{state_of, IsInside}
-use Rattle.gt_machine.proofs.Machines.{inside-May}
+use Rattle.gt_machine.proofs.Machines.{inside-May, within-May}
 use Rattle.gt_machine.proofs.machine.Machine.apply.Goals as goal
 
 pub retime-requires : goal.retime-requires
 retime-requires c =
-    rw c.timer_of.ensures (timer-May c.args.script.now (state_of c.args.self.now) c.args.entry.now c.requires.good c.requires.formed c.requires.may)
+    rw c.timer_of.ensures (within-May c.args.script.now (state_of c.args.self.now) c.args.entry.now c.requires.good c.requires.formed c.requires.may)
 
 pub move_on-requires : goal.move_on-requires
 move_on-requires c =

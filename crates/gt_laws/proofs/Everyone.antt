@@ -1,0 +1,228 @@
+-- The goroutines and the owners of timers that a history tells are those of the state after it.
+use Rattle.std.proofs.Common.{◌≡◌, ℕ, zero, suc, List, [], ◌∷◌, ◌++◌, map, set, slice_get, refl, sym, ap, subst, ◌∙◌, Option, None, Some, IfSome, option_map, unwrap_or, append_assoc, append-nil}
+use Rattle.std.proofs.lemmas.List.{map-append, map-set}
+use Rattle.gt_model.specs.declared.script.Script.{Script}
+use Rattle.gt_model.specs.declared.script.Decl.{Decl}
+use Rattle.gt_model.specs.declared.script.Instr.{Instr}
+use Rattle.gt_model.specs.declared.script.Place.{Place}
+use Rattle.gt_model.specs.declared.entry.Entry.{Entry}
+use Rattle.gt_model.specs.declared.entry.Limits.{Limits}
+use Rattle.gt_model.specs.declared.state.Goroutine.{Goroutine}
+use Rattle.gt_model.specs.declared.state.Mode.{Mode}
+use Rattle.gt_model.specs.declared.state.Timer.{Timer}
+use Rattle.gt_model.specs.Good.{IsGood}
+use Rattle.gt_model.specs.Script.{instr_at, func_of}
+use Rattle.gt_model.specs.Tables.{at, numbered, change, change_numbered}
+use Rattle.gt_rules.specs.State.{State, clock_of, goroutine_at, world_of, until_of, sleeps_until, stands, stands_at}
+use Rattle.gt_rules.specs.declared.change.Move.{Move}
+use Rattle.gt_rules.specs.declared.change.Setting.{Setting}
+use Rattle.gt_rules.specs.declared.change.Start.{Start}
+use Rattle.gt_rules.specs.Change.{change_of}
+use Rattle.gt_rules.specs.After.{after, first_state, moved, number_of, set_due, set_again, timer_world, retimed, with_mover, started_by, with_starts, with_retimed}
+use Rattle.gt_rules.specs.History.{AllLegal, state_after}
+use Rattle.gt_facts.proofs.Fits.{Fits, IsLive}
+use Rattle.gt_laws.specs.Told.{clock_told, beginner, Wait, awake, asleep, ToldGoroutine, Everyone, world_in, led, with_led, begun_by, mover_world, owned, with_owned, everyone_by, everyone_first, everyone_told, goroutine_told, world_told, owner_told, now_told, place_of, wait_of, until_in, until_told, stands_in, stands_told}
+use Rattle.gt_laws.proofs.Shown.{shown-told, clock-told}
+
+-- ---- what is shown of a state
+
+abbrev pub place_in : Place → Mode → Option Place
+place_in place Mode.At = Some place
+place_in place (Mode.Sleeping until) = Some place
+place_in place Mode.Ended = None
+
+abbrev pub wait_in : Mode → Wait
+wait_in Mode.At = awake
+wait_in (Mode.Sleeping until) = asleep until
+wait_in Mode.Ended = awake
+
+abbrev pub shown : Goroutine → ToldGoroutine
+shown r = record { world = r.world; place = place_in r.place r.mode; wait = wait_in r.mode }
+
+abbrev pub owner_in : Option Timer → Option ℕ
+owner_in None = None
+owner_in (Some r) = Some r.world
+
+abbrev pub show : State → Everyone
+show s = record { goroutines = map shown s.goroutines; owners = map owner_in s.timers }
+
+-- ---- lists
+
+map-change : {X Y : Type 0} (f : X → Y) (g : X → X) (k : Y → Y) (xs : List X) (i : ℕ) → ((x : X) → slice_get xs i ≡ Some x → f (g x) ≡ k (f x)) → map f (change xs i g) ≡ change (map f xs) i k
+map-change f g k [] i one = refl
+map-change f g k (x ∷ xs) zero one = ap (λ y. y ∷ map f xs) (one x refl)
+map-change f g k (x ∷ xs) (suc i) one = ap (λ ys. f x ∷ ys) (map-change f g k xs i one)
+
+map-change_numbered : {X Y : Type 0} (f : X → Y) (g : X → X) (k : Y → Y) (xs : List X) (i : ℕ) → ((x : X) → numbered xs i ≡ Some x → f (g x) ≡ k (f x))
+    → map f (change_numbered xs i g) ≡ change_numbered (map f xs) i k
+map-change_numbered f g k xs zero one = refl
+map-change_numbered f g k xs (suc i) one = map-change f g k xs i one
+
+-- a change that f does not see
+map-unseen : {X Y : Type 0} (f : X → Y) (g : X → X) (xs : List X) (i : ℕ) → ((x : X) → f (g x) ≡ f x) → map f (change xs i g) ≡ map f xs
+map-unseen f g [] i one = refl
+map-unseen f g (x ∷ xs) zero one = ap (λ y. y ∷ map f xs) (one x)
+map-unseen f g (x ∷ xs) (suc i) one = ap (λ ys. f x ∷ ys) (map-unseen f g xs i one)
+
+slice_get-map : {X Y : Type 0} (f : X → Y) (xs : List X) (i : ℕ) → slice_get (map f xs) i ≡ option_map f (slice_get xs i)
+slice_get-map f [] i = refl
+slice_get-map f (x ∷ xs) zero = refl
+slice_get-map f (x ∷ xs) (suc i) = slice_get-map f xs i
+
+pub numbered-map : {X Y : Type 0} (f : X → Y) (xs : List X) (g : ℕ) → numbered (map f xs) g ≡ option_map f (numbered xs g)
+numbered-map f xs zero = refl
+numbered-map f xs (suc i) = slice_get-map f xs i
+
+-- ---- who moves
+
+led-mode : (script : Script) (m : Move) (w : ℕ) (place : Place) (mode : Mode) → (mode ≡ Mode.Ended → ⊥)
+    → shown (moved script m (record { world = w; place = place; mode = mode })) ≡ led script m (shown (record { world = w; place = place; mode = mode }))
+led-mode script m w place Mode.Ended live = absurd (live refl)
+led-mode script (Move.GoesOn case_no) w place Mode.At live = refl
+led-mode script (Move.FallsAsleep until) w place Mode.At live = refl
+led-mode script Move.Ends w place Mode.At live = refl
+led-mode script (Move.GoesOn case_no) w place (Mode.Sleeping until) live = refl
+led-mode script (Move.FallsAsleep later) w place (Mode.Sleeping until) live = refl
+led-mode script Move.Ends w place (Mode.Sleeping until) live = refl
+
+lives : (s : State) (g : ℕ) (r : Goroutine) → IsLive s g → goroutine_at s g ≡ Some r → r.mode ≡ Mode.Ended → ⊥
+lives s g r live e =
+    let there : goroutine_at s g ≡ Some live.who = live.there in
+    let same : live.who ≡ r = cc in
+    subst (λ (r : Goroutine). r.mode ≡ Mode.Ended → ⊥) same live.live
+
+says-led : (script : Script) (s : State) (m : Option (ℕ × Move)) → IfSome m (λ (m : ℕ × Move). IsLive s m.0)
+    → map shown (with_mover script s.goroutines m) ≡ with_led script (map shown s.goroutines) m
+says-led script s None live = refl
+says-led script s (Some m) live =
+    map-change_numbered shown (moved script m.1) (led script m.1) s.goroutines m.0 (λ r e. led-mode script m.1 r.world r.place r.mode (lives s m.0 r live e))
+
+-- ---- who starts
+
+shown-world : (s : State) (g : ℕ) → world_of s g ≡ world_in (numbered (map shown s.goroutines) g)
+shown-world s g =
+    elim (goroutine_at s g) as (λ o. (elim o as (λ o. ℕ) [ None ↦ 0 | Some r ↦ r.world ]) ≡ world_in (option_map shown o)) [ None ↦ refl | Some r ↦ refl ]
+    ∙ sym (ap world_in (numbered-map shown s.goroutines g))
+
+at-owner : (timers : List (Option Timer)) (t : ℕ) → at (map owner_in timers) t ≡ owner_in (at timers t)
+at-owner [] t = refl
+at-owner (o ∷ timers) zero = refl
+at-owner (o ∷ timers) (suc t) = at-owner timers t
+
+shown-owner : (s : State) (t : ℕ) → timer_world s t ≡ unwrap_or (at (map owner_in s.timers) t) 0
+shown-owner s t =
+    elim (at s.timers t) as (λ o. (elim o as (λ o. ℕ) [ None ↦ 0 | Some r ↦ r.world ]) ≡ unwrap_or (owner_in o) 0) [ None ↦ refl | Some r ↦ refl ]
+    ∙ sym (ap (λ (o : Option ℕ). unwrap_or o 0) (at-owner s.timers t))
+
+begun : (script : Script) (s : State) (x : Start) → shown (started_by script s x) ≡ begun_by script (show s) x
+begun script s (Start.ByGoroutine g f) = ap (λ w. beginner script w f) (shown-world s g)
+begun script s (Start.ByTimer t) = ap (λ w. beginner script w (func_of script t)) (shown-owner s t)
+
+says-begun : (script : Script) (s : State) (gs : List Goroutine) (xs : List Start)
+    → map shown (with_starts script s gs xs) ≡ map shown gs ++ map (begun_by script (show s)) xs
+says-begun script s gs [] = sym (append-nil (map shown gs))
+says-begun script s gs (x ∷ xs) =
+    says-begun script s (gs ++ started_by script s x ∷ []) xs
+    ∙ (ap (λ rs. rs ++ map (begun_by script (show s)) xs) (map-append shown gs (started_by script s x ∷ []) ∙ ap (λ r. map shown gs ++ r ∷ []) (begun script s x))
+    ∙ append_assoc (map shown gs) (begun_by script (show s) x ∷ []) (map (begun_by script (show s)) xs))
+
+-- ---- who owns
+
+kept-due : (due : Option ℕ) (o : Option Timer) → owner_in (set_due due o) ≡ owner_in o
+kept-due due None = refl
+kept-due due (Some r) = refl
+
+kept-again : (due period : ℕ) (o : Option Timer) → owner_in (set_again due period o) ≡ owner_in o
+kept-again due period None = refl
+kept-again due period (Some r) = refl
+
+says-mover : (s : State) (m : Option (ℕ × Move)) → world_of s (number_of m) ≡ mover_world (map shown s.goroutines) m
+says-mover s None = refl
+says-mover s (Some m) = shown-world s m.0
+
+setting-owned : (script : Script) (s : State) (m : Option (ℕ × Move)) (t : ℕ) (x : Setting)
+    → map owner_in (retimed script s m t s.timers x) ≡ owned (mover_world (map shown s.goroutines) m) t (map owner_in s.timers) x
+setting-owned script s m t (Setting.Made due) = map-set owner_in s.timers t _ ∙ ap (λ w. set (map owner_in s.timers) t (Some w)) (says-mover s m)
+setting-owned script s m t (Setting.SetAnew due) = map-unseen owner_in _ s.timers t (kept-again due _)
+setting-owned script s m t (Setting.Ended due) = map-unseen owner_in (set_due due) s.timers t (kept-due due)
+
+says-owned : (script : Script) (s : State) (m : Option (ℕ × Move)) (o : Option (ℕ × Setting))
+    → map owner_in (with_retimed script s m s.timers o) ≡ with_owned (mover_world (map shown s.goroutines) m) (map owner_in s.timers) o
+says-owned script s m None = refl
+says-owned script s m (Some x) = setting-owned script s m x.0 x.1
+
+-- ---- everyone
+
+abbrev together : List ToldGoroutine → List (Option ℕ) → Everyone
+together rs os = record { goroutines = rs; owners = os }
+
+both : (rs qs : List ToldGoroutine) (os ps : List (Option ℕ)) → rs ≡ qs → os ≡ ps → together rs os ≡ together qs ps
+both rs qs os ps same alike = ap (λ rs. together rs os) same ∙ ap (λ os. together qs os) alike
+
+one-everyone : (script : Script) (s : State) (e : Entry) → Fits s (change_of e) → show (after script s e) ≡ everyone_by script (show s) (change_of e)
+one-everyone script s e fits =
+    both _ _ _ _
+    (says-begun script s (with_mover script s.goroutines (change_of e).mover) (change_of e).starts
+    ∙ ap (λ rs. rs ++ map (begun_by script (show s)) (change_of e).starts) (says-led script s (change_of e).mover fits.mover))
+    (says-owned script s (change_of e).mover (change_of e).timer)
+
+none-owned : (decls : List Decl) → map owner_in (map (λ (d : Decl). None) decls) ≡ map (λ (d : Decl). None) decls
+none-owned [] = refl
+none-owned (d ∷ ds) = ap (λ os. None ∷ os) (none-owned ds)
+
+pub everyone-told : (script : Script) (limits : Limits) (h : List Entry) → IsGood script → AllLegal script limits (first_state script) h
+    → show (state_after script (first_state script) h) ≡ everyone_told script h
+everyone-told script limits = shown-told script limits show (everyone_by script) (everyone_first script) (λ s e formed fits. one-everyone script s e fits)
+    (both _ _ _ _ refl (none-owned script.decls))
+
+-- ---- and of each of them
+
+pub goroutine-told : (script : Script) (limits : Limits) (g : ℕ) (h : List Entry) → IsGood script → AllLegal script limits (first_state script) h
+    → option_map shown (goroutine_at (state_after script (first_state script) h) g) ≡ goroutine_told script g h
+goroutine-told script limits g h good legal =
+    sym (numbered-map shown (state_after script (first_state script) h).goroutines g)
+    ∙ ap (λ (all : Everyone). numbered all.goroutines g) (everyone-told script limits h good legal)
+
+pub owner-told : (script : Script) (limits : Limits) (t : ℕ) (h : List Entry) → IsGood script → AllLegal script limits (first_state script) h
+    → timer_world (state_after script (first_state script) h) t ≡ owner_told script t h
+owner-told script limits t h good legal =
+    shown-owner (state_after script (first_state script) h) t ∙ ap (λ (all : Everyone). unwrap_or (at all.owners t) 0) (everyone-told script limits h good legal)
+
+pub world-told : (script : Script) (limits : Limits) (g : ℕ) (h : List Entry) → IsGood script → AllLegal script limits (first_state script) h
+    → world_of (state_after script (first_state script) h) g ≡ world_told script g h
+world-told script limits g h good legal =
+    shown-world (state_after script (first_state script) h) g
+    ∙ ap (λ (all : Everyone). world_in (numbered all.goroutines g)) (everyone-told script limits h good legal)
+
+pub now-told : (script : Script) (limits : Limits) (g : ℕ) (h : List Entry) → IsGood script → AllLegal script limits (first_state script) h
+    → clock_of (state_after script (first_state script) h) g ≡ now_told script g h
+now-told script limits g h good legal =
+    clock-told script limits (world_of (state_after script (first_state script) h) g) h good legal
+    ∙ ap (λ w. clock_told w h) (world-told script limits g h good legal)
+
+pub until-shown : (mode : Mode) → until_of mode ≡ until_in (wait_in mode)
+until-shown Mode.At = refl
+until-shown (Mode.Sleeping until) = refl
+until-shown Mode.Ended = refl
+
+pub stands-shown : (script : Script) (place : Place) (mode : Mode)
+    → (elim mode as (λ m. Option Instr) [ Mode.At ↦ instr_at script place | _ ↦ None ]) ≡ stands_in script (place_in place mode) (wait_in mode)
+stands-shown script place Mode.At = refl
+stands-shown script place (Mode.Sleeping until) = refl
+stands-shown script place Mode.Ended = refl
+
+pub until-told : (script : Script) (limits : Limits) (g : ℕ) (h : List Entry) → IsGood script → AllLegal script limits (first_state script) h
+    → sleeps_until (state_after script (first_state script) h) g ≡ until_told script g h
+until-told script limits g h good legal =
+    elim (goroutine_at (state_after script (first_state script) h) g)
+    as (λ o. (elim (option_map (λ (r : Goroutine). r.mode) o) as (λ o. Option ℕ) [ None ↦ None | Some mode ↦ until_of mode ])
+    ≡ until_in (wait_of (option_map shown o))) [ None ↦ refl | Some r ↦ until-shown r.mode ]
+    ∙ ap (λ (o : Option ToldGoroutine). until_in (wait_of o)) (goroutine-told script limits g h good legal)
+
+pub stands-told : (script : Script) (limits : Limits) (g : ℕ) (h : List Entry) → IsGood script → AllLegal script limits (first_state script) h
+    → stands_at script (state_after script (first_state script) h) g ≡ stands_told script g h
+stands-told script limits g h good legal =
+    elim (goroutine_at (state_after script (first_state script) h) g)
+    as (λ o. (elim o as (λ o. Option Instr) [ None ↦ None | Some r ↦ stands script r ])
+    ≡ stands_in script (place_of (option_map shown o)) (wait_of (option_map shown o))) [ None ↦ refl | Some r ↦ stands-shown script r.place r.mode ]
+    ∙ ap (λ (o : Option ToldGoroutine). stands_in script (place_of o) (wait_of o)) (goroutine-told script limits g h good legal)
