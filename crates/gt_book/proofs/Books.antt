@@ -73,20 +73,10 @@ begun-kept b good are empty spare state room schedule kept slots long none_due =
 
 -- who makes an entry is where the scheduler needs it
 maker-Served : (b : BookView) (e : Entry) → IsLawful b → May b.script b.state e → Served b.script b.state b.schedule e → HasMaker b.script b.state b.schedule e
-maker-Served b (Entry.Say g n) lawful may served = tt
-maker-Served b (Entry.Now g at) lawful may served = tt
-maker-Served b (Entry.Go g child f) lawful may served = tt
 maker-Served b (Entry.End g) lawful may served = served
 maker-Served b (Entry.Sleep g until) lawful may served = served
-maker-Served b (Entry.Wake g) lawful may served = tt
-maker-Served b (Entry.New g t due) lawful may served = tt
-maker-Served b (Entry.Stop g t was) lawful may served = tt
-maker-Served b (Entry.Reset g t was due) lawful may served = tt
 maker-Served b (Entry.TRecv p t due next) lawful may served = receives-parked b.script b.state b.schedule p t due next may served
-maker-Served b (Entry.FireFunc t child) lawful may served = tt
-maker-Served b (Entry.Clock world to) lawful may served = tt
-maker-Served b (Entry.Panic p reason) lawful may served = tt
-maker-Served b (Entry.Finish outcome) lawful may served = tt
+maker-Served b _ lawful may served = tt
 
 -- a book in which an entry may come
 pub record CanEnter (b : Inside) (e : Entry) : Type 0 where

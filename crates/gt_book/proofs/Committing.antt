@@ -127,18 +127,11 @@ record Sleeps (d : ℕ) (i : Instr) : Type 0 where
   ends : (now : ℕ) → sleep_end now d ≡ Some (due_at now d)
 
 instr-sleeps : (s : State) (g d : ℕ) (i : Instr) → step_of_instr s g i ≡ Step.Needs (TimerOp.Sleep d) → Sleeps d i
-instr-sleeps s g d (Instr.Say n) h = cc
-instr-sleeps s g d Instr.Now h = cc
 instr-sleeps s g d (Instr.Sleep zero) h = cc
 instr-sleeps s g d (Instr.Sleep (suc e)) h =
     let same : suc e ≡ d = cc in
     record { is = ap Instr.Sleep same; ends = λ now. subst (λ d. sleep_end now d ≡ Some (due_at now d)) same refl }
-instr-sleeps s g d (Instr.Go f) h = cc
-instr-sleeps s g d (Instr.New o e) h = cc
-instr-sleeps s g d (Instr.Stop o) h = cc
-instr-sleeps s g d (Instr.Reset o e) h = cc
-instr-sleeps s g d (Instr.Recv o) h = cc
-instr-sleeps s g d Instr.Finish h = cc
+instr-sleeps s g d _ h = cc
 
 pub may-sleep : (b : BookView) (g d until : ℕ) → IsLawful b → outcome_of b ≡ None → step_of b.script b.state g ≡ Some (Step.Needs (TimerOp.Sleep d))
     → status_of b.schedule g ≡ Some RunStatus.InHand → until ≡ min (clock b.state 0 + d) greatest_time
@@ -155,16 +148,10 @@ abbrev Sets : ℕ → Instr → Type 0
 Sets t i = ((d : ℕ) × (i ≡ Instr.New t d)) ⊎ ((d : ℕ) × (i ≡ Instr.Reset t d))
 
 instr-sets : (s : State) (g t : ℕ) (i : Instr) → step_of_instr s g i ≡ Step.Needs (TimerOp.Set t) → Sets t i
-instr-sets s g t (Instr.Say n) h = cc
-instr-sets s g t Instr.Now h = cc
-instr-sets s g t (Instr.Sleep zero) h = cc
-instr-sets s g t (Instr.Sleep (suc d)) h = cc
-instr-sets s g t (Instr.Go f) h = cc
 instr-sets s g t (Instr.New o d) h = let same : o ≡ t = cc in inl (d, ap (λ o. Instr.New o d) same)
-instr-sets s g t (Instr.Stop o) h = cc
 instr-sets s g t (Instr.Reset o d) h = let same : o ≡ t = cc in inr (d, ap (λ o. Instr.Reset o d) same)
-instr-sets s g t (Instr.Recv o) h = cc
-instr-sets s g t Instr.Finish h = cc
+instr-sets s g t (Instr.Sleep zero) h = cc
+instr-sets s g t _ h = cc
 
 pub set-stands : (script : Script) (s : State) (g t : ℕ) → step_of script s g ≡ Some (Step.Needs (TimerOp.Set t))
     → ((d : ℕ) × (stands_at script s g ≡ Some (Instr.New t d))) ⊎ ((d : ℕ) × (stands_at script s g ≡ Some (Instr.Reset t d)))

@@ -1,5 +1,5 @@
 -- A lawful book with one more entry, and the finish that is due then, is lawful.
-use Rattle.std.proofs.Common.{◌≡◌, ◌≢◌, ◌+◌, ◌<◌, ◌≤◌, List, [], ◌∷◌, refl, sym, ap, subst, ◌∙◌, arith, append_assoc, ◌==◌, eqb, if◌then◌else◌, Option, None, Some, Bool, true, false, MatchOption}
+use Rattle.std.proofs.Common.{cond, ◌≡◌, ◌≢◌, ◌+◌, ◌<◌, ◌≤◌, List, [], ◌∷◌, refl, sym, ap, subst, ◌∙◌, arith, append_assoc, ◌==◌, eqb, if◌then◌else◌, Option, None, Some, Bool, true, false, MatchOption}
 use Rattle.std.proofs.lemmas.Bool.{eqb-false, eqb-true}
 use Rattle.gt_model.specs.declared.script.Script.{Script}
 use Rattle.gt_model.specs.declared.entry.Entry.{Entry}
@@ -7,7 +7,7 @@ use Rattle.gt_model.specs.declared.entry.Limits.{Limits}
 use Rattle.gt_model.specs.declared.entry.Outcome.{Outcome}
 use Rattle.gt_model.specs.declared.state.Ending.{Ending}
 use Rattle.gt_rules.specs.State.{State}
-use Rattle.gt_rules.specs.After.{after, first_state}
+use Rattle.gt_rules.specs.After.{option_or, after, first_state}
 use Rattle.gt_rules.specs.Legal.{May}
 use Rattle.gt_rules.specs.Finish.{Legal, IsRunning, Finishes}
 use Rattle.gt_rules.specs.History.{AllLegal, state_after}
@@ -22,45 +22,22 @@ use Rattle.gt_book.proofs.Fitting.{fits-finish}
 
 -- an entry that may come while the run goes on is legal
 pub legal-May : (script : Script) (limits : Limits) (s : State) (e : Entry) → IsRunning limits s → May script s e → Legal script limits s e
-legal-May script limits s (Entry.Say g n) running may = (running, may)
-legal-May script limits s (Entry.Now g at) running may = (running, may)
-legal-May script limits s (Entry.Go g child f) running may = (running, may)
-legal-May script limits s (Entry.End g) running may = (running, may)
-legal-May script limits s (Entry.Sleep g until) running may = (running, may)
-legal-May script limits s (Entry.Wake g) running may = (running, may)
-legal-May script limits s (Entry.New g t due) running may = (running, may)
-legal-May script limits s (Entry.Stop g t was) running may = (running, may)
-legal-May script limits s (Entry.Reset g t was due) running may = (running, may)
-legal-May script limits s (Entry.TRecv p t due next) running may = (running, may)
-legal-May script limits s (Entry.FireFunc t child) running may = (running, may)
-legal-May script limits s (Entry.Clock world to) running may = (running, may)
-legal-May script limits s (Entry.Panic p reason) running may = (running, may)
 legal-May script limits s (Entry.Finish outcome) running may = absurd may
+legal-May script limits s _ running may = (running, may)
 
 -- an entry that may come is counted, and ends no run by itself
 pub record IsCounted (script : Script) (s : State) (e : Entry) : Type 0 where
   pub more : (after script s e).entries ≡ s.entries + 1
   pub unfinished : (outcome : Outcome) → s.ending ≡ Ending.Running → (after script s e).ending ≡ Ending.Finished outcome → ⊥
 
-cond_ending : (b : Bool) (ending : Ending) (outcome : Outcome) → ending ≡ Ending.Running → (if b then Ending.MainEnded else ending) ≡ Ending.Finished outcome → ⊥
+cond_ending : (b : Bool) (ending : Ending) (outcome : Outcome) → ending ≡ Ending.Running → option_or ending (cond b (Some Ending.MainEnded) None) ≡ Ending.Finished outcome → ⊥
 cond_ending true ending outcome is e = cc
 cond_ending false ending outcome is e = cc
 
 pub counted-May : (script : Script) (s : State) (e : Entry) → May script s e → IsCounted script s e
-counted-May script s (Entry.Say g n) may = record { more = refl; unfinished = λ outcome is e. cc }
-counted-May script s (Entry.Now g at) may = record { more = refl; unfinished = λ outcome is e. cc }
-counted-May script s (Entry.Go g child f) may = record { more = refl; unfinished = λ outcome is e. cc }
 counted-May script s (Entry.End g) may = record { more = refl; unfinished = λ outcome is e. cond_ending (eqb g 1) s.ending outcome is e }
-counted-May script s (Entry.Sleep g until) may = record { more = refl; unfinished = λ outcome is e. cc }
-counted-May script s (Entry.Wake g) may = record { more = refl; unfinished = λ outcome is e. cc }
-counted-May script s (Entry.New g t due) may = record { more = refl; unfinished = λ outcome is e. cc }
-counted-May script s (Entry.Stop g t was) may = record { more = refl; unfinished = λ outcome is e. cc }
-counted-May script s (Entry.Reset g t was due) may = record { more = refl; unfinished = λ outcome is e. cc }
-counted-May script s (Entry.TRecv p t due next) may = record { more = refl; unfinished = λ outcome is e. cc }
-counted-May script s (Entry.FireFunc t child) may = record { more = refl; unfinished = λ outcome is e. cc }
-counted-May script s (Entry.Clock world to) may = record { more = refl; unfinished = λ outcome is e. cc }
-counted-May script s (Entry.Panic p reason) may = record { more = refl; unfinished = λ outcome is e. cc }
 counted-May script s (Entry.Finish outcome) may = absurd may
+counted-May script s _ may = record { more = refl; unfinished = λ outcome is e. cc }
 
 -- all that a lawful book keeps, but that the run goes on or has its outcome
 pub record IsSound (b : BookView) : Type 0 where

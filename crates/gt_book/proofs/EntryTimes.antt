@@ -13,7 +13,9 @@ use Rattle.gt_tournament.specs.Keys.{key_of}
 use Rattle.gt_book.specs.View.{first_schedule}
 use Rattle.gt_rules.specs.State.{State, stands_at, sleeps_until, timer_at, clock_of, world_of}
 use Rattle.gt_model.specs.Script.{is_func, func_of}
-use Rattle.gt_rules.specs.After.{after, first_state, moved_on, in_mode, begun, asleep, took, set_due, set_again, new_period, timer_world}
+use Rattle.gt_rules.specs.declared.change.Move.{Move}
+use Rattle.gt_rules.specs.Change.{sleeps}
+use Rattle.gt_rules.specs.After.{after, first_state, moved, moved_on, in_mode, begun, set_due, set_again, new_period, timer_world}
 use Rattle.gt_model.specs.Good.{IsGood}
 use Rattle.gt_facts.specs.Formed.{IsFormed}
 use Rattle.gt_rules.specs.Legal.{May}
@@ -22,7 +24,7 @@ use Rattle.gt_queue.specs.Contents.{waiting_in, without}
 use Rattle.gt_book.specs.declared.due_times.DueTimes.{DueTimes}
 use Rattle.gt_book.specs.declared.scheduler.Scheduler.{Scheduler}
 use Rattle.gt_book.specs.Schedule.{Schedule, run_queue, queue_at, leaves, scheduled, parked_at, taken}
-use Rattle.gt_book.specs.DueTimes.{timer_time, slot_time, with_timer, followed, CanFollow, HasSleepSlot, HasSleptSlot, HasTimerSlot, AreTimes}
+use Rattle.gt_book.specs.DueTimes.{timer_time, slot_time, with_timer, followed, CanFollow, HasSleepSlot, HasTimerSlot, AreTimes, Touched, untouched, a_sleep, a_timer, touched_by, HasSlot}
 use Rattle.gt_book.proofs.Lists.{waiting-set_other}
 use Rattle.gt_facts.proofs.Within.{timer_within, func_within, setting_within}
 use Rattle.gt_book.proofs.SchedulerNeeds.{numbered-le}
@@ -35,36 +37,20 @@ use Rattle.gt_book.proofs.Times.{until-other, until-begun, until-stands, timer-s
 abbrev IsGoroutine : ℕ → ℕ → Type 0
 IsGoroutine most g = g ≤ most + 1
 
-abbrev SleptReaches : ℕ → ℕ → Option ℕ → Type 0
-SleptReaches most g None = Unit {0}
-SleptReaches most g (Some until) = IsGoroutine most g
+-- what is touched is of a goroutine of the run, or of a declaration
+abbrev pub IsWithin : ℕ → Script → Touched → Type 0
+IsWithin most script untouched = Unit {0}
+IsWithin most script (a_sleep g) = IsGoroutine most g
+IsWithin most script (a_timer t) = t < length script.decls
 
--- an entry that changes a sleep or a timer is of a goroutine of the run, or of a declaration
 abbrev pub Reaches : ℕ → Script → Entry → Type 0
-Reaches most script (Entry.Say g k) = Unit {0}
-Reaches most script (Entry.Now g at) = Unit {0}
-Reaches most script (Entry.Go g child f) = Unit {0}
-Reaches most script (Entry.End g) = Unit {0}
-Reaches most script (Entry.Sleep g until) = SleptReaches most g until
-Reaches most script (Entry.Wake g) = IsGoroutine most g
-Reaches most script (Entry.New g t due) = t < length script.decls
-Reaches most script (Entry.Stop g t was) = t < length script.decls
-Reaches most script (Entry.Reset g t was due) = t < length script.decls
-Reaches most script (Entry.TRecv p t due next) = t < length script.decls
-Reaches most script (Entry.FireFunc t child) = t < length script.decls
-Reaches most script (Entry.Clock world at) = Unit {0}
-Reaches most script (Entry.Panic p reason) = Unit {0}
-Reaches most script (Entry.Finish outcome) = Unit {0}
+Reaches most script e = IsWithin most script (touched_by e)
 
 standing-goroutine : (most : ℕ) (script : Script) (s : State) (g : ℕ) (i : Instr) → length s.goroutines ≤ most + 1 → stands_at script s g ≡ Some i → IsGoroutine most g
 standing-goroutine most script s g i few stands =
     let st : Standing script s g i = standing script s g i stands in
     let low : g ≤ length s.goroutines = numbered-le s.goroutines g st.who st.there in
     omega arith
-
-slept-reaches : (most : ℕ) (script : Script) (s : State) (g : ℕ) (i : Instr) (until : Option ℕ) → length s.goroutines ≤ most + 1 → stands_at script s g ≡ Some i → SleptReaches most g until
-slept-reaches most script s g i None few stands = tt
-slept-reaches most script s g i (Some until) few stands = standing-goroutine most script s g i few stands
 
 sleeping-goroutine : (most : ℕ) (script : Script) (s : State) (g : ℕ) (P : ℕ → Type 0) → length s.goroutines ≤ most + 1 → IsSomeAnd (sleeps_until s g) P → IsGoroutine most g
 sleeping-goroutine most script s g P few sleeps =
@@ -76,11 +62,7 @@ declared : (script : Script) (s : State) (t : ℕ) → IsFormed script s → t <
 declared script s t formed h = subst (λ n. t < n) formed.timers h
 
 pub reaches-May : (most : ℕ) (script : Script) (s : State) (e : Entry) → IsGood script → IsFormed script s → length s.goroutines ≤ most + 1 → May script s e → Reaches most script e
-reaches-May most script s (Entry.Say g k) good formed few may = tt
-reaches-May most script s (Entry.Now g at) good formed few may = tt
-reaches-May most script s (Entry.Go g child f) good formed few may = tt
-reaches-May most script s (Entry.End g) good formed few may = tt
-reaches-May most script s (Entry.Sleep g until) good formed few may = slept-reaches most script s g (Instr.Sleep may.0) until few may.1.stands
+reaches-May most script s (Entry.Sleep g (Some until)) good formed few may = standing-goroutine most script s g (Instr.Sleep may.0) few may.1.stands
 reaches-May most script s (Entry.Wake g) good formed few may = sleeping-goroutine most script s g (λ until. until ≤ clock_of s g) few may
 reaches-May most script s (Entry.New g t due) good formed few may =
     declared script s t formed (setting_within script s t formed (names-Does script s g (Instr.New t may.0) good may.1).0)
@@ -90,9 +72,7 @@ reaches-May most script s (Entry.Reset g t was due) good formed few may =
     declared script s t formed (setting_within script s t formed (names-Does script s g (Instr.Reset t may.0) good may.1).0)
 reaches-May most script s (Entry.TRecv p t due next) good formed few may = declared script s t formed (timer_within script s t formed may.1)
 reaches-May most script s (Entry.FireFunc t child) good formed few may = declared script s t formed (func_within script s t formed may.0)
-reaches-May most script s (Entry.Clock world to) good formed few may = tt
-reaches-May most script s (Entry.Panic p reason) good formed few may = tt
-reaches-May most script s (Entry.Finish outcome) good formed few may = tt
+reaches-May most script s _ good formed few may = tt
 
 -- ---- what the times need
 
@@ -104,27 +84,15 @@ sleep-slot : (most : ℕ) (script : Script) (d : DueTimes) (g : ℕ) → d.decla
     → IsGoroutine most g → HasSleepSlot d g
 sleep-slot most script d g declarations room limit names h = let low : g ≤ most + 1 = h in record { room = omega arith; small = omega arith }
 
-slept-slot : (most : ℕ) (script : Script) (d : DueTimes) (g : ℕ) (until : Option ℕ) → d.declarations ≡ length script.decls → length script.decls + most + 2 ≤ length d.times → most ≤ 200000
-    → length script.decls ≤ 4096 → SleptReaches most g until → HasSleptSlot d g until
-slept-slot most script d g None declarations room limit names h = tt
-slept-slot most script d g (Some until) declarations room limit names h = sleep-slot most script d g declarations room limit names h
+slot-within : (most : ℕ) (script : Script) (d : DueTimes) (m : Scheduler) (x : Touched) → d.declarations ≡ length script.decls → length script.decls + most + 2 ≤ length d.times
+    → most ≤ 200000 → length script.decls ≤ 4096 → length m.queues.queues ≡ length script.decls + 1 → IsWithin most script x → HasSlot d m x
+slot-within most script d m untouched declarations room limit names queues h = tt
+slot-within most script d m (a_sleep g) declarations room limit names queues h = sleep-slot most script d g declarations room limit names h
+slot-within most script d m (a_timer t) declarations room limit names queues h = timer-slot most script d m t room names queues h
 
 pub can_follow-reaches : (most : ℕ) (script : Script) (d : DueTimes) (m : Scheduler) (e : Entry) → d.declarations ≡ length script.decls → length script.decls + most + 2 ≤ length d.times
     → most ≤ 200000 → length script.decls ≤ 4096 → length m.queues.queues ≡ length script.decls + 1 → Reaches most script e → CanFollow d m e
-can_follow-reaches most script d m (Entry.Say g k) declarations room limit names queues h = tt
-can_follow-reaches most script d m (Entry.Now g at) declarations room limit names queues h = tt
-can_follow-reaches most script d m (Entry.Go g child f) declarations room limit names queues h = tt
-can_follow-reaches most script d m (Entry.End g) declarations room limit names queues h = tt
-can_follow-reaches most script d m (Entry.Sleep g until) declarations room limit names queues h = slept-slot most script d g until declarations room limit names h
-can_follow-reaches most script d m (Entry.Wake g) declarations room limit names queues h = sleep-slot most script d g declarations room limit names h
-can_follow-reaches most script d m (Entry.New g t due) declarations room limit names queues h = timer-slot most script d m t room names queues h
-can_follow-reaches most script d m (Entry.Stop g t was) declarations room limit names queues h = timer-slot most script d m t room names queues h
-can_follow-reaches most script d m (Entry.Reset g t was due) declarations room limit names queues h = timer-slot most script d m t room names queues h
-can_follow-reaches most script d m (Entry.TRecv p t due next) declarations room limit names queues h = timer-slot most script d m t room names queues h
-can_follow-reaches most script d m (Entry.FireFunc t child) declarations room limit names queues h = timer-slot most script d m t room names queues h
-can_follow-reaches most script d m (Entry.Clock world to) declarations room limit names queues h = tt
-can_follow-reaches most script d m (Entry.Panic p reason) declarations room limit names queues h = tt
-can_follow-reaches most script d m (Entry.Finish outcome) declarations room limit names queues h = tt
+can_follow-reaches most script d m e declarations room limit names queues h = slot-within most script d m (touched_by e) declarations room limit names queues h
 
 -- ---- the times after an entry
 
@@ -140,10 +108,10 @@ times-slept_entered : (most : ℕ) (script : Script) (s : State) (m : Schedule) 
     → e.declarations ≡ d.declarations → AreTimes most script (after script s (Entry.Sleep g until)) (scheduled m (Entry.Sleep g until)) e
 times-slept_entered most script s m g None d e are may reach times goroutines =
     times-stay most script s (after script s (Entry.Sleep g None)) m m d e are
-    (record { sleeps = λ h. until-stands script s g h (Instr.Sleep may.0) (asleep script None) may.1.stands (λ r. refl); timers = λ t. refl }) times goroutines
+    (record { sleeps = λ h. until-stands script s g h (Instr.Sleep may.0) (moved script (sleeps None)) may.1.stands (λ r. refl); timers = λ t. refl }) times goroutines
 times-slept_entered most script s m g (Some until) d e are may reach times goroutines =
     times-slept most script s (after script s (Entry.Sleep g (Some until))) m (scheduled m (Entry.Sleep g (Some until))) g d e are
-    (record { sleeps = λ h n. until-other s.goroutines g h (asleep script (Some until)) n; timers = λ t. refl }) reach times goroutines
+    (record { sleeps = λ h n. until-other s.goroutines g h (moved script (sleeps (Some until))) n; timers = λ t. refl }) reach times goroutines
 
 pub times-entered : (most : ℕ) (script : Script) (s : State) (m : Schedule) (x : Entry) (d e : DueTimes) → AreTimes most script s m d → May script s x → Reaches most script x
     → e.times ≡ followed d.declarations script (after script s x) (scheduled m x) x d.times → e.declarations ≡ d.declarations → AreTimes most script (after script s x) (scheduled m x) e
@@ -193,7 +161,7 @@ times-entered most script s m (Entry.TRecv p t due next) d e are may reach times
     let at : AtOperation script s p t = at_operation script s p t may.0.stands in
     times-timed most script s (after script s (Entry.TRecv p t due next)) m (scheduled m (Entry.TRecv p t due next)) t d e are
     (record {
-      sleeps = λ h. until-stands script s p.g h at.instr (took script p.case_no) at.stands (λ r. refl);
+      sleeps = λ h. until-stands script s p.g h at.instr (moved script (Move.GoesOn p.case_no)) at.stands (λ r. refl);
       timers = λ u n. timer-same script s (after script s (Entry.TRecv p t due next)) m (scheduled m (Entry.TRecv p t due next)) u (at-change_other s.timers t u (set_due next) n)
           (served-other m.queues p.g t u (waiting_in (leaves m.queues (queue_at t) p.g) run_queue ++ p.g ∷ []) n);
     }) reach times goroutines

@@ -15,7 +15,9 @@ use Rattle.gt_model.specs.declared.state.Mode.{Mode}
 use Rattle.gt_model.specs.Tables.{numbered, change, change_numbered, at}
 use Rattle.gt_rules.specs.State.{State, goroutine_at, timer_at, stands, stands_at, clock_of, world_of, next_number}
 use Rattle.gt_model.specs.Script.{instr_at, func_of, names_timer}
-use Rattle.gt_rules.specs.After.{after, first_state, moves, took, new_period, moved_on, in_mode, asleep, begun, set_due, set_again, timer_world}
+use Rattle.gt_rules.specs.After.{after, first_state, moved, new_period, moved_on, in_mode, begun, set_due, set_again, timer_world}
+use Rattle.gt_rules.specs.declared.change.Move.{Move}
+use Rattle.gt_rules.specs.Change.{sleeps}
 use Rattle.gt_rules.specs.Legal.{May, operation, operation_at}
 use Rattle.gt_rules.specs.Panics.{fault, when}
 use Rattle.gt_rules.specs.Ready.{is_firm, goes_on}
@@ -535,16 +537,16 @@ fits-entered script s m (Entry.Say g n) fits may in_hand =
 fits-entered script s m (Entry.Now g at) fits may in_hand =
     fits-goes_on script s (after script s (Entry.Now g at)) m g (moved_on script) fits in_hand refl (λ r. refl) (λ t h. h)
 fits-entered script s m (Entry.Go g child f) fits may in_hand =
-    let mid : State = moves script s g in
+    let mid : State = record s { goroutines = change_numbered s.goroutines g (moved_on script) } in
     let goes : Fits script mid m = fits-goes_on script s mid m g (moved_on script) fits in_hand refl (λ r. refl) (λ t h. h) in
     fits-begins script mid (after script s (Entry.Go g child f)) m child (begun script (world_of s g) f) goes
     (may.1 ∙ ap (λ n. n + 1) (sym (length-change_numbered s.goroutines g (moved_on script)))) refl refl (λ t h. h)
 fits-entered script s m (Entry.End g) fits may in_hand =
     fits-leaves_hand script s (after script s (Entry.End g)) m m.parks g (in_mode Mode.Ended) RunStatus.Ended fits in_hand refl (λ t h. h) (λ r. tt) refl (λ r t. refl)
 fits-entered script s m (Entry.Sleep g None) fits may in_hand =
-    fits-goes_on script s (after script s (Entry.Sleep g None)) m g (asleep script None) fits in_hand refl (λ r. refl) (λ t h. h)
+    fits-goes_on script s (after script s (Entry.Sleep g None)) m g (moved script (sleeps None)) fits in_hand refl (λ r. refl) (λ t h. h)
 fits-entered script s m (Entry.Sleep g (Some until)) fits may in_hand =
-    fits-leaves_hand script s (after script s (Entry.Sleep g (Some until))) m (next_park m.parks) g (asleep script (Some until)) (RunStatus.Parked m.parks) fits in_hand refl (λ t h. h) (λ r. tt) refl (λ r t. refl)
+    fits-leaves_hand script s (after script s (Entry.Sleep g (Some until))) m (next_park m.parks) g (moved script (sleeps (Some until))) (RunStatus.Parked m.parks) fits in_hand refl (λ t h. h) (λ r. tt) refl (λ r t. refl)
 fits-entered script s m (Entry.Wake g) fits may served =
     let a : Asleep s g = sleeper s g (λ until. until ≤ clock_of s g) may in
     fits-woken script s (after script s (Entry.Wake g)) m m.queues g (moved_on script) fits (asleep-parked script s m g fits a) refl (λ r. refl) (λ t h. h) refl
@@ -561,7 +563,7 @@ fits-entered script s m (Entry.Reset g t was due) fits may in_hand =
 fits-entered script s m (Entry.TRecv p t due next) fits may waits =
     let declared : t < length script.decls = declared_within script t names_timer refl may.1 in
     let within : t + 1 < length m.queues = omega (arith, fits.queues) in
-    fits-woken script s (after script s (Entry.TRecv p t due next)) m (leaves m.queues (queue_at t) p.g) p.g (took script p.case_no) fits waits refl (λ r. refl)
+    fits-woken script s (after script s (Entry.TRecv p t due next)) m (leaves m.queues (queue_at t) p.g) p.g (moved script (Move.GoesOn p.case_no)) fits waits refl (λ r. refl)
     (λ u h. made-change s.timers t u (set_due next) (due-keeps next) h)
     (length-set m.queues (queue_at t) (without (waiting_in m.queues (queue_at t)) p.g))
     (λ q x n. times-leaves_by m.queues q (queue_at t) x p.g within n)

@@ -193,16 +193,8 @@ is_some-not_none None h = cc
 is_some-not_none (Some x) h = refl
 
 instr-waits : (s : State) (g t : ℕ) (i : Instr) → step_of_instr s g i ≡ Step.Waits t → i ≡ Instr.Recv t
-instr-waits s g t (Instr.Say n) h = cc
-instr-waits s g t Instr.Now h = cc
 instr-waits s g t (Instr.Sleep zero) h = cc
-instr-waits s g t (Instr.Sleep (suc d)) h = cc
-instr-waits s g t (Instr.Go f) h = cc
-instr-waits s g t (Instr.New o d) h = cc
-instr-waits s g t (Instr.Stop o) h = cc
-instr-waits s g t (Instr.Reset o d) h = cc
-instr-waits s g t (Instr.Recv o) h = cc
-instr-waits s g t Instr.Finish h = cc
+instr-waits s g t _ h = cc
 
 pub waits-rightly : (script : Script) (s : State) (g t : ℕ) → IsGood script → IsFormed script s → step_of script s g ≡ Some (Step.Waits t) → WaitsRightly script s g t
 waits-rightly script s g t good formed h =

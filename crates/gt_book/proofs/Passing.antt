@@ -9,7 +9,7 @@ use Rattle.gt_rules.specs.After.{after, first_state}
 use Rattle.gt_rules.specs.History.{AllJump, ClockJumps, state_after}
 use Rattle.gt_model.specs.Tables.{numbered, change, change_numbered}
 use Rattle.gt_book.specs.declared.status.RunStatus.{RunStatus}
-use Rattle.gt_book.specs.Schedule.{Schedule, status_of, scheduled, schedule_after, slept, parked, parked_at, taken}
+use Rattle.gt_book.specs.Schedule.{Schedule, Turn, unmoved, begins, finishes, parks_in, wakes_up, gets, turn_of, turned, status_of, scheduled, schedule_after, parked, parked_at, taken}
 use Rattle.gt_book.specs.View.{BookView, Enters, AreWoken, finish_by, finish_due, is_queued, queued_count}
 use Rattle.gt_machine.specs.Outcomes.{due_outcome}
 use Rattle.gt_model.proofs.Items.{numbered-change_same, numbered-change_other}
@@ -24,20 +24,9 @@ jumps-append script slip s (e ∷ h) k all next = (all.0, jumps-append script sl
 
 -- an entry of a goroutine that is woken moves no clock
 woken-jump : (script : Script) (s : State) (m : Schedule) (e : Entry) (h : List Entry) → AreWoken script s m (e ∷ h) → ClockJumps script 0 s e
-woken-jump script s m (Entry.Say g n) h woken = absurd woken.0
-woken-jump script s m (Entry.Now g at) h woken = absurd woken.0
-woken-jump script s m (Entry.Go g child f) h woken = absurd woken.0
-woken-jump script s m (Entry.End g) h woken = absurd woken.0
-woken-jump script s m (Entry.Sleep g until) h woken = absurd woken.0
 woken-jump script s m (Entry.Wake g) h woken = tt
-woken-jump script s m (Entry.New g t due) h woken = absurd woken.0
-woken-jump script s m (Entry.Stop g t was) h woken = absurd woken.0
-woken-jump script s m (Entry.Reset g t was due) h woken = absurd woken.0
 woken-jump script s m (Entry.TRecv p t due next) h woken = tt
-woken-jump script s m (Entry.FireFunc t child) h woken = absurd woken.0
-woken-jump script s m (Entry.Clock world at) h woken = absurd woken.0
-woken-jump script s m (Entry.Panic p reason) h woken = absurd woken.0
-woken-jump script s m (Entry.Finish outcome) h woken = absurd woken.0
+woken-jump script s m _ h woken = absurd woken.0
 
 pub woken-jumps : (script : Script) (s : State) (m : Schedule) (h : List Entry) → AreWoken script s m h → AllJump script 0 s h
 woken-jumps script s m [] woken = tt
@@ -117,26 +106,17 @@ queued-hands statuses g h e = change_numbered-from statuses g h RunStatus.Queued
 parked-hands : (m : Schedule) (g h : ℕ) → status_of (parked m g) h ≡ Some RunStatus.InHand → status_of m h ≡ Some RunStatus.InHand
 parked-hands m g h e = change_numbered-from m.statuses g h (RunStatus.Parked m.parks) RunStatus.InHand (λ k. cc) e
 
-slept-hands : (m : Schedule) (g h : ℕ) (until : Option ℕ) → status_of (slept m g until) h ≡ Some RunStatus.InHand → status_of m h ≡ Some RunStatus.InHand
-slept-hands m g h None e = e
-slept-hands m g h (Some until) e = parked-hands m g h e
+-- no turn puts anybody into a worker's hand
+turned-hands : (m : Schedule) (turn : Turn) (g : ℕ) → status_of (turned m turn) g ≡ Some RunStatus.InHand → status_of m g ≡ Some RunStatus.InHand
+turned-hands m unmoved g h = h
+turned-hands m (begins child) g h = with_new-hands m.statuses g h
+turned-hands m (finishes x) g h = change_numbered-from m.statuses x g RunStatus.Ended RunStatus.InHand (λ k. cc) h
+turned-hands m (parks_in x) g h = parked-hands m x g h
+turned-hands m (wakes_up x) g h = queued-hands m.statuses x g h
+turned-hands m (gets x t) g h = queued-hands m.statuses x g h
 
--- no entry puts anybody into a worker's hand
 pub scheduled-hands : (m : Schedule) (e : Entry) (g : ℕ) → status_of (scheduled m e) g ≡ Some RunStatus.InHand → status_of m g ≡ Some RunStatus.InHand
-scheduled-hands m (Entry.Say x n) g h = h
-scheduled-hands m (Entry.Now x at) g h = h
-scheduled-hands m (Entry.Go x child f) g h = with_new-hands m.statuses g h
-scheduled-hands m (Entry.End x) g h = change_numbered-from m.statuses x g RunStatus.Ended RunStatus.InHand (λ k. cc) h
-scheduled-hands m (Entry.Sleep x until) g h = slept-hands m x g until h
-scheduled-hands m (Entry.Wake x) g h = queued-hands m.statuses x g h
-scheduled-hands m (Entry.New x t due) g h = h
-scheduled-hands m (Entry.Stop x t was) g h = h
-scheduled-hands m (Entry.Reset x t was due) g h = h
-scheduled-hands m (Entry.TRecv p t due next) g h = queued-hands m.statuses p.g g h
-scheduled-hands m (Entry.FireFunc t child) g h = with_new-hands m.statuses g h
-scheduled-hands m (Entry.Clock world at) g h = h
-scheduled-hands m (Entry.Panic p reason) g h = h
-scheduled-hands m (Entry.Finish outcome) g h = h
+scheduled-hands m e g h = turned-hands m (turn_of e) g h
 
 pub schedule_after-hands : (m : Schedule) (es : List Entry) (g : ℕ) → status_of (schedule_after m es) g ≡ Some RunStatus.InHand → status_of m g ≡ Some RunStatus.InHand
 schedule_after-hands m [] g h = h

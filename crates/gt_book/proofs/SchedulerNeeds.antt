@@ -1,5 +1,5 @@
 -- That a schedule which fits the state has what the scheduler's calls need.
-use Rattle.std.proofs.Common.{◌≡◌, ℕ, zero, suc, ◌+◌, ◌<◌, ◌≤◌, Bool, true, false, ◌&&◌, IsTrue, List, length, Option, Some, None, refl, sym, ap, subst, ◌∙◌, arith}
+use Rattle.std.proofs.Common.{◌≡◌, ℕ, zero, suc, ◌+◌, ◌<◌, ◌≤◌, Bool, true, false, ◌&&◌, IsTrue, List, length, Some, refl, sym, ap, subst, ◌∙◌, arith}
 use Rattle.std.proofs.lemmas.Option.{slice_get_within}
 use Rattle.gt_model.specs.declared.script.Script.{Script}
 use Rattle.gt_model.specs.declared.entry.Entry.{Entry}
@@ -18,7 +18,7 @@ use Rattle.gt_model.proofs.Items.{HasNumber}
 use Rattle.gt_facts.proofs.Lookups.{Asleep, sleeper}
 use Rattle.gt_book.proofs.Fitting.{asleep-parked, has_status, nowhere-new, nowhere-asleep}
 use Rattle.gt_model.proofs.Declared.{declared_within}
-use Rattle.gt_book.specs.Scheduler.{schedule_of, IsScheduler, IsInHand, CanAdd, IsAsleep, WaitsFor, CanSleep, CanApply}
+use Rattle.gt_book.specs.Scheduler.{schedule_of, IsScheduler, CanAdd, IsAsleep, WaitsFor, CanApply}
 
 pub numbered-le : {X : Type 0} (xs : List X) (g : ℕ) (x : X) → numbered xs g ≡ Some x → g ≤ length xs
 numbered-le xs zero x e = cc
@@ -89,25 +89,13 @@ HasMaker script s m (Entry.Sleep g until) = status_of m g ≡ Some RunStatus.InH
 HasMaker script s m (Entry.TRecv p t due next) = is_parked_at script s m p.g t ≡ true
 HasMaker script s m _ = Unit {0}
 
-sleep-in_hand : (m : Scheduler) (g : ℕ) (until : Option ℕ) → IsInHand m g → CanSleep m g until
-sleep-in_hand m g None h = tt
-sleep-in_hand m g (Some until) h = h
-
 -- an entry that may come can be applied
 pub can_apply-May : (script : Script) (s : State) (most : ℕ) (m : Scheduler) (e : Entry) → IsGood script → Fits script s (schedule_of m) → IsScheduler most m
     → length s.goroutines ≤ most → May script s e → HasMaker script s (schedule_of m) e → CanApply m e
-can_apply-May script s most m (Entry.Say g n) good fits h few may maker = tt
-can_apply-May script s most m (Entry.Now g at) good fits h few may maker = tt
 can_apply-May script s most m (Entry.Go g child f) good fits h few may maker = subst (CanAdd m) (sym may.1) (can_add-next script s most m fits h few)
-can_apply-May script s most m (Entry.End g) good fits h few may maker = record { status = maker; running = h.running }
-can_apply-May script s most m (Entry.Sleep g until) good fits h few may maker = sleep-in_hand m g until (record { status = maker; running = h.running })
-can_apply-May script s most m (Entry.Wake g) good fits h few may maker =
-    asleep-wakes script s most m g fits h may
-can_apply-May script s most m (Entry.New g t due) good fits h few may maker = tt
-can_apply-May script s most m (Entry.Stop g t was) good fits h few may maker = tt
-can_apply-May script s most m (Entry.Reset g t was due) good fits h few may maker = tt
-can_apply-May script s most m (Entry.TRecv p t due next) good fits h few may maker = waits_for-parked script s m p.g t good fits may.1 maker
 can_apply-May script s most m (Entry.FireFunc t child) good fits h few may maker = subst (CanAdd m) (sym may.2) (can_add-next script s most m fits h few)
-can_apply-May script s most m (Entry.Clock world to) good fits h few may maker = tt
-can_apply-May script s most m (Entry.Panic p reason) good fits h few may maker = tt
-can_apply-May script s most m (Entry.Finish outcome) good fits h few may maker = tt
+can_apply-May script s most m (Entry.End g) good fits h few may maker = record { status = maker; running = h.running }
+can_apply-May script s most m (Entry.Sleep g (Some until)) good fits h few may maker = record { status = maker; running = h.running }
+can_apply-May script s most m (Entry.Wake g) good fits h few may maker = asleep-wakes script s most m g fits h may
+can_apply-May script s most m (Entry.TRecv p t due next) good fits h few may maker = waits_for-parked script s m p.g t good fits may.1 maker
+can_apply-May script s most m _ good fits h few may maker = tt

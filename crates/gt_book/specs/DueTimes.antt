@@ -48,35 +48,35 @@ with_sleep n s g times = set times (n + g) (sleeps_until s g)
 abbrev pub with_timer : Script → State → Schedule → ℕ → List (Option ℕ) → List (Option ℕ)
 with_timer script s m t times = set times t (timer_time script s m t)
 
-abbrev pub with_slept : ℕ → State → ℕ → Option ℕ → List (Option ℕ) → List (Option ℕ)
-with_slept n s g None times = times
-with_slept n s g (Some until) times = with_sleep n s g times
+-- what an entry touches of the times
+pub data Touched : Type 0 where
+  untouched : Touched
+  a_sleep : ℕ → Touched
+  a_timer : ℕ → Touched
+
+abbrev pub touched_by : Entry → Touched
+touched_by (Entry.Sleep g (Some until)) = a_sleep g
+touched_by (Entry.Wake g) = a_sleep g
+touched_by (Entry.New g t due) = a_timer t
+touched_by (Entry.Stop g t was) = a_timer t
+touched_by (Entry.Reset g t was due) = a_timer t
+touched_by (Entry.TRecv p t due next) = a_timer t
+touched_by (Entry.FireFunc t child) = a_timer t
+touched_by _ = untouched
+
+abbrev pub looked_up : ℕ → Script → State → Schedule → Touched → List (Option ℕ) → List (Option ℕ)
+looked_up n script s m untouched times = times
+looked_up n script s m (a_sleep g) times = with_sleep n s g times
+looked_up n script s m (a_timer t) times = with_timer script s m t times
 
 -- the times after an entry, where s and m are the state and the schedule after it
 abbrev pub followed : ℕ → Script → State → Schedule → Entry → List (Option ℕ) → List (Option ℕ)
-followed n script s m (Entry.Say g k) times = times
-followed n script s m (Entry.Now g at) times = times
-followed n script s m (Entry.Go g child f) times = times
-followed n script s m (Entry.End g) times = times
-followed n script s m (Entry.Sleep g until) times = with_slept n s g until times
-followed n script s m (Entry.Wake g) times = with_sleep n s g times
-followed n script s m (Entry.New g t due) times = with_timer script s m t times
-followed n script s m (Entry.Stop g t was) times = with_timer script s m t times
-followed n script s m (Entry.Reset g t was due) times = with_timer script s m t times
-followed n script s m (Entry.TRecv p t due next) times = with_timer script s m t times
-followed n script s m (Entry.FireFunc t child) times = with_timer script s m t times
-followed n script s m (Entry.Clock world at) times = times
-followed n script s m (Entry.Panic p reason) times = times
-followed n script s m (Entry.Finish outcome) times = times
+followed n script s m e times = looked_up n script s m (touched_by e) times
 
 -- the goroutine has a slot
 pub record HasSleepSlot (d : DueTimes) (g : ℕ) : Type 0 where
   pub room : d.declarations + g < length d.times
   pub small : d.declarations + g < 2 ^ 32
-
-abbrev pub HasSleptSlot : DueTimes → ℕ → Option ℕ → Type 0
-HasSleptSlot d g None = Unit {0}
-HasSleptSlot d g (Some until) = HasSleepSlot d g
 
 -- the timer has a slot, and a queue
 pub record HasTimerSlot (d : DueTimes) (m : Scheduler) (t : ℕ) : Type 0 where
@@ -84,22 +84,14 @@ pub record HasTimerSlot (d : DueTimes) (m : Scheduler) (t : ℕ) : Type 0 where
   pub queue : queue_at t < length m.queues.queues
   pub few : length m.queues.queues < 2 ^ 32
 
--- what an entry needs of the times
+-- what is touched has a slot
+abbrev pub HasSlot : DueTimes → Scheduler → Touched → Type 0
+HasSlot d m untouched = Unit {0}
+HasSlot d m (a_sleep g) = HasSleepSlot d g
+HasSlot d m (a_timer t) = HasTimerSlot d m t
+
 abbrev pub CanFollow : DueTimes → Scheduler → Entry → Type 0
-CanFollow d m (Entry.Say g k) = Unit {0}
-CanFollow d m (Entry.Now g at) = Unit {0}
-CanFollow d m (Entry.Go g child f) = Unit {0}
-CanFollow d m (Entry.End g) = Unit {0}
-CanFollow d m (Entry.Sleep g until) = HasSleptSlot d g until
-CanFollow d m (Entry.Wake g) = HasSleepSlot d g
-CanFollow d m (Entry.New g t due) = HasTimerSlot d m t
-CanFollow d m (Entry.Stop g t was) = HasTimerSlot d m t
-CanFollow d m (Entry.Reset g t was due) = HasTimerSlot d m t
-CanFollow d m (Entry.TRecv p t due next) = HasTimerSlot d m t
-CanFollow d m (Entry.FireFunc t child) = HasTimerSlot d m t
-CanFollow d m (Entry.Clock world at) = Unit {0}
-CanFollow d m (Entry.Panic p reason) = Unit {0}
-CanFollow d m (Entry.Finish outcome) = Unit {0}
+CanFollow d m e = HasSlot d m (touched_by e)
 
 -- the times are those of a script in a state under a schedule, in a run of so many entries
 pub record AreTimes (most : ℕ) (script : Script) (s : State) (m : Schedule) (d : DueTimes) : Type 0 where

@@ -1,7 +1,7 @@
 -- Who runs, who is to run and who waits: the part of a book that the one-thread machine does not have.
 use Rattle.std.specs.Prelude.{ℕ, ◌+◌, ◌-◌, ◌^◌, min, List, [], ◌∷◌, ◌++◌, drop, set}
 use Rattle.std.specs.declared.option.Option.{Option}
-use Rattle.std.specs.declared.option.Option.TheVariants.{None, Some}
+use Rattle.std.specs.declared.option.Option.TheVariants.{Some}
 use Rattle.gt_model.specs.declared.entry.Entry.{Entry}
 use Rattle.gt_model.specs.Tables.{numbered, change_numbered}
 use Rattle.gt_queue.specs.Contents.{waiting_in, without}
@@ -63,26 +63,35 @@ taken m g = record m {
 abbrev pub served : Schedule → ℕ → ℕ → Schedule
 served m g t = queued (record m { queues = leaves m.queues (queue_at t) g }) g
 
-abbrev pub slept : Schedule → ℕ → Option ℕ → Schedule
-slept m g None = m
-slept m g (Some until) = parked m g
+-- what an entry is to the schedule
+pub data Turn : Type 0 where
+  unmoved : Turn
+  begins : ℕ → Turn
+  finishes : ℕ → Turn
+  parks_in : ℕ → Turn
+  wakes_up : ℕ → Turn
+  gets : ℕ → ℕ → Turn
+
+abbrev pub turn_of : Entry → Turn
+turn_of (Entry.Go g child f) = begins child
+turn_of (Entry.FireFunc t child) = begins child
+turn_of (Entry.End g) = finishes g
+turn_of (Entry.Sleep g (Some until)) = parks_in g
+turn_of (Entry.Wake g) = wakes_up g
+turn_of (Entry.TRecv p t due next) = gets p.g t
+turn_of _ = unmoved
+
+abbrev pub turned : Schedule → Turn → Schedule
+turned m unmoved = m
+turned m (begins child) = with_new m child
+turned m (finishes g) = with_status m g RunStatus.Ended
+turned m (parks_in g) = parked m g
+turned m (wakes_up g) = queued m g
+turned m (gets g t) = served m g t
 
 -- what an entry does to the schedule
 abbrev pub scheduled : Schedule → Entry → Schedule
-scheduled m (Entry.Say g n) = m
-scheduled m (Entry.Now g at) = m
-scheduled m (Entry.Go g child f) = with_new m child
-scheduled m (Entry.End g) = with_status m g RunStatus.Ended
-scheduled m (Entry.Sleep g until) = slept m g until
-scheduled m (Entry.Wake g) = queued m g
-scheduled m (Entry.New g t due) = m
-scheduled m (Entry.Stop g t was) = m
-scheduled m (Entry.Reset g t was due) = m
-scheduled m (Entry.TRecv p t due next) = served m p.g t
-scheduled m (Entry.FireFunc t child) = with_new m child
-scheduled m (Entry.Clock world at) = m
-scheduled m (Entry.Panic p reason) = m
-scheduled m (Entry.Finish outcome) = m
+scheduled m e = turned m (turn_of e)
 
 abbrev pub schedule_after : Schedule → List Entry → Schedule
 schedule_after m [] = m

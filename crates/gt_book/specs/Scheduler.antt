@@ -1,13 +1,12 @@
 -- The schedule that a scheduler's fields mean, what its calls need, and what it keeps.
 use Rattle.std.specs.Prelude.{ℕ, ◌+◌, ◌-◌, ◌^◌, ◌<◌, ◌≤◌, ◌≡◌, Bool, true, false, IsTrue, length, count_by}
-use Rattle.std.specs.declared.option.Option.{Option}
-use Rattle.std.specs.declared.option.Option.TheVariants.{None, Some}
+use Rattle.std.specs.declared.option.Option.TheVariants.{Some}
 use Rattle.gt_model.specs.declared.entry.Entry.{Entry}
 use Rattle.gt_queue.specs.Contents.{waiting_in}
 use Rattle.gt_book.specs.declared.status.RunStatus.{RunStatus}
 use Rattle.gt_book.specs.declared.scheduler.Scheduler.{Scheduler}
 use Rattle.gt_book.specs.Queues.{as_number, times}
-use Rattle.gt_book.specs.Schedule.{Schedule, status_of, run_queue, queue_at}
+use Rattle.gt_book.specs.Schedule.{Schedule, Turn, unmoved, begins, finishes, parks_in, wakes_up, gets, turn_of, status_of, run_queue, queue_at}
 use Rattle.gt_book.specs.View.{is_parked, is_queued}
 
 abbrev pub schedule_of : Scheduler → Schedule
@@ -63,33 +62,23 @@ pub record WaitsFor (m : Scheduler) (g t : ℕ) : Type 0 where
   pub there : times g (waiting_in m.queues.queues (queue_at t)) ≡ 1
   pub few : length m.queues.queues < 2 ^ 32
 
-abbrev pub CanSleep : Scheduler → ℕ → Option ℕ → Type 0
-CanSleep m g None = Unit {0}
-CanSleep m g (Some until) = IsInHand m g
+-- what a turn needs of the schedule
+abbrev pub CanTurn : Scheduler → Turn → Type 0
+CanTurn m unmoved = Unit {0}
+CanTurn m (begins child) = CanAdd m child
+CanTurn m (finishes g) = IsInHand m g
+CanTurn m (parks_in g) = IsInHand m g
+CanTurn m (wakes_up g) = IsAsleep m g
+CanTurn m (gets g t) = WaitsFor m g t
 
--- what an entry needs of the schedule
 abbrev pub CanApply : Scheduler → Entry → Type 0
-CanApply m (Entry.Say g n) = Unit {0}
-CanApply m (Entry.Now g at) = Unit {0}
-CanApply m (Entry.Go g child f) = CanAdd m child
-CanApply m (Entry.End g) = IsInHand m g
-CanApply m (Entry.Sleep g until) = CanSleep m g until
-CanApply m (Entry.Wake g) = IsAsleep m g
-CanApply m (Entry.New g t due) = Unit {0}
-CanApply m (Entry.Stop g t was) = Unit {0}
-CanApply m (Entry.Reset g t was due) = Unit {0}
-CanApply m (Entry.TRecv p t due next) = WaitsFor m p.g t
-CanApply m (Entry.FireFunc t child) = CanAdd m child
-CanApply m (Entry.Clock world at) = Unit {0}
-CanApply m (Entry.Panic p reason) = Unit {0}
-CanApply m (Entry.Finish outcome) = Unit {0}
+CanApply m e = CanTurn m (turn_of e)
 
-abbrev pub freed_by_sleep : Option ℕ → ℕ
-freed_by_sleep None = 0
-freed_by_sleep (Some until) = 1
+abbrev pub freed : Turn → ℕ
+freed (finishes g) = 1
+freed (parks_in g) = 1
+freed _ = 0
 
 -- how many goroutines leave a worker's hand at an entry
 abbrev pub freed_by : Entry → ℕ
-freed_by (Entry.End g) = 1
-freed_by (Entry.Sleep g until) = freed_by_sleep until
-freed_by _ = 0
+freed_by e = freed (turn_of e)

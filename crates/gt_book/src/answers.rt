@@ -3,7 +3,7 @@
 use gt_model::{Outcome, Party};
 
 /// Which goroutine is to run next.
-#[derive(Clone, Copy, Debug, PartialEq, Eq)]
+#[derive(Clone, Copy)]
 pub enum Pick {
     /// This one, which is in the caller's hand from now on.
     Run(u32),
@@ -15,7 +15,7 @@ pub enum Pick {
 }
 
 /// What a step of a goroutine did.
-#[derive(Clone, Copy, Debug, PartialEq, Eq)]
+#[derive(Clone, Copy)]
 pub enum Did {
     /// Its instruction was entered, and the run goes on.
     Entered,
@@ -28,7 +28,7 @@ pub enum Did {
 }
 
 /// What an instruction wants of a timer's record. Timers go by the places of their declarations, from 0.
-#[derive(Clone, Copy, Debug, PartialEq, Eq)]
+#[derive(Clone, Copy)]
 pub enum TimerOp {
     /// To set this timer.
     Set(u32),
@@ -40,7 +40,7 @@ pub enum TimerOp {
 
 /// An operation on a timer's record, with its answer. Goroutines go by their numbers, from 1, and timers by the places of their declarations, from 0;
 /// times are in nanoseconds, and a period of 0 is that of a timer that ticks once.
-#[derive(Clone, Copy, Debug, PartialEq, Eq)]
+#[derive(Clone, Copy)]
 pub enum Op {
     /// Goroutine `g` makes timer `t`, which is due at `due`.
     New {
@@ -86,7 +86,7 @@ pub enum Op {
 }
 
 /// What a commitment came to.
-#[derive(Clone, Copy, Debug, PartialEq, Eq)]
+#[derive(Clone, Copy)]
 pub enum Commit {
     /// It was entered, and the run goes on.
     Entered,
@@ -97,7 +97,7 @@ pub enum Commit {
 }
 
 /// A time that will unblock somebody, and whose it is.
-#[derive(Clone, Copy, Debug, PartialEq, Eq)]
+#[derive(Clone, Copy)]
 pub struct Due {
     /// The time, in nanoseconds.
     pub at: u64,
@@ -106,7 +106,7 @@ pub struct Due {
 }
 
 /// Whose a time is.
-#[derive(Clone, Copy, Debug, PartialEq, Eq)]
+#[derive(Clone, Copy)]
 pub enum Whose {
     /// This goroutine sleeps until then.
     Sleep(u32),

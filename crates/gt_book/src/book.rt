@@ -24,11 +24,14 @@ use crate::due_times::DueTimes;
 use crate::scheduler::Scheduler;
 use crate::status::RunStatus;
 use crate::step::{Step, next_step, plainly};
-use gt_machine::{Machine, PROGRAM};
+use gt_machine::Machine;
 use gt_model::{CAP, Entry, Instr, Limits, NoMemory, Outcome, Party, Script};
 use gt_room::Room;
 use std::alloc::Global;
 use std::marker::Model;
+
+/// The world of the program.
+const PROGRAM: u32 = 0;
 
 /// The state of goroutines, timers and clocks, together with the history that led to it.
 #[derive(Drop)]
@@ -56,12 +59,11 @@ impl Model for Book {
 impl Book {
     /// A run of a script before its first entry, in which goroutine 1 is to be taken. It may have 1 to 200,000 entries. All the memory of the run is taken
     /// here, or the answer is `NoMemory`; no later call takes any.
-    pub fn begin(alloc: Global, script: &Script, limits: Limits) -> Result<Book, NoMemory>
-        requires good { IsGood script.now }
+    pub fn begin(alloc: Global, script: Script, limits: Limits) -> Result<Book, NoMemory>
+        requires good { IsGood script }
         requires limits { AreLimits limits }
-        ensures { IfOk result (λ b. b ≡ first_view script.now limits) }
+        ensures { IfOk result (λ b. b ≡ first_view script limits) }
     {
-        let script = script.copy()?;
         let history = Room::with_room(alloc, limits.entries as usize + 1).map_err(|_| NoMemory)?;
         let machine = Machine::begin(alloc, &script, limits.entries)?;
         let scheduler = Scheduler::begin(alloc, &script, limits.entries)?;
@@ -107,12 +109,12 @@ impl Book {
         self.machine.outcome()
     }
 
-    /// The clock of a world, in nanoseconds. The program is world 0, the only one so far.
+    /// The clock of a world, in nanoseconds. The program is world 0.
     pub fn clock_of(&self, world: u32) -> u64
-        requires { world ≡ 0 }
+        requires { world < length self.now.state.clocks }
         ensures { result ≡ at.clock self.now.state world }
     {
-        self.machine.clock
+        self.machine.clock(world)
     }
 
     /// The instruction at the place of a goroutine, whether it stands there, sleeps or has ended.
@@ -217,7 +219,7 @@ impl Book {
         ensures { Clocks self.old (min reading greatest_time) self.new }
     {
         let to = reading.min(CAP);
-        if self.outcome().is_none() && self.machine.clock < to {
+        if self.outcome().is_none() && self.machine.clock(PROGRAM) < to {
             self.enter(Entry::Clock {
                 world: PROGRAM,
                 at: to,
@@ -276,7 +278,7 @@ impl Book {
         ensures { result ≡ is_parked_at self.now.script self.now.state self.now.schedule g t }
     {
         self.scheduler.is_parked(g)
-            && matches!(self.machine.stands_at(&self.script, g), Some(Instr::Recv { o }) if o == t)
+            && matches!(self.machine.stands_at(&self.script, g), Some(Instr::Recv { o }) if *o == t)
     }
 
     /// The entry of an operation.

@@ -2,7 +2,7 @@
 
 ghost use Rattle.std.specs.Prelude.{◌≡◌, ◌+◌, ◌<◌, ◌≤◌, ◌^◌, None, IfOk, length};
 ghost use Rattle.gt_model.specs.Good.{IsGood};
-ghost use Rattle.gt_rules.specs.State as at;
+ghost use Rattle.gt_model.specs.Script.{is_func};
 ghost use Rattle.gt_tournament.specs.Keys.{key_of};
 ghost use Rattle.gt_machine.specs.Machine.{state_of};
 ghost use Rattle.gt_book.specs.Schedule.{queue_at};
@@ -122,7 +122,7 @@ impl DueTimes {
 
 /// Whether a declaration is an AfterFunc timer.
 fn is_func(script: &Script, t: u32) -> bool
-    ensures { result ≡ at.is_func script.now t }
+    ensures { result ≡ is_func script.now t }
 {
     matches!(
         script.decls.as_slice().get(t as usize),

@@ -7,8 +7,6 @@ mod due_times;
 mod scheduler;
 mod status;
 mod step;
-#[cfg(test)]
-mod tests;
 
 pub use answers::{Commit, Did, Due, Op, Pick, TimerOp, Whose};
 pub use book::Book;

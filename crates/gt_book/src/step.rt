@@ -11,7 +11,7 @@ use gt_machine::Machine;
 use gt_model::{Entry, Instr, Party, Script};
 
 /// What a goroutine does next.
-#[derive(Clone, Copy, Debug, PartialEq, Eq)]
+#[derive(Clone, Copy)]
 pub enum Step {
     /// It makes this entry.
     Makes(Entry),
@@ -29,16 +29,16 @@ pub fn plainly(g: u32) -> Party
 }
 
 /// What an instruction without misuse is for goroutine `g`.
-fn step_of_instr(machine: &Machine, g: u32, instr: Instr) -> Step
-    requires world { at.world_of (state_of machine.now) g ≡ 0 }
+fn step_of_instr(machine: &Machine, g: u32, instr: &Instr) -> Step
+    requires world { at.world_of (state_of machine.now) g < length machine.now.clocks.items }
     requires few { length machine.now.goroutines.items < 2 ^ 32 - 1 }
-    ensures { result ≡ step_of_instr (state_of machine.now) g instr }
+    ensures { result ≡ step_of_instr (state_of machine.now) g instr.now }
 {
-    match instr {
+    match *instr {
         Instr::Say { n } => Step::Makes(Entry::Say { g, n }),
         Instr::Now => Step::Makes(Entry::Now {
             g,
-            at: machine.clock,
+            at: machine.clock_of(g),
         }),
         Instr::Sleep { d: 0 } => Step::Makes(Entry::Sleep { g, until: None }),
         Instr::Sleep { d } => Step::Needs(TimerOp::Sleep(d)),
@@ -61,7 +61,7 @@ pub fn next_step(machine: &Machine, script: &Script, g: u32) -> Option<Step>
     ensures { result ≡ step_of script.now (state_of machine.now) g }
 {
     let instr = machine.stands_at(script, g)?;
-    Some(match machine.fault(&instr) {
+    Some(match machine.fault(instr) {
         Some(reason) => Step::Makes(Entry::Panic {
             p: plainly(g),
             reason,

@@ -61,7 +61,7 @@ fn simulate<S: Source, K: Sink>(
         Ok(script) => script,
         Err(status) => return status,
     };
-    print_run(alloc, &script, limits, sink)
+    print_run(alloc, script, limits, sink)
 }
 
 /// All that the source has, or the status of a refusal.
@@ -97,10 +97,10 @@ fn spelled_script(alloc: Global, bytes: Vec<u8>) -> Result<Script, Status>
 }
 
 /// Runs a script within these limits, and then writes the trace of its history.
-fn print_run<K: Sink>(alloc: Global, script: &Script, limits: Limits, sink: &mut K) -> Status
-    requires good { IsGood script.now }
+fn print_run<K: Sink>(alloc: Global, script: Script, limits: Limits, sink: &mut K) -> Status
+    requires good { IsGood script }
     requires limits { AreLimits limits }
-    ensures { Prints script.now limits
+    ensures { Prints script limits
         (sink_state K.written K.faults sink.old) (sink_state K.written K.faults sink.new) result }
 {
     let Ok(book) = run_script(alloc, script, limits) else {
@@ -108,7 +108,7 @@ fn print_run<K: Sink>(alloc: Global, script: &Script, limits: Limits, sink: &mut
     };
     book.lawful();
     let outcome = book.outcome().unwrap();
-    match write_trace(sink, script, book.history()) {
+    match write_trace(sink, book.script(), book.history()) {
         Ok(()) => Status::Done(outcome),
         Err(_) => Status::WriteFault,
     }

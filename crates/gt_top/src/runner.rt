@@ -163,10 +163,10 @@ fn turn(book: &mut Book)
 }
 
 /// Runs a script until the run has its outcome. Only memory can keep it from an answer.
-pub fn run_script(alloc: Global, script: &Script, limits: Limits) -> Result<Book, NoMemory>
-    requires good { IsGood script.now }
+pub fn run_script(alloc: Global, script: Script, limits: Limits) -> Result<Book, NoMemory>
+    requires good { IsGood script }
     requires limits { AreLimits limits }
-    ensures { IfOk result (λ book. IsComplete script.now limits book) }
+    ensures { IfOk result (λ book. IsComplete script limits book) }
 {
     let mut book = Book::begin(alloc, script, limits)?;
     while book.outcome().is_none() {

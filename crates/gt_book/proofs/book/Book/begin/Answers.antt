@@ -1,5 +1,4 @@
-use Rattle.std.proofs.Common.{rules, sym, subst, ◌≡◌, ◌+◌, ◌≤◌, ℕ, None, length, []}
-use Rattle.gt_model.specs.Good.{IsGood}
+use Rattle.std.proofs.Common.{rules, ◌≡◌, ◌+◌, ◌≤◌, ℕ, None, length, []}
 use Rattle.gt_rules.specs.After.{first_state}
 use Rattle.gt_tournament.specs.Keys.{key_of}
 use Rattle.gt_machine.specs.Machine.{state_of}
@@ -10,22 +9,20 @@ use Rattle.gt_book.proofs.book.Book.begin.Goals as goal
 
 pub invariant_of-result : goal.invariant_of-result
 invariant_of-result c =
-    let script : c.in_ok-script.script ≡ c.args.script.now = search rules in
-    let good : IsGood c.in_ok-script.script = subst IsGood (sym script) c.requires.good in
     let empty : c.in_ok-history.history.items ≡ [] = search rules in
     let spare : c.in_ok-history.history.spare ≡ c.args.limits.entries + 1 = search rules in
-    let state : state_of c.in_ok-machine.machine ≡ first_state c.in_ok-script.script = search rules in
+    let state : state_of c.in_ok-machine.machine ≡ first_state c.args.script = search rules in
     let room : c.in_ok-machine.machine.goroutines.spare ≡ c.args.limits.entries = search rules in
-    let schedule : schedule_of c.in_ok-scheduler.scheduler ≡ first_schedule c.in_ok-script.script = search rules in
+    let schedule : schedule_of c.in_ok-scheduler.scheduler ≡ first_schedule c.args.script = search rules in
     let kept : IsScheduler c.args.limits.entries c.in_ok-scheduler.scheduler = search rules in
-    let slots : c.in_ok-due_times.due_times.declarations ≡ length c.in_ok-script.script.decls = search rules in
-    let long : length c.in_ok-script.script.decls + c.args.limits.entries + 2 ≤ length c.in_ok-due_times.due_times.times = search rules in
+    let slots : c.in_ok-due_times.due_times.declarations ≡ length c.args.script.decls = search rules in
+    let long : length c.args.script.decls + c.args.limits.entries + 2 ≤ length c.in_ok-due_times.due_times.times = search rules in
     let none_due : (slot : ℕ) → key_of c.in_ok-due_times.due_times.times slot ≡ None = search rules in
     begun-kept (record {
-      script = c.in_ok-script.script;
+      script = c.args.script;
       limits = c.args.limits;
       history = c.in_ok-history.history;
       machine = c.in_ok-machine.machine;
       scheduler = c.in_ok-scheduler.scheduler;
       due_times = c.in_ok-due_times.due_times;
-    }) good c.requires.limits empty spare state room schedule kept slots long none_due
+    }) c.requires.good c.requires.limits empty spare state room schedule kept slots long none_due
