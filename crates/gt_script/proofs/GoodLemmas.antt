@@ -34,6 +34,8 @@ use Rattle.gt_script.specs.Names.{Names, Naming, is_free_name, kind_of, named, n
 use Rattle.gt_script.specs.Statements.{Command, command, command_with, command_of, statement_of, timed, step_of, step_with, step_at, decl_as, decl_with, decl_at, decls_of, code_by, code_of, func_by, funcs_of, script_with, script_of, is_head, func_place, place_of, instr_of}
 use Rattle.gt_script.specs.Faults.{Test, test, first_cause, is_function, is_setting, is_channel_timer, is_kind_function, is_kind_timer, is_declared_before, progress_after, progress_with, cause_with, cause_at, lacks_main, fault_or, fault_from, fault_in_lines, head_cause, no_progress, is_end}
 use Rattle.gt_script.proofs.ReadingLemmas.{IsRight, is_right, step-IsSome, outside}
+use Rattle.gt_script.proofs.Acts.{Acts, nothing, declares, begins, does, shuts, decl_of, func_of, kind_in, decls_in, code_in, funcs_in, naming_as, names_in, Ref, Refers, Starts, IsNew, Right}
+use Rattle.gt_script.proofs.ActsGood.{acts-good, script_in}
 
 -- a line with nothing wrong
 pub record RightLine (names : Names) (is_last : Bool) (p : Progress) (line : NumberedLine) : Type 0 where
@@ -89,366 +91,6 @@ naming-is (word ∷ a ∷ []) c h = naming-by (keyword_of word) 1 a [] c h
 naming-is (word ∷ a ∷ b ∷ []) c h = naming-by (keyword_of word) 2 a b c h
 naming-is (word ∷ a ∷ b ∷ x ∷ more) c h = naming-none a (option_and_then kind_of (keyword_of word)) (keyword_of word) c h
 
--- what the lines of a script do, one after the other
-pub data Acts : Type 0 where
-  nothing : Acts
-  declares : List ℕ → What → Acts → Acts
-  begins : List ℕ → ℕ → Acts → Acts
-  does : Instr → Acts → Acts
-  shuts : Acts → Acts
-
-abbrev decl_of : List ℕ → What → Decl
-decl_of name what = record { name = name; what = what }
-
-abbrev func_of : ℕ → List Instr → Func
-func_of decl code = record { decl = decl; code = code }
-
-abbrev kind_in : What → Kind
-kind_in What.Timer = Kind.Timer
-kind_in (What.AfterFunc func) = Kind.AfterFunc
-kind_in What.Function = Kind.Function
-
-abbrev decls_in : Acts → List Decl
-decls_in nothing = []
-decls_in (declares name what rest) = decl_of name what ∷ decls_in rest
-decls_in (begins name decl rest) = decl_of name What.Function ∷ decls_in rest
-decls_in (does instr rest) = decls_in rest
-decls_in (shuts rest) = decls_in rest
-
-abbrev code_in : Acts → List Instr
-code_in nothing = []
-code_in (declares name what rest) = code_in rest
-code_in (begins name decl rest) = code_in rest
-code_in (does instr rest) = instr ∷ code_in rest
-code_in (shuts rest) = Instr.Finish ∷ []
-
-abbrev funcs_in : Acts → List Func
-funcs_in nothing = []
-funcs_in (declares name what rest) = funcs_in rest
-funcs_in (begins name decl rest) = func_of decl (code_in rest) ∷ funcs_in rest
-funcs_in (does instr rest) = funcs_in rest
-funcs_in (shuts rest) = funcs_in rest
-
-abbrev naming_as : List ℕ → Kind → Naming
-naming_as name kind = record { name = name; kind = kind }
-
-abbrev names_in : ℕ → ℕ → Acts → List Declaration
-names_in n f nothing = []
-names_in n f (declares name what rest) = declaration (naming_as name (kind_in what)) n f ∷ names_in (n + 1) f rest
-names_in n f (begins name decl rest) = declaration (naming_as name Kind.Function) n f ∷ names_in (n + 1) (f + 1) rest
-names_in n f (does instr rest) = names_in n f rest
-names_in n f (shuts rest) = names_in n f rest
-
--- a name that is declared
-record Ref (names : Names) : Type 0 where
-  name : List ℕ
-  declared : Declared
-  known : names name ≡ Some declared
-
--- what an instruction names is declared as such
-abbrev Refers : Names → Instr → Type 0
-Refers names (Instr.Say n) = Unit {0}
-Refers names Instr.Now = Unit {0}
-Refers names (Instr.Sleep d) = d ≤ greatest_time
-Refers names (Instr.Go f) = (r : Ref names) × (is_kind_function r.declared.kind ≡ true) × (f ≡ r.declared.func)
-Refers names (Instr.New t d) = (r : Ref names) × (is_kind_function r.declared.kind ≡ false) × (t ≡ r.declared.place) × (d ≤ greatest_time)
-Refers names (Instr.Stop t) = (r : Ref names) × (is_kind_function r.declared.kind ≡ false) × (t ≡ r.declared.place)
-Refers names (Instr.Reset t d) = (r : Ref names) × (is_kind_function r.declared.kind ≡ false) × (t ≡ r.declared.place) × (d ≤ greatest_time)
-Refers names (Instr.Recv o) = (r : Ref names) × (is_kind_timer r.declared.kind ≡ true) × (o ≡ r.declared.place)
-Refers names Instr.Finish = ⊥
-
-abbrev Starts : Names → What → Type 0
-Starts names What.Timer = Unit {0}
-Starts names (What.AfterFunc f) = (r : Ref names) × (is_kind_function r.declared.kind ≡ true) × (f ≡ r.declared.func)
-Starts names What.Function = ⊥
-
--- acts that follow one another rightly, behind so many names, functions and instructions
-abbrev Right : Names → Bool → ℕ → ℕ → ℕ → Acts → Type 0
-Right names inside n f k nothing = inside ≡ false
-Right names inside n f k (declares name what rest) = (inside ≡ false) × (n < 4096) × (is_name name ≡ true) × Starts names what × Right names false (n + 1) f k rest
-Right names inside n f k (begins name decl rest) = (inside ≡ false) × (n < 4096) × (f < 256) × (is_name name ≡ true) × (decl ≡ place_of (names name)) × (is_declared_before n (names name) ≡ false) × Right names true (n + 1) (f + 1) k rest
-Right names inside n f k (does instr rest) = (inside ≡ true) × (k < 100000) × Refers names instr × Right names true n f (k + 1) rest
-Right names inside n f k (shuts rest) = (inside ≡ true) × Right names false n f k rest
-
-pick : (b : Bool) (x d : Declared) (o : Option Declared) → cond b (Some x) o ≡ Some d → (x ≡ d) ⊎ (o ≡ Some d)
-pick true x d o h = let e : x ≡ d = cc in inl e
-pick false x d o h = inr h
-
--- where a name that is found is declared
-record Found (decls : List Decl) (count n f : ℕ) (d : Declared) : Type 0 where
-  at : ℕ
-  place : d.place ≡ n + at
-  kind : option_map (λ (x : Decl). kind_in x.what) (slice_get decls at) ≡ Some d.kind
-  func : is_kind_function d.kind ≡ true → d.func < f + count
-
-starts-no_function : (names : Names) (what : What) → Starts names what → is_kind_function (kind_in what) ≡ true → ⊥
-starts-no_function names What.Timer s h = cc
-starts-no_function names (What.AfterFunc f) s h = cc
-starts-no_function names What.Function s h = s
-
-found : (names : Names) (acts : Acts) (inside : Bool) (n f k : ℕ) → Right names inside n f k acts → (q : List ℕ) (d : Declared) → find (names_in n f acts) q ≡ Some d → Found (decls_in acts) (length (funcs_in acts)) n f d
-found names nothing inside n f k r q d h = cc
-found names (declares name what rest) inside n f k r q d h =
-    let x : Declared = (declaration (naming_as name (kind_in what)) n f).declared in
-    elim (pick (bytes_eq q name) x d (find (names_in (n + 1) f rest) q) h) [
-      | inl e ↦ record {
-        at = 0;
-        place = ap (λ (y : Declared). y.place) (sym e) ∙ omega arith;
-        kind = ap (λ (y : Declared). Some y.kind) e;
-        func = λ t. absurd (starts-no_function names what r.3 (ap (λ (y : Declared). is_kind_function y.kind) e ∙ t));
-      }
-      | inr e ↦
-          let more = found names rest false (n + 1) f k r.4 q d e in
-          record { at = suc more.at; place = omega (arith, more.place); kind = more.kind; func = more.func }
-    ]
-found names (begins name decl rest) inside n f k r q d h =
-    let x : Declared = (declaration (naming_as name Kind.Function) n f).declared in
-    elim (pick (bytes_eq q name) x d (find (names_in (n + 1) (f + 1) rest) q) h) [
-      | inl e ↦ record {
-        at = 0;
-        place = ap (λ (y : Declared). y.place) (sym e) ∙ omega arith;
-        kind = ap (λ (y : Declared). Some y.kind) e;
-        func = λ t. let same : f ≡ d.func = ap (λ (y : Declared). y.func) e in omega (arith, same);
-      }
-      | inr e ↦
-          let more = found names rest true (n + 1) (f + 1) k r.6 q d e in
-          record { at = suc more.at; place = omega (arith, more.place); kind = more.kind; func = λ t. omega (arith, more.func t) }
-    ]
-found names (does instr rest) inside n f k r q d h = found names rest true n f (k + 1) r.3 q d h
-found names (shuts rest) inside n f k r q d h = found names rest false n f k r.1 q d h
-
--- what a script has at the place of a declared name
-record Knows (script : Script) (d : Declared) : Type 0 where
-  kind : option_map kind_in (what_at script d.place) ≡ Some d.kind
-  func : is_kind_function d.kind ≡ true → d.func < length script.funcs
-
-kind-through : (o : Option Decl) → option_map kind_in (option_map (λ (d : Decl). d.what) o) ≡ option_map (λ (d : Decl). kind_in d.what) o
-kind-through None = refl
-kind-through (Some d) = refl
-
-abbrev script_in : Acts → ℕ → Script
-script_in acts main = record { decls = decls_in acts; funcs = funcs_in acts; main = main }
-
-abbrev script_from : List Decl → List Func → ℕ → Script
-script_from decls funcs main = record { decls = decls; funcs = funcs; main = main }
-
-abbrev AllKnown : Names → Script → Type 0
-AllKnown names script = (q : List ℕ) (d : Declared) → names q ≡ Some d → Knows script d
-
-knows-found : (acts : Acts) (main : ℕ) (d : Declared) → Found (decls_in acts) (length (funcs_in acts)) 0 0 d → Knows (script_in acts main) d
-knows-found acts main d w =
-    let here : d.place ≡ w.at = omega (arith, w.place) in
-    record {
-      kind = kind-through (slice_get (decls_in acts) d.place) ∙ ap (λ i. option_map (λ (x : Decl). kind_in x.what) (slice_get (decls_in acts) i)) here ∙ w.kind;
-      func = λ t. omega (arith, w.func t);
-    }
-
-is_setting-by : (o : Option What) (k : Kind) → option_map kind_in o ≡ Some k → is_kind_function k ≡ false → (names_timer o || names_func o) ≡ true
-is_setting-by None k h e = cc
-is_setting-by (Some What.Timer) k h e = refl
-is_setting-by (Some (What.AfterFunc f)) k h e = refl
-is_setting-by (Some What.Function) Kind.Timer h e = cc
-is_setting-by (Some What.Function) Kind.AfterFunc h e = cc
-is_setting-by (Some What.Function) Kind.Function h e = cc
-
-is_timer-by : (o : Option What) (k : Kind) → option_map kind_in o ≡ Some k → is_kind_timer k ≡ true → names_timer o ≡ true
-is_timer-by None k h e = cc
-is_timer-by (Some What.Timer) k h e = refl
-is_timer-by (Some (What.AfterFunc f)) Kind.Timer h e = cc
-is_timer-by (Some (What.AfterFunc f)) Kind.AfterFunc h e = cc
-is_timer-by (Some (What.AfterFunc f)) Kind.Function h e = cc
-is_timer-by (Some What.Function) Kind.Timer h e = cc
-is_timer-by (Some What.Function) Kind.AfterFunc h e = cc
-is_timer-by (Some What.Function) Kind.Function h e = cc
-
-is_function-by : (o : Option What) (k : Kind) → option_map kind_in o ≡ Some k → k ≡ Kind.Function → o ≡ Some What.Function
-is_function-by None k h e = cc
-is_function-by (Some What.Timer) k h e = cc
-is_function-by (Some (What.AfterFunc f)) k h e = cc
-is_function-by (Some What.Function) k h e = refl
-
-names_rightly-by : (names : Names) (script : Script) → AllKnown names script → (i : Instr) → Refers names i → NamesRightly script i
-names_rightly-by names script known (Instr.Say n) r = tt
-names_rightly-by names script known Instr.Now r = tt
-names_rightly-by names script known (Instr.Sleep d) r = r
-names_rightly-by names script known (Instr.Go f) r = omega (arith, r.2, (known r.0.name r.0.declared r.0.known).func r.1)
-names_rightly-by names script known (Instr.New t d) r =
-    let P : ℕ → Type 0 = λ x. model_is_setting script x ≡ true in
-    (subst P (sym r.2) (is_setting-by (what_at script r.0.declared.place) r.0.declared.kind (known r.0.name r.0.declared r.0.known).kind r.1), r.3)
-names_rightly-by names script known (Instr.Stop t) r =
-    let P : ℕ → Type 0 = λ x. model_is_setting script x ≡ true in
-    subst P (sym r.2) (is_setting-by (what_at script r.0.declared.place) r.0.declared.kind (known r.0.name r.0.declared r.0.known).kind r.1)
-names_rightly-by names script known (Instr.Reset t d) r =
-    let P : ℕ → Type 0 = λ x. model_is_setting script x ≡ true in
-    (subst P (sym r.2) (is_setting-by (what_at script r.0.declared.place) r.0.declared.kind (known r.0.name r.0.declared r.0.known).kind r.1), r.3)
-names_rightly-by names script known (Instr.Recv o) r =
-    let P : ℕ → Type 0 = λ x. model_is_timer script x ≡ true in
-    subst P (sym r.2) (is_timer-by (what_at script r.0.declared.place) r.0.declared.kind (known r.0.name r.0.declared r.0.known).kind r.1)
-names_rightly-by names script known Instr.Finish r = absurd r
-
-no_finish : (names : Names) (i : Instr) → Refers names i → is_finish i ≡ false
-no_finish names (Instr.Say n) r = refl
-no_finish names Instr.Now r = refl
-no_finish names (Instr.Sleep d) r = refl
-no_finish names (Instr.Go f) r = refl
-no_finish names (Instr.New t d) r = refl
-no_finish names (Instr.Stop t) r = refl
-no_finish names (Instr.Reset t d) r = refl
-no_finish names (Instr.Recv o) r = refl
-no_finish names Instr.Finish r = absurd r
-
--- a code whose last instruction alone is the end
-abbrev Ends : Script → List Instr → Type 0
-Ends script [] = ⊥
-Ends script (i ∷ is) = ((is_finish i ≡ true) × NamesRightly script i × (is ≡ [])) ⊎ ((is_finish i ≡ false) × NamesRightly script i × Ends script is)
-
-ends-some : (script : Script) (is : List Instr) → Ends script is → 0 < length is
-ends-some script [] h = absurd h
-ends-some script (i ∷ is) h = omega arith
-
-ends : (names : Names) (script : Script) → AllKnown names script → (acts : Acts) (inside : Bool) (n f k : ℕ) → Right names inside n f k acts → inside ≡ true → Ends script (code_in acts)
-ends names script known nothing inside n f k r e = absurd (both_ways inside r e)
-ends names script known (declares name what rest) inside n f k r e = absurd (both_ways inside r.0 e)
-ends names script known (begins name decl rest) inside n f k r e = absurd (both_ways inside r.0 e)
-ends names script known (does i rest) inside n f k r e = inr (no_finish names i r.2, names_rightly-by names script known i r.2, ends names script known rest true n f (k + 1) r.3 refl)
-ends names script known (shuts rest) inside n f k r e = inl (refl, tt, refl)
-
-each-good : (script : Script) (code : List Instr) (front i : ℕ) (x : Instr) → Ends script code → slice_get code i ≡ Some x → (n j : ℕ) → n ≡ front + length code → j ≡ front + i → IsGoodInstr script n j x
-each-good script [] front i x h is n j e g = absurd h
-each-good script (y ∷ ys) front zero x h is n j e g =
-    let same : y ≡ x = cc in
-    let P : Instr → Type 0 = IsGoodInstr script n j in
-    subst P same (elim h [
-      | inl w ↦ let none : length ys ≡ 0 = ap length w.2 in record { names = w.1; last = w.0 ∙ sym (eq-eqb (j + 1) n (omega (arith, none))) }
-      | inr w ↦ let some : 0 < length ys = ends-some script ys w.2 in record { names = w.1; last = w.0 ∙ sym (ne_eqb (j + 1) n (λ q. absurd (omega (arith, q, some)))) }
-    ])
-each-good script (y ∷ ys) front (suc i) x h is n j e g =
-    elim h [
-      | inl w ↦ let none : slice_get ys i ≡ None = ap (λ zs. slice_get zs i) w.2 in cc
-      | inr w ↦ each-good script ys (suc front) i x w.2 is n j (omega arith) (omega arith)
-    ]
-
-code-good : (script : Script) (code : List Instr) → Ends script code → IsGoodCode script code
-code-good script code h = record {
-  some = ends-some script code h;
-  each = λ i x is. each-good script code 0 i x h is (length code) i (omega arith) (omega arith);
-}
-
-All-none : {X : Type 0} (P : X → Type 0) → All P []
-All-none P = λ k d h. absurd (omega arith)
-
-funcs-good : (names : Names) (script : Script) → AllKnown names script → (acts : Acts) (inside : Bool) (n f k : ℕ) → Right names inside n f k acts → All (λ (g : Func). IsGoodCode script g.code) (funcs_in acts)
-funcs-good names script known nothing inside n f k r = All-none (λ (g : Func). IsGoodCode script g.code)
-funcs-good names script known (declares name what rest) inside n f k r = funcs-good names script known rest false (n + 1) f k r.4
-funcs-good names script known (begins name decl rest) inside n f k r =
-    All-cons (λ (g : Func). IsGoodCode script g.code) (func_of decl (code_in rest)) (funcs_in rest)
-    (code-good script (code_in rest) (ends names script known rest true (n + 1) (f + 1) k r.6 refl)) (funcs-good names script known rest true (n + 1) (f + 1) k r.6)
-funcs-good names script known (does i rest) inside n f k r = funcs-good names script known rest true n f (k + 1) r.3
-funcs-good names script known (shuts rest) inside n f k r = funcs-good names script known rest false n f k r.1
-
--- a name is declared in front of a place, or from there on
-abbrev FoundFrom : Names → ℕ → ℕ → Acts → Type 0
-FoundFrom names n f acts = (q : List ℕ) → (names q ≡ find (names_in n f acts) q) ⊎ ((e : Declared) × (names q ≡ Some e) × (e.place < n))
-
-further : (names : Names) (q : List ℕ) (b : Bool) (x : Declared) (more : Option Declared) (n : ℕ) → x.place ≡ n → (names q ≡ cond b (Some x) more) ⊎ ((e : Declared) × (names q ≡ Some e) × (e.place < n)) → (names q ≡ more) ⊎ ((e : Declared) × (names q ≡ Some e) × (e.place < n + 1))
-further names q true x more n p (inl h) = inr (x, h, omega (arith, p))
-further names q false x more n p (inl h) = inl h
-further names q b x more n p (inr w) = inr (w.0, w.1, omega (arith, w.2))
-
-same-name : (q : List ℕ) → bytes_eq q q ≡ true
-same-name q = (bytes_eq-Decides q q).1 refl
-
-opened-by : (script : Script) (o : Option Declared) (x : Declared) (more : Option Declared) (b : Bool) (n : ℕ) → b ≡ true → x.kind ≡ Kind.Function → ((d : Declared) → o ≡ Some d → Knows script d) → is_declared_before n o ≡ false → (o ≡ cond b (Some x) more) ⊎ ((e : Declared) × (o ≡ Some e) × (e.place < n)) → what_at script (place_of o) ≡ Some What.Function
-opened-by script o x more true n b function known first (inl h) =
-    let P : Option Declared → Type 0 = λ y. what_at script (place_of y) ≡ Some What.Function in
-    subst P (sym h) (is_function-by (what_at script x.place) x.kind (known x h).kind function)
-opened-by script o x more false n b function known first (inl h) = cc
-opened-by script o x more b' n b function known first (inr w) =
-    absurd (both_ways (is_declared_before n o) first (ap (is_declared_before n) w.1 ∙ lt-ltb w.0.place n w.2))
-
-kinds-good : (names : Names) (script : Script) → AllKnown names script → (acts : Acts) (inside : Bool) (n f k : ℕ) → Right names inside n f k acts → FoundFrom names n f acts → All (λ (g : Func). what_at script g.decl ≡ Some What.Function) (funcs_in acts)
-kinds-good names script known nothing inside n f k r w = All-none (λ (g : Func). what_at script g.decl ≡ Some What.Function)
-kinds-good names script known (declares name what rest) inside n f k r w =
-    kinds-good names script known rest false (n + 1) f k r.4
-    (λ q. further names q (bytes_eq q name) (declaration (naming_as name (kind_in what)) n f).declared (find (names_in (n + 1) f rest) q) n refl (w q))
-kinds-good names script known (begins name decl rest) inside n f k r w =
-    let x : Declared = (declaration (naming_as name Kind.Function) n f).declared in
-    let P : ℕ → Type 0 = λ d. what_at script d ≡ Some What.Function in
-    All-cons (λ (g : Func). what_at script g.decl ≡ Some What.Function) (func_of decl (code_in rest)) (funcs_in rest)
-    (subst P (sym r.4) (opened-by script (names name) x (find (names_in (n + 1) (f + 1) rest) name) (bytes_eq name name) n (same-name name) refl (known name) r.5 (w name)))
-    (kinds-good names script known rest true (n + 1) (f + 1) k r.6
-    (λ q. further names q (bytes_eq q name) x (find (names_in (n + 1) (f + 1) rest) q) n refl (w q)))
-kinds-good names script known (does i rest) inside n f k r w = kinds-good names script known rest true n f (k + 1) r.3 w
-kinds-good names script known (shuts rest) inside n f k r w = kinds-good names script known rest false n f k r.1 w
-
-names-good : (names : Names) (acts : Acts) (inside : Bool) (n f k : ℕ) → Right names inside n f k acts → All (λ (d : Decl). IsTrue (is_name d.name)) (decls_in acts)
-names-good names nothing inside n f k r = All-none (λ (d : Decl). IsTrue (is_name d.name))
-names-good names (declares name what rest) inside n f k r = All-cons (λ (d : Decl). IsTrue (is_name d.name)) (decl_of name what) (decls_in rest) r.2 (names-good names rest false (n + 1) f k r.4)
-names-good names (begins name decl rest) inside n f k r = All-cons (λ (d : Decl). IsTrue (is_name d.name)) (decl_of name What.Function) (decls_in rest) r.3 (names-good names rest true (n + 1) (f + 1) k r.6)
-names-good names (does i rest) inside n f k r = names-good names rest true n f (k + 1) r.3
-names-good names (shuts rest) inside n f k r = names-good names rest false n f k r.1
-
-starts-by : (names : Names) (script : Script) → AllKnown names script → (what : What) → Starts names what → StartsRightly script what
-starts-by names script known What.Timer s = tt
-starts-by names script known (What.AfterFunc f) s = omega (arith, s.2, (known s.0.name s.0.declared s.0.known).func s.1)
-starts-by names script known What.Function s = absurd s
-
-starts-good : (names : Names) (script : Script) → AllKnown names script → (acts : Acts) (inside : Bool) (n f k : ℕ) → Right names inside n f k acts → All (λ (d : Decl). StartsRightly script d.what) (decls_in acts)
-starts-good names script known nothing inside n f k r = All-none (λ (d : Decl). StartsRightly script d.what)
-starts-good names script known (declares name what rest) inside n f k r = All-cons (λ (d : Decl). StartsRightly script d.what) (decl_of name what) (decls_in rest) (starts-by names script known what r.3) (starts-good names script known rest false (n + 1) f k r.4)
-starts-good names script known (begins name decl rest) inside n f k r = All-cons (λ (d : Decl). StartsRightly script d.what) (decl_of name What.Function) (decls_in rest) tt (starts-good names script known rest true (n + 1) (f + 1) k r.6)
-starts-good names script known (does i rest) inside n f k r = starts-good names script known rest true n f (k + 1) r.3
-starts-good names script known (shuts rest) inside n f k r = starts-good names script known rest false n f k r.1
-
-few-names : (names : Names) (acts : Acts) (inside : Bool) (n f k : ℕ) → Right names inside n f k acts → n ≤ 4096 → n + length (decls_in acts) ≤ 4096
-few-names names nothing inside n f k r h = omega arith
-few-names names (declares name what rest) inside n f k r h = omega (arith, few-names names rest false (n + 1) f k r.4 (omega (arith, r.1)))
-few-names names (begins name decl rest) inside n f k r h = omega (arith, few-names names rest true (n + 1) (f + 1) k r.6 (omega (arith, r.1)))
-few-names names (does i rest) inside n f k r h = few-names names rest true n f (k + 1) r.3 h
-few-names names (shuts rest) inside n f k r h = few-names names rest false n f k r.1 h
-
-few-functions : (names : Names) (acts : Acts) (inside : Bool) (n f k : ℕ) → Right names inside n f k acts → f ≤ 256 → f + length (funcs_in acts) ≤ 256
-few-functions names nothing inside n f k r h = omega arith
-few-functions names (declares name what rest) inside n f k r h = few-functions names rest false (n + 1) f k r.4 h
-few-functions names (begins name decl rest) inside n f k r h = omega (arith, few-functions names rest true (n + 1) (f + 1) k r.6 (omega (arith, r.2)))
-few-functions names (does i rest) inside n f k r h = few-functions names rest true n f (k + 1) r.3 h
-few-functions names (shuts rest) inside n f k r h = few-functions names rest false n f k r.1 h
-
-abbrev size_of : Func → ℕ
-size_of f = length f.code - 1
-
--- how many instructions the function has that is open
-abbrev open_size : Bool → List Instr → ℕ
-open_size inside code = cond inside (length code - 1) 0
-
-few-instructions : (names : Names) (acts : Acts) (inside : Bool) (n f k : ℕ) → Right names inside n f k acts → k ≤ 100000 → k + open_size inside (code_in acts) + sum_by size_of (funcs_in acts) ≤ 100000
-few-instructions names nothing true n f k r h = cc
-few-instructions names nothing false n f k r h = omega arith
-few-instructions names (declares name what rest) true n f k r h = let e = r.0 in cc
-few-instructions names (declares name what rest) false n f k r h = few-instructions names rest false (n + 1) f k r.4 h
-few-instructions names (begins name decl rest) true n f k r h = let e = r.0 in cc
-few-instructions names (begins name decl rest) false n f k r h =
-    omega (arith, few-instructions names rest true (n + 1) (f + 1) k r.6 h, sum_by-cons size_of (func_of decl (code_in rest)) (funcs_in rest))
-few-instructions names (does i rest) false n f k r h = let e = r.0 in cc
-few-instructions names (does i rest) true n f k r h = omega (arith, few-instructions names rest true n f (k + 1) r.3 (omega (arith, r.1)))
-few-instructions names (shuts rest) false n f k r h = let e = r.0 in cc
-few-instructions names (shuts rest) true n f k r h = omega (arith, few-instructions names rest false n f k r.1 h)
-
-acts-good : (names : Names) (acts : Acts) (main : ℕ) → names ≡ find (names_in 0 0 acts) → Right names false 0 0 0 acts → main < length (funcs_in acts) → IsGood (script_in acts main)
-acts-good names acts main are r main_in =
-    let script : Script = script_in acts main in
-    let known : AllKnown names script = λ q d e. knows-found acts main d (found names acts false 0 0 0 r q d (sym (ap (λ (m : Names). m q) are) ∙ e)) in
-    record {
-      main = main_in;
-      names = names-good names acts false 0 0 0 r;
-      starts = starts-good names script known acts false 0 0 0 r;
-      kinds = kinds-good names script known acts false 0 0 0 r (λ q. inl (ap (λ (m : Names). m q) are));
-      code = funcs-good names script known acts false 0 0 0 r;
-      few_names = omega (arith, few-names names acts false 0 0 0 r (omega arith));
-      few_functions = omega (arith, few-functions names acts false 0 0 0 r (omega arith));
-      few_instructions = omega (arith, few-instructions names acts false 0 0 0 r (omega arith));
-    }
-
 -- what lines with nothing wrong do
 record Done (names : Names) (p : Progress) (lines : List NumberedLine) : Type 0 where
   acts : Acts
@@ -475,8 +117,8 @@ starts-functions names What.Timer f s = refl
 starts-functions names (What.AfterFunc g) f s = refl
 starts-functions names What.Function f s = absurd s
 
-done-declares : (names : Names) (n f k : ℕ) (line : NumberedLine) (rest : List NumberedLine) (name : List ℕ) (what : What) → decl_at names line ≡ Some (decl_of name what) → step_at names line ≡ Some (Step.Declare what) → naming_of line.words ≡ Some (naming_as name (kind_in what)) → n < 4096 → is_name name ≡ true → Starts names what → Done names (progress false (n + 1) f k) rest → Done names (progress false n f k) (line ∷ rest)
-done-declares names n f k line rest name what d s m room good starts ih = record {
+done-declares : (names : Names) (n f k : ℕ) (line : NumberedLine) (rest : List NumberedLine) (name : List ℕ) (what : What) → decl_at names line ≡ Some (decl_of name what) → step_at names line ≡ Some (Step.Declare what) → naming_of line.words ≡ Some (naming_as name (kind_in what)) → n < 4096 → IsNew names name n → Starts names what → Done names (progress false (n + 1) f k) rest → Done names (progress false n f k) (line ∷ rest)
+done-declares names n f k line rest name what d s m room new starts ih = record {
   acts = declares name what ih.acts;
   decls = ap (λ o. option_to_list o ++ decls_of names rest) d ∙ ap (λ ds. decl_of name what ∷ ds) ih.decls;
   code = ap (λ o. code_by o (code_of names rest)) s ∙ ih.code;
@@ -485,11 +127,11 @@ done-declares names n f k line rest name what d s m room good starts ih = record
       ∙ ap (λ x. declaration (naming_as name (kind_in what)) n f ∷ declarations_from x (functions_with (kind_in what) f) rest) (next-is n room)
       ∙ ap (λ x. declaration (naming_as name (kind_in what)) n f ∷ declarations_from (n + 1) x rest) (starts-functions names what f starts)
       ∙ ap (λ ds. declaration (naming_as name (kind_in what)) n f ∷ ds) ih.are;
-  right = (refl, room, good, starts, ih.right);
+  right = (refl, room, new, starts, ih.right);
 }
 
-done-begins : (names : Names) (n f k : ℕ) (line : NumberedLine) (rest : List NumberedLine) (name : List ℕ) (decl : ℕ) → decl_at names line ≡ Some (decl_of name What.Function) → step_at names line ≡ Some (Step.Open decl) → naming_of line.words ≡ Some (naming_as name Kind.Function) → n < 4096 → f < 256 → is_name name ≡ true → decl ≡ place_of (names name) → is_declared_before n (names name) ≡ false → Done names (progress true (n + 1) (f + 1) k) rest → Done names (progress false n f k) (line ∷ rest)
-done-begins names n f k line rest name decl d s m room few good place first ih = record {
+done-begins : (names : Names) (n f k : ℕ) (line : NumberedLine) (rest : List NumberedLine) (name : List ℕ) (decl : ℕ) → decl_at names line ≡ Some (decl_of name What.Function) → step_at names line ≡ Some (Step.Open decl) → naming_of line.words ≡ Some (naming_as name Kind.Function) → n < 4096 → f < 256 → IsNew names name n → decl ≡ place_of (names name) → Done names (progress true (n + 1) (f + 1) k) rest → Done names (progress false n f k) (line ∷ rest)
+done-begins names n f k line rest name decl d s m room few new place ih = record {
   acts = begins name decl ih.acts;
   decls = ap (λ o. option_to_list o ++ decls_of names rest) d ∙ ap (λ ds. decl_of name What.Function ∷ ds) ih.decls;
   code = ap (λ o. code_by o (code_of names rest)) s ∙ ih.code;
@@ -499,7 +141,7 @@ done-begins names n f k line rest name decl d s m room few good place first ih =
       ∙ ap (λ x. declaration (naming_as name Kind.Function) n f ∷ declarations_from x (next f) rest) (next-is n room)
       ∙ ap (λ x. declaration (naming_as name Kind.Function) n f ∷ declarations_from (n + 1) x rest) (next-is f (omega arith))
       ∙ ap (λ ds. declaration (naming_as name Kind.Function) n f ∷ ds) ih.are;
-  right = (refl, room, few, good, place, first, ih.right);
+  right = (refl, room, few, new, place, ih.right);
 }
 
 done-does : (names : Names) (n f k : ℕ) (line : NumberedLine) (rest : List NumberedLine) (i : Instr) → decl_at names line ≡ None → step_at names line ≡ Some (Step.Do i) → naming_of line.words ≡ None → k < 100000 → Refers names i → Done names (progress true n f (k + 1)) rest → Done names (progress true n f k) (line ∷ rest)
@@ -604,9 +246,6 @@ or-second : (a b : Bool) → (a || b) ≡ false → b ≡ false
 or-second true b h = cc
 or-second false b h = h
 
-free-is_name : (word : List ℕ) → is_free_name word ≡ true → is_name word ≡ true
-free-is_name word h = (and_parts (is_name word) (not (bytes_eq word (codes "root"))) h).0
-
 named-free : (word : List ℕ) (kind : Kind) → is_free_name word ≡ true → named word (Some kind) ≡ Some (naming_as word kind)
 named-free word kind h = ap (λ b. cond b (Some (naming_as word kind)) None) h
 
@@ -642,14 +281,14 @@ done-instruction names k first second n f c true line rest is does_it kind here 
     (naming-is line.words (command k first second) is ∙ ap (named first) kind ∙ named-none first)
     (leb-false 100000 c room) a.refers ih
 
-done-object : (names : Names) (k : Keyword) (first second : List ℕ) (what : What) (n f c : ℕ) (inside : Bool) (line : NumberedLine) (rest : List NumberedLine) → command_of line.words ≡ Some (command k first second) → step_of (said names k first second) ≡ Some (Step.Declare what) → kind_of k ≡ Some (kind_in what) → not inside ≡ true → leb 4096 n ≡ false → is_free_name first ≡ true → Starts names what → Done names (progress inside (n + 1) f c) rest → Done names (progress inside n f c) (line ∷ rest)
-done-object names k first second what n f c true line rest is step kind here room free starts ih = cc
-done-object names k first second what n f c false line rest is step kind here room free starts ih =
+done-object : (names : Names) (k : Keyword) (first second : List ℕ) (what : What) (n f c : ℕ) (inside : Bool) (line : NumberedLine) (rest : List NumberedLine) → command_of line.words ≡ Some (command k first second) → step_of (said names k first second) ≡ Some (Step.Declare what) → kind_of k ≡ Some (kind_in what) → not inside ≡ true → leb 4096 n ≡ false → is_free_name first ≡ true → is_declared_before n (names first) ≡ false → Starts names what → Done names (progress inside (n + 1) f c) rest → Done names (progress inside n f c) (line ∷ rest)
+done-object names k first second what n f c true line rest is step kind here room free before starts ih = cc
+done-object names k first second what n f c false line rest is step kind here room free before starts ih =
     done-declares names n f c line rest first what
     (ap (option_and_then (decl_with names)) is ∙ ap (option_and_then (decl_as first)) step)
     (ap (option_and_then (step_with names)) is ∙ step)
     (naming-is line.words (command k first second) is ∙ ap (named first) kind ∙ named-free first (kind_in what) free)
-    (leb-false 4096 n room) (free-is_name first free) starts ih
+    (leb-false 4096 n room) (record { free = free; first = before }) starts ih
 
 done-function : (names : Names) (first second : List ℕ) (n f c : ℕ) (inside : Bool) (line : NumberedLine) (rest : List NumberedLine) → command_of line.words ≡ Some (command Keyword.Func first second) → not inside ≡ true → leb 4096 n ≡ false → leb 256 f ≡ false → is_free_name first ≡ true → is_declared_before n (names first) ≡ false → Done names (progress true (n + 1) (f + 1) c) rest → Done names (progress inside n f c) (line ∷ rest)
 done-function names first second n f c true line rest is here room few free before ih = cc
@@ -658,7 +297,7 @@ done-function names first second n f c false line rest is here room few free bef
     (ap (option_and_then (decl_with names)) is)
     (ap (option_and_then (step_with names)) is)
     (naming-is line.words (command Keyword.Func first second) is ∙ named-free first Kind.Function free)
-    (leb-false 4096 n room) (leb-false 256 f few) (free-is_name first free) refl before ih
+    (leb-false 4096 n room) (leb-false 256 f few) (record { free = free; first = before }) refl ih
 
 done-end : (names : Names) (first second : List ℕ) (n f c : ℕ) (inside : Bool) (line : NumberedLine) (rest : List NumberedLine) → command_of line.words ≡ Some (command Keyword.End first second) → not inside ≡ false → Done names (progress false n f c) rest → Done names (progress inside n f c) (line ∷ rest)
 done-end names first second n f c false line rest is here ih = cc
@@ -674,12 +313,12 @@ room-names n b c h = or-first (leb 4096 n) b (or-first (leb 4096 n || b) c h)
 
 done-line : (names : Names) (is_last lacks : Bool) (p : Progress) (k : Keyword) (first second : List ℕ) (line : NumberedLine) (rest : List NumberedLine) → command_of line.words ≡ Some (command k first second) → IsRight is_last lacks p (said names k first second) → Done names (progress_with p k) rest → Done names p (line ∷ rest)
 done-line names is_last lacks p Keyword.Timer first second line rest is r ih =
-    done-object names Keyword.Timer first second What.Timer p.names p.functions p.instructions p.inside line rest is refl refl r.stands_here (room-names p.names false false r.room) r.names tt ih
+    done-object names Keyword.Timer first second What.Timer p.names p.functions p.instructions p.inside line rest is refl refl r.stands_here (room-names p.names false false r.room) r.names r.first tt ih
 done-line names is_last lacks p Keyword.AfterFunc first second line rest is r ih =
     let both = and_parts (is_free_name first) (is_function (names second)) r.names in
     let s : Starting names (names second) = starting names second (names second) refl both.1 in
     done-object names Keyword.AfterFunc first second (What.AfterFunc s.declared.func) p.names p.functions p.instructions p.inside line rest is
-    (ap (option_map (λ (f : Declared). Step.Declare (What.AfterFunc f.func))) s.is) refl r.stands_here (room-names p.names false false r.room) both.0 s.starts ih
+    (ap (option_map (λ (f : Declared). Step.Declare (What.AfterFunc f.func))) s.is) refl r.stands_here (room-names p.names false false r.room) both.0 r.first s.starts ih
 done-line names is_last lacks p Keyword.Func first second line rest is r ih =
     done-function names first second p.names p.functions p.instructions p.inside line rest is r.stands_here
     (room-names p.names (leb 256 p.functions) false r.room) (or-second (leb 4096 p.names) (leb 256 p.functions) (or-first (leb 4096 p.names || leb 256 p.functions) false r.room)) r.names r.first ih
@@ -722,9 +361,15 @@ main-body names p [] r h = h refl
 main-body names p (line ∷ lines) r h =
     main-body names (progress_after p line) lines r.1 (λ e. and-right (is_end lines) (is_function (names (codes "main"))) e r.0.right.main)
 
-func_place-in : (script : Script) (o : Option Declared) → is_function o ≡ true → ((d : Declared) → o ≡ Some d → Knows script d) → func_place o < length script.funcs
-func_place-in script None h known = cc
-func_place-in script (Some d) h known = (known d refl).func h
+-- what is declared as a function
+record Main (o : Option Declared) : Type 0 where
+  declared : Declared
+  is : o ≡ Some declared
+  function : is_kind_function declared.kind ≡ true
+
+main-by : (o : Option Declared) → is_function o ≡ true → Main o
+main-by None h = cc
+main-by (Some d) h = record { declared = d; is = refl; function = h }
 
 -- the head declares nothing
 head-naming : (words : Words) → is_head words ≡ true → naming_of words ≡ None
@@ -742,15 +387,20 @@ first-cause : (b : Bool) (why : Why) (ts : List Test) → first_cause (test b wh
 first-cause true why ts h = cc
 first-cause false why ts h = (refl, h)
 
+abbrev script_from : List Decl → List Func → ℕ → Script
+script_from decls funcs main = record { decls = decls; funcs = funcs; main = main }
+
 script-good : (names : Names) (lines : List NumberedLine) (d : Done names no_progress lines) → names ≡ find (declarations_from 0 0 lines) → is_function (names (codes "main")) ≡ true → IsGood (script_with names lines)
 script-good names lines d are main =
     let acts : Acts = d.acts in
-    let main_place : ℕ = func_place (names (codes "main")) in
+    let found : Main (names (codes "main")) = main-by (names (codes "main")) main in
     let found_by : names ≡ find (names_in 0 0 acts) = are ∙ ap find d.are in
-    let known : AllKnown names (script_in acts main_place) = λ q x e. knows-found acts main_place x (found names acts false 0 0 0 d.right q x (sym (ap (λ (m : Names). m q) found_by) ∙ e)) in
-    let same : script_in acts main_place ≡ script_with names lines =
-    sym (ap (λ ds. script_from ds (funcs_of names lines) main_place) d.decls ∙ ap (λ fs. script_from (decls_in acts) fs main_place) d.funcs) in
-    subst IsGood same (acts-good names acts main_place found_by d.right (func_place-in (script_in acts main_place) (names (codes "main")) main (known (codes "main"))))
+    let place : func_place (names (codes "main")) ≡ found.declared.func = ap func_place found.is in
+    let same : script_in acts found.declared.func ≡ script_with names lines =
+    sym (ap (λ ds. script_from ds (funcs_of names lines) (func_place (names (codes "main")))) d.decls
+    ∙ ap (λ fs. script_from (decls_in acts) fs (func_place (names (codes "main")))) d.funcs
+    ∙ ap (script_from (decls_in acts) (funcs_in acts)) place) in
+    subst IsGood same (acts-good names acts found.declared found_by d.right found.is found.function)
 
 -- lines with no fault make a good script
 pub lines-good : (all : List NumberedLine) → fault_in_lines all ≡ None → IsGood (script_of all)

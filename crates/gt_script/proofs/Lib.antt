@@ -1,3 +1,6 @@
+pub mod ActNames
+pub mod Acts
+pub mod ActsGood
 pub mod DurationLemmas
 pub mod GoodLemmas
 pub mod LineLemmas

@@ -12,8 +12,6 @@ mod progress;
 mod read;
 mod reader;
 mod statement;
-#[cfg(test)]
-mod tests;
 
 pub use fault::{ScriptFault, Why};
 pub use number::read_number;

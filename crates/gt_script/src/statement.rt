@@ -46,7 +46,7 @@ pub(crate) struct Statement {
 }
 
 /// What a statement does.
-#[derive(Clone, Copy)]
+#[derive(Drop)]
 pub(crate) enum Step {
     /// Declares its name as an object.
     Declare { what: What },
