@@ -1,9 +1,3 @@
-pub mod ActNames
-pub mod Acts
-pub mod ActsGood
 pub mod DurationLemmas
-pub mod GoodLemmas
-pub mod LineLemmas
-pub mod NameLemmas
 pub mod ReadingLemmas
 pub mod TextLemmas

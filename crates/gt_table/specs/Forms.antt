@@ -45,6 +45,16 @@ acts (Role.Declares kind) = false
 acts Role.Closes = false
 acts Role.Acts = true
 
+-- whether a word is wanted there
+abbrev pub is_wanted : Arg → Bool
+is_wanted Arg.Nothing = false
+is_wanted Arg.NewName = true
+is_wanted Arg.Timer = true
+is_wanted Arg.Setting = true
+is_wanted Arg.Function = true
+is_wanted Arg.Duration = true
+is_wanted Arg.Number = true
+
 -- whether a word of this kind spells an amount; the others are names
 abbrev pub is_amount : Arg → Bool
 is_amount Arg.Nothing = false

@@ -63,6 +63,25 @@ pub enum Step {
     Close,
 }
 
+impl Arg {
+    ghost use Rattle.std.specs.Prelude.{◌≡◌};
+    ghost use Rattle.gt_table.specs.Forms.{is_wanted, is_amount};
+
+    /// Whether a word is wanted there.
+    pub fn is_wanted(self) -> bool
+        ensures { result ≡ is_wanted self }
+    {
+        !matches!(self, Arg::Nothing)
+    }
+
+    /// Whether the word spells an amount; the others are names.
+    pub fn is_amount(self) -> bool
+        ensures { result ≡ is_amount self }
+    {
+        matches!(self, Arg::Duration | Arg::Number)
+    }
+}
+
 impl Role {
     ghost use Rattle.std.specs.Prelude.{◌≡◌};
     ghost use Rattle.gt_table.specs.Forms.{declared_kind, is_declaration, opens, closes, acts};

@@ -3,26 +3,9 @@
 /// A refusal: the first faulty line, and the first cause on it in the order of [`Why`].
 #[derive(Clone, Copy, Debug, PartialEq, Eq)]
 pub struct ScriptFault {
-    /// The line, counted from 1, skipped lines included; 0 where memory ran out.
+    /// The line, counted from 1, skipped lines included.
     pub line: u32,
     pub why: Why,
-}
-
-impl ScriptFault {
-    ghost use Rattle.std.specs.Prelude.{◌≡◌, ◌≢◌};
-    ghost use Rattle.gt_script.specs.declared.fault.Why.{Why};
-
-    /// This cause on this line.
-    pub(crate) fn new(line: u32, why: Why) -> ScriptFault
-        ensures why { result.why ≡ why }
-        ensures line { why ≢ Why.NoMemory → result.line ≡ line }
-        ensures no_memory { why ≡ Why.NoMemory → result.line ≡ 0 }
-    {
-        match why {
-            Why::NoMemory => ScriptFault { line: 0, why },
-            _ => ScriptFault { line, why },
-        }
-    }
 }
 
 /// The causes of a refusal, in the order in which they count on one line.
@@ -48,6 +31,4 @@ pub enum Why {
     Many,
     /// There is no function `main`.
     NoMain,
-    /// Memory ran out.
-    NoMemory,
 }

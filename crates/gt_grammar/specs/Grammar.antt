@@ -4,11 +4,11 @@ use Rattle.std.specs.Str.Lossy.{utf8_valid_len}
 use Rattle.std.specs.declared.option.Option.{Option}
 use Rattle.std.specs.declared.option.Option.TheVariants.{None, Some}
 use Rattle.gt_model.specs.declared.script.Script.{Script}
-use Rattle.gt_script.specs.declared.fault.Why.{Why}
-use Rattle.gt_script.specs.declared.fault.ScriptFault.{ScriptFault}
-use Rattle.gt_script.specs.Words.{numbered_lines, next}
-use Rattle.gt_script.specs.Statements.{script_of}
-use Rattle.gt_script.specs.Faults.{fault_in_lines}
+use Rattle.gt_grammar.specs.declared.fault.Why.{Why}
+use Rattle.gt_grammar.specs.declared.fault.ScriptFault.{ScriptFault}
+use Rattle.gt_lines.specs.Words.{numbered_lines, next}
+use Rattle.gt_grammar.specs.Deeds.{script_of}
+use Rattle.gt_grammar.specs.Faults.{fault_in_lines}
 
 -- the number of the line behind this front of a text
 abbrev pub line_number : List ℕ → ℕ

@@ -1,4 +1,4 @@
--- Acts that follow one another rightly make a good script.
+-- Deeds that follow one another rightly make a good script.
 use Rattle.std.proofs.Common.{◌≡◌, ◌⊎◌, inl, inr, ℕ, zero, suc, ◌+◌, ◌-◌, ◌<◌, ◌≤◌, Bool, true, false, cond, ◌||◌, List, [], ◌∷◌, length, slice_get, sum_by, Option, Some, None, IsTrue, refl, sym, ap, subst, ◌∙◌, arith, codes, eqb}
 use Rattle.std.specs.Option.{option_map, option_and_then}
 use Rattle.std.specs.List.{All}
@@ -13,12 +13,13 @@ use Rattle.gt_model.specs.declared.script.What.{What}
 use Rattle.gt_model.specs.declared.script.Instr.{Instr}
 use Rattle.gt_model.specs.Script.{what_at, names_timer, names_func, is_timer as model_is_timer}
 use Rattle.gt_model.specs.Good.{is_setting as model_is_setting, is_finish, NamesRightly, StartsRightly, IsGoodInstr, IsGoodCode, IsGood, function_name}
-use Rattle.gt_script.specs.declared.names.Declared.{Declared}
-use Rattle.gt_script.specs.declared.names.Kind.{Kind}
-use Rattle.gt_script.specs.Names.{Names, find}
-use Rattle.gt_script.specs.Faults.{is_kind_function, is_kind_timer}
-use Rattle.gt_script.proofs.Acts.{Acts, nothing, declares, begins, does, shuts, decl_of, func_of, kind_in, decls_in, code_in, funcs_in, names_in, Ref, Refers, Starts, Right}
-use Rattle.gt_script.proofs.ActNames.{Placed, placed, has_names, functions_are, HasFunc, Found, found}
+use Rattle.gt_table.specs.declared.form.Kind.{Kind}
+use Rattle.gt_table.specs.Forms.{is_kind_function, is_kind_timer}
+use Rattle.gt_names.specs.declared.names.Declared.{Declared}
+use Rattle.gt_names.specs.Names.{Names, find}
+use Rattle.gt_grammar.specs.Deeds.{Deed, declares, opens, does, closes, decl_of, func_of, decls_in, code_in, funcs_in, script_in}
+use Rattle.gt_grammar.proofs.Rightly.{kind_in, names_in, Ref, Refers, Starts, Right}
+use Rattle.gt_grammar.proofs.DeedNames.{Placed, placed, has_names, functions_are, HasFunc, Found, found}
 
 -- what a script has at the place of a name that is declared
 record Knows (script : Script) (q : List ℕ) (d : Declared) : Type 0 where
@@ -26,16 +27,13 @@ record Knows (script : Script) (q : List ℕ) (d : Declared) : Type 0 where
   name : option_map (λ (x : Decl). x.name) (slice_get script.decls d.place) ≡ Some q
   func : is_kind_function d.kind ≡ true → HasFunc script.funcs 0 d
 
-abbrev pub script_in : Acts → ℕ → Script
-script_in acts main = record { decls = decls_in acts; funcs = funcs_in acts; main = main }
-
 abbrev AllKnown : Names → Script → Type 0
 AllKnown names script = (q : List ℕ) (d : Declared) → names q ≡ Some d → Knows script q d
 
-knows-found : (acts : Acts) (main : ℕ) (q : List ℕ) (d : Declared) → Found (decls_in acts) (funcs_in acts) 0 0 q d → Knows (script_in acts main) q d
-knows-found acts main q d w =
+knows-found : (deeds : List Deed) (main : ℕ) (q : List ℕ) (d : Declared) → Found (decls_in deeds) (funcs_in deeds) 0 0 q d → Knows (script_in deeds main) q d
+knows-found deeds main q d w =
     let here : d.place ≡ w.at = omega (arith, w.place) in
-    let there : slice_get (decls_in acts) d.place ≡ Some w.decl = ap (slice_get (decls_in acts)) here ∙ w.there in
+    let there : slice_get (decls_in deeds) d.place ≡ Some w.decl = ap (slice_get (decls_in deeds)) here ∙ w.there in
     record {
       kind = ap (λ o. option_map kind_in (option_map (λ (x : Decl). x.what) o)) there ∙ ap (λ k. Some k) w.kind;
       name = ap (option_map (λ (x : Decl). x.name)) there ∙ ap (λ n. Some n) w.name;
@@ -113,12 +111,12 @@ ends-some : (script : Script) (is : List Instr) → Ends script is → 0 < lengt
 ends-some script [] h = absurd h
 ends-some script (i ∷ is) h = omega arith
 
-ends : (names : Names) (script : Script) → AllKnown names script → (acts : Acts) (inside : Bool) (n f k : ℕ) → Right names inside n f k acts → inside ≡ true → Ends script (code_in acts)
-ends names script known nothing inside n f k r e = absurd (both_ways inside r e)
-ends names script known (declares name what rest) inside n f k r e = absurd (both_ways inside r.0 e)
-ends names script known (begins name decl rest) inside n f k r e = absurd (both_ways inside r.0 e)
-ends names script known (does i rest) inside n f k r e = inr (no_finish names i r.2, names_rightly-by names script known i r.2, ends names script known rest true n f (k + 1) r.3 refl)
-ends names script known (shuts rest) inside n f k r e = inl (refl, tt, refl)
+ends : (names : Names) (script : Script) → AllKnown names script → (deeds : List Deed) (inside : Bool) (n f k : ℕ) → Right names inside n f k deeds → inside ≡ true → Ends script (code_in deeds)
+ends names script known [] inside n f k r e = absurd (both_ways inside r e)
+ends names script known (declares name what ∷ rest) inside n f k r e = absurd (both_ways inside r.0 e)
+ends names script known (opens name decl ∷ rest) inside n f k r e = absurd (both_ways inside r.0 e)
+ends names script known (does i ∷ rest) inside n f k r e = inr (no_finish names i r.2, names_rightly-by names script known i r.2, ends names script known rest true n f (k + 1) r.3 refl)
+ends names script known (closes ∷ rest) inside n f k r e = inl (refl, tt, refl)
 
 each-good : (script : Script) (code : List Instr) (front i : ℕ) (x : Instr) → Ends script code → slice_get code i ≡ Some x → (n j : ℕ) → n ≡ front + length code → j ≡ front + i → IsGoodInstr script n j x
 each-good script [] front i x h is n j e g = absurd h
@@ -144,40 +142,40 @@ code-good script code h = record {
 All-none : {X : Type 0} (P : X → Type 0) → All P []
 All-none P = λ k d h. absurd (omega arith)
 
-funcs-good : (names : Names) (script : Script) → AllKnown names script → (acts : Acts) (inside : Bool) (n f k : ℕ) → Right names inside n f k acts → All (λ (g : Func). IsGoodCode script g.code) (funcs_in acts)
-funcs-good names script known nothing inside n f k r = All-none (λ (g : Func). IsGoodCode script g.code)
-funcs-good names script known (declares name what rest) inside n f k r = funcs-good names script known rest false (n + 1) f k r.4
-funcs-good names script known (begins name decl rest) inside n f k r =
+funcs-good : (names : Names) (script : Script) → AllKnown names script → (deeds : List Deed) (inside : Bool) (n f k : ℕ) → Right names inside n f k deeds → All (λ (g : Func). IsGoodCode script g.code) (funcs_in deeds)
+funcs-good names script known [] inside n f k r = All-none (λ (g : Func). IsGoodCode script g.code)
+funcs-good names script known (declares name what ∷ rest) inside n f k r = funcs-good names script known rest false (n + 1) f k r.4
+funcs-good names script known (opens name decl ∷ rest) inside n f k r =
     All-cons (λ (g : Func). IsGoodCode script g.code) (func_of decl (code_in rest)) (funcs_in rest)
     (code-good script (code_in rest) (ends names script known rest true (n + 1) (f + 1) k r.5 refl)) (funcs-good names script known rest true (n + 1) (f + 1) k r.5)
-funcs-good names script known (does i rest) inside n f k r = funcs-good names script known rest true n f (k + 1) r.3
-funcs-good names script known (shuts rest) inside n f k r = funcs-good names script known rest false n f k r.1
+funcs-good names script known (does i ∷ rest) inside n f k r = funcs-good names script known rest true n f (k + 1) r.3
+funcs-good names script known (closes ∷ rest) inside n f k r = funcs-good names script known rest false n f k r.1
 
 starts-by : (names : Names) (script : Script) → AllKnown names script → (what : What) → Starts names what → StartsRightly script what
 starts-by names script known What.Timer s = tt
 starts-by names script known (What.AfterFunc f) s = omega (arith, s.2, func-within script s.0.name s.0.declared (known s.0.name s.0.declared s.0.known) s.1)
 starts-by names script known What.Function s = absurd s
 
-starts-good : (names : Names) (script : Script) → AllKnown names script → (acts : Acts) (inside : Bool) (n f k : ℕ) → Right names inside n f k acts → All (λ (d : Decl). StartsRightly script d.what) (decls_in acts)
-starts-good names script known nothing inside n f k r = All-none (λ (d : Decl). StartsRightly script d.what)
-starts-good names script known (declares name what rest) inside n f k r = All-cons (λ (d : Decl). StartsRightly script d.what) (decl_of name what) (decls_in rest) (starts-by names script known what r.3) (starts-good names script known rest false (n + 1) f k r.4)
-starts-good names script known (begins name decl rest) inside n f k r = All-cons (λ (d : Decl). StartsRightly script d.what) (decl_of name What.Function) (decls_in rest) tt (starts-good names script known rest true (n + 1) (f + 1) k r.5)
-starts-good names script known (does i rest) inside n f k r = starts-good names script known rest true n f (k + 1) r.3
-starts-good names script known (shuts rest) inside n f k r = starts-good names script known rest false n f k r.1
+starts-good : (names : Names) (script : Script) → AllKnown names script → (deeds : List Deed) (inside : Bool) (n f k : ℕ) → Right names inside n f k deeds → All (λ (d : Decl). StartsRightly script d.what) (decls_in deeds)
+starts-good names script known [] inside n f k r = All-none (λ (d : Decl). StartsRightly script d.what)
+starts-good names script known (declares name what ∷ rest) inside n f k r = All-cons (λ (d : Decl). StartsRightly script d.what) (decl_of name what) (decls_in rest) (starts-by names script known what r.3) (starts-good names script known rest false (n + 1) f k r.4)
+starts-good names script known (opens name decl ∷ rest) inside n f k r = All-cons (λ (d : Decl). StartsRightly script d.what) (decl_of name What.Function) (decls_in rest) tt (starts-good names script known rest true (n + 1) (f + 1) k r.5)
+starts-good names script known (does i ∷ rest) inside n f k r = starts-good names script known rest true n f (k + 1) r.3
+starts-good names script known (closes ∷ rest) inside n f k r = starts-good names script known rest false n f k r.1
 
-few-names : (names : Names) (acts : Acts) (inside : Bool) (n f k : ℕ) → Right names inside n f k acts → n ≤ 4096 → n + length (decls_in acts) ≤ 4096
-few-names names nothing inside n f k r h = omega arith
-few-names names (declares name what rest) inside n f k r h = omega (arith, few-names names rest false (n + 1) f k r.4 (omega (arith, r.1)))
-few-names names (begins name decl rest) inside n f k r h = omega (arith, few-names names rest true (n + 1) (f + 1) k r.5 (omega (arith, r.1)))
-few-names names (does i rest) inside n f k r h = few-names names rest true n f (k + 1) r.3 h
-few-names names (shuts rest) inside n f k r h = few-names names rest false n f k r.1 h
+few-names : (names : Names) (deeds : List Deed) (inside : Bool) (n f k : ℕ) → Right names inside n f k deeds → n ≤ 4096 → n + length (decls_in deeds) ≤ 4096
+few-names names [] inside n f k r h = omega arith
+few-names names (declares name what ∷ rest) inside n f k r h = omega (arith, few-names names rest false (n + 1) f k r.4 (omega (arith, r.1)))
+few-names names (opens name decl ∷ rest) inside n f k r h = omega (arith, few-names names rest true (n + 1) (f + 1) k r.5 (omega (arith, r.1)))
+few-names names (does i ∷ rest) inside n f k r h = few-names names rest true n f (k + 1) r.3 h
+few-names names (closes ∷ rest) inside n f k r h = few-names names rest false n f k r.1 h
 
-few-functions : (names : Names) (acts : Acts) (inside : Bool) (n f k : ℕ) → Right names inside n f k acts → f ≤ 256 → f + length (funcs_in acts) ≤ 256
-few-functions names nothing inside n f k r h = omega arith
-few-functions names (declares name what rest) inside n f k r h = few-functions names rest false (n + 1) f k r.4 h
-few-functions names (begins name decl rest) inside n f k r h = omega (arith, few-functions names rest true (n + 1) (f + 1) k r.5 (omega (arith, r.2)))
-few-functions names (does i rest) inside n f k r h = few-functions names rest true n f (k + 1) r.3 h
-few-functions names (shuts rest) inside n f k r h = few-functions names rest false n f k r.1 h
+few-functions : (names : Names) (deeds : List Deed) (inside : Bool) (n f k : ℕ) → Right names inside n f k deeds → f ≤ 256 → f + length (funcs_in deeds) ≤ 256
+few-functions names [] inside n f k r h = omega arith
+few-functions names (declares name what ∷ rest) inside n f k r h = few-functions names rest false (n + 1) f k r.4 h
+few-functions names (opens name decl ∷ rest) inside n f k r h = omega (arith, few-functions names rest true (n + 1) (f + 1) k r.5 (omega (arith, r.2)))
+few-functions names (does i ∷ rest) inside n f k r h = few-functions names rest true n f (k + 1) r.3 h
+few-functions names (closes ∷ rest) inside n f k r h = few-functions names rest false n f k r.1 h
 
 abbrev size_of : Func → ℕ
 size_of f = length f.code - 1
@@ -186,32 +184,32 @@ size_of f = length f.code - 1
 abbrev open_size : Bool → List Instr → ℕ
 open_size inside code = cond inside (length code - 1) 0
 
-few-instructions : (names : Names) (acts : Acts) (inside : Bool) (n f k : ℕ) → Right names inside n f k acts → k ≤ 100000 → k + open_size inside (code_in acts) + sum_by size_of (funcs_in acts) ≤ 100000
-few-instructions names nothing true n f k r h = cc
-few-instructions names nothing false n f k r h = omega arith
-few-instructions names (declares name what rest) true n f k r h = let e = r.0 in cc
-few-instructions names (declares name what rest) false n f k r h = few-instructions names rest false (n + 1) f k r.4 h
-few-instructions names (begins name decl rest) true n f k r h = let e = r.0 in cc
-few-instructions names (begins name decl rest) false n f k r h =
+few-instructions : (names : Names) (deeds : List Deed) (inside : Bool) (n f k : ℕ) → Right names inside n f k deeds → k ≤ 100000 → k + open_size inside (code_in deeds) + sum_by size_of (funcs_in deeds) ≤ 100000
+few-instructions names [] true n f k r h = cc
+few-instructions names [] false n f k r h = omega arith
+few-instructions names (declares name what ∷ rest) true n f k r h = let e = r.0 in cc
+few-instructions names (declares name what ∷ rest) false n f k r h = few-instructions names rest false (n + 1) f k r.4 h
+few-instructions names (opens name decl ∷ rest) true n f k r h = let e = r.0 in cc
+few-instructions names (opens name decl ∷ rest) false n f k r h =
     omega (arith, few-instructions names rest true (n + 1) (f + 1) k r.5 h, sum_by-cons size_of (func_of decl (code_in rest)) (funcs_in rest))
-few-instructions names (does i rest) false n f k r h = let e = r.0 in cc
-few-instructions names (does i rest) true n f k r h = omega (arith, few-instructions names rest true n f (k + 1) r.3 (omega (arith, r.1)))
-few-instructions names (shuts rest) false n f k r h = let e = r.0 in cc
-few-instructions names (shuts rest) true n f k r h = omega (arith, few-instructions names rest false n f k r.1 h)
+few-instructions names (does i ∷ rest) false n f k r h = let e = r.0 in cc
+few-instructions names (does i ∷ rest) true n f k r h = omega (arith, few-instructions names rest true n f (k + 1) r.3 (omega (arith, r.1)))
+few-instructions names (closes ∷ rest) false n f k r h = let e = r.0 in cc
+few-instructions names (closes ∷ rest) true n f k r h = omega (arith, few-instructions names rest false n f k r.1 h)
 
-pub acts-good : (names : Names) (acts : Acts) (main : Declared) → names ≡ find (names_in 0 0 acts) → Right names false 0 0 0 acts
-    → names (codes "main") ≡ Some main → is_kind_function main.kind ≡ true → IsGood (script_in acts main.func)
-acts-good names acts main are r is function =
-    let script : Script = script_in acts main.func in
-    let places : Placed names 0 0 acts = placed names acts are r in
-    let known : AllKnown names script = λ q d e. knows-found acts main.func q d (found names acts false 0 0 0 r places q d (sym (ap (λ (m : Names). m q) are) ∙ e)) in
+pub deeds-good : (names : Names) (deeds : List Deed) (main : Declared) → names ≡ find (names_in 0 0 deeds) → Right names false 0 0 0 deeds
+    → names (codes "main") ≡ Some main → is_kind_function main.kind ≡ true → IsGood (script_in deeds main.func)
+deeds-good names deeds main are r is function =
+    let script : Script = script_in deeds main.func in
+    let places : Placed names 0 0 deeds = placed names deeds are r in
+    let known : AllKnown names script = λ q d e. knows-found deeds main.func q d (found names deeds false 0 0 0 r places q d (sym (ap (λ (m : Names). m q) are) ∙ e)) in
     record {
       main = func-name script (codes "main") main (known (codes "main") main is) function;
-      names = has_names names acts r places;
-      starts = starts-good names script known acts false 0 0 0 r;
-      functions = functions_are names acts false 0 0 0 r places;
-      code = funcs-good names script known acts false 0 0 0 r;
-      few_names = omega (arith, few-names names acts false 0 0 0 r (omega arith));
-      few_functions = omega (arith, few-functions names acts false 0 0 0 r (omega arith));
-      few_instructions = omega (arith, few-instructions names acts false 0 0 0 r (omega arith));
+      names = has_names names deeds r places;
+      starts = starts-good names script known deeds false 0 0 0 r;
+      functions = functions_are names deeds false 0 0 0 r places;
+      code = funcs-good names script known deeds false 0 0 0 r;
+      few_names = omega (arith, few-names names deeds false 0 0 0 r (omega arith));
+      few_functions = omega (arith, few-functions names deeds false 0 0 0 r (omega arith));
+      few_instructions = omega (arith, few-instructions names deeds false 0 0 0 r (omega arith));
     }

@@ -4,17 +4,18 @@ use Rattle.std.specs.Option.{option_map, is_some}
 use Rattle.std.specs.declared.option.Option.{Option}
 use Rattle.std.specs.declared.option.Option.TheVariants.{None, Some}
 use Rattle.gt_model.specs.Good.{most_names, most_functions, most_instructions}
-use Rattle.gt_script.specs.declared.fault.Why.{Why}
-use Rattle.gt_script.specs.declared.fault.ScriptFault.{ScriptFault}
-use Rattle.gt_script.specs.declared.keyword.Keyword.{Keyword}
-use Rattle.gt_script.specs.declared.names.Kind.{Kind}
-use Rattle.gt_script.specs.declared.names.Declared.{Declared}
-use Rattle.gt_script.specs.declared.statement.Statement.{Statement}
-use Rattle.gt_script.specs.declared.progress.Progress.{Progress}
-use Rattle.gt_script.specs.Words.{NumberedLine}
-use Rattle.gt_script.specs.Keywords.{is_declaration, opens, closes, acts}
-use Rattle.gt_script.specs.Names.{Names, names_of}
-use Rattle.gt_script.specs.Statements.{command_of, statement_of, is_head}
+use Rattle.gt_lines.specs.Words.{NumberedLine, is_end}
+use Rattle.gt_table.specs.declared.form.Arg.{Arg}
+use Rattle.gt_table.specs.declared.form.Role.{Role}
+use Rattle.gt_table.specs.Forms.{is_declaration, opens, closes, acts, is_amount, is_kind_function}
+use Rattle.gt_table.specs.Table.{form_of}
+use Rattle.gt_names.specs.declared.names.Declared.{Declared}
+use Rattle.gt_names.specs.Names.{Names, names_of}
+use Rattle.gt_grammar.specs.declared.fault.Why.{Why}
+use Rattle.gt_grammar.specs.declared.fault.ScriptFault.{ScriptFault}
+use Rattle.gt_grammar.specs.declared.statement.Statement.{Statement}
+use Rattle.gt_grammar.specs.declared.progress.Progress.{Progress}
+use Rattle.gt_grammar.specs.Statements.{command_of, statement_of, is_head}
 
 -- a cause, and whether it applies
 pub record Test : Type 0 where
@@ -30,97 +31,76 @@ first_cause [] = None
 first_cause (t ∷ ts) = if t.applies then Some t.why else first_cause ts
 
 -- declarations stand outside functions and instructions inside; `end` is judged by itself
-abbrev pub stands : Bool → Keyword → Bool
-stands inside keyword = if is_declaration keyword then not inside else (inside || closes keyword)
+abbrev pub stands : Bool → Role → Bool
+stands inside (Role.Declares kind) = not inside
+stands inside Role.Closes = true
+stands inside Role.Acts = inside
 
--- what a name is declared as
-abbrev pub is_kind_function : Kind → Bool
-is_kind_function Kind.Function = true
-is_kind_function _ = false
+abbrev pub role_of : Statement → Role
+role_of s = (form_of s.keyword).role
 
-abbrev pub is_kind_timer : Kind → Bool
-is_kind_timer Kind.Timer = true
-is_kind_timer _ = false
+-- a word that spells no amount has a value: the name is spelled rightly, declared, and of the right kind
+abbrev pub is_named : Arg → Option ℕ → Bool
+is_named arg value = is_amount arg || is_some value
 
-abbrev pub is_function : Option Declared → Bool
-is_function None = false
-is_function (Some d) = is_kind_function d.kind
-
-abbrev pub is_channel_timer : Option Declared → Bool
-is_channel_timer None = false
-is_channel_timer (Some d) = is_kind_timer d.kind
-
--- a timer that is set and stopped: a channel timer or an AfterFunc timer
-abbrev pub is_setting : Option Declared → Bool
-is_setting None = false
-is_setting (Some d) = not (is_kind_function d.kind)
+-- a word that spells an amount has one
+abbrev pub is_counted : Arg → Option ℕ → Bool
+is_counted arg value = not (is_amount arg) || is_some value
 
 -- whether the names of a statement are spelled rightly, declared, and of the right kind
 abbrev pub names_rightly : Statement → Bool
-names_rightly s = elim s.keyword [
-  | Keyword.Timer ↦ s.is_name
-  | Keyword.AfterFunc ↦ s.is_name && is_function s.function
-  | Keyword.Func ↦ s.is_name
-  | Keyword.Go ↦ is_function s.object
-  | Keyword.New ↦ is_setting s.object
-  | Keyword.Stop ↦ is_setting s.object
-  | Keyword.Reset ↦ is_setting s.object
-  | Keyword.Recv ↦ is_channel_timer s.object
-  | _ ↦ true
-]
-
--- whether a name is declared in front of a place: so many declarations precede it
-abbrev pub is_declared_before : ℕ → Option Declared → Bool
-is_declared_before names None = false
-is_declared_before names (Some d) = nat_lt d.place names
-
--- whether a statement declares a name anew
-abbrev pub declares_twice : Progress → Statement → Bool
-declares_twice p s = is_declaration s.keyword && is_declared_before p.names s.object
-
--- whether a reader is inside a function behind a line
-abbrev pub inside_after : Bool → Keyword → Bool
-inside_after inside Keyword.Func = true
-inside_after inside Keyword.End = false
-inside_after inside _ = inside
+names_rightly s = is_named (form_of s.keyword).first s.first && is_named (form_of s.keyword).second s.second
 
 -- whether the amounts of a statement are spelled rightly and in their ranges
 abbrev pub counts_rightly : Statement → Bool
-counts_rightly s = elim s.keyword [
-  | Keyword.Say ↦ is_some s.number
-  | Keyword.Sleep ↦ is_some s.duration
-  | Keyword.New ↦ is_some s.duration
-  | Keyword.Reset ↦ is_some s.duration
-  | _ ↦ true
-]
+counts_rightly s = is_counted (form_of s.keyword).first s.first && is_counted (form_of s.keyword).second s.second
+
+-- whether a place is among the first ones
+abbrev pub is_before : ℕ → Option ℕ → Bool
+is_before names None = false
+is_before names (Some place) = nat_lt place names
+
+-- whether a statement declares a name anew: so many declarations precede it
+abbrev pub declares_twice : Progress → Statement → Bool
+declares_twice p s = is_declaration (role_of s) && is_before p.names s.first
+
+-- whether a reader is inside a function behind a line
+abbrev pub inside_after : Bool → Role → Bool
+inside_after inside (Role.Declares kind) = is_kind_function kind || inside
+inside_after inside Role.Closes = false
+inside_after inside Role.Acts = inside
 
 -- whether a statement is an `end` without its function
-abbrev pub closes_nothing : Progress → Statement → Bool
-closes_nothing p s = closes s.keyword && not p.inside
+abbrev pub closes_nothing : Progress → Role → Bool
+closes_nothing p role = closes role && not p.inside
 
--- whether a statement brings the names, functions or instructions above their limits
-abbrev pub brings_too_many : Progress → Statement → Bool
-brings_too_many p s =
-    (is_declaration s.keyword && nat_le most_names p.names)
-    || (opens s.keyword && nat_le most_functions p.functions)
-    || (acts s.keyword && nat_le most_instructions p.instructions)
+-- whether a line brings the names, functions or instructions above their limits
+abbrev pub brings_too_many : Progress → Role → Bool
+brings_too_many p role =
+    (is_declaration role && nat_le most_names p.names)
+    || (opens role && nat_le most_functions p.functions)
+    || (acts role && nat_le most_instructions p.instructions)
 
 -- the causes on a line that has the form of a statement, in their order; on the last line it counts where the script ends
 abbrev pub causes : Bool → Bool → Progress → Statement → List Test
 causes is_last lacks_main p s =
-    test (not (stands p.inside s.keyword)) Why.Word
+    test (not (stands p.inside (role_of s))) Why.Word
     ∷ test (not (names_rightly s)) Why.Name
     ∷ test (declares_twice p s) Why.Twice
-    ∷ test (is_last && inside_after p.inside s.keyword) Why.Missing
+    ∷ test (is_last && inside_after p.inside (role_of s)) Why.Missing
     ∷ test (not (counts_rightly s)) Why.Number
-    ∷ test (closes_nothing p s) Why.Nest
-    ∷ test (brings_too_many p s) Why.Many
+    ∷ test (closes_nothing p (role_of s)) Why.Nest
+    ∷ test (brings_too_many p (role_of s)) Why.Many
     ∷ test lacks_main Why.NoMain
     ∷ []
 
 abbrev pub cause_with : Bool → Bool → Progress → Option Statement → Option Why
 cause_with is_last lacks_main p None = Some Why.Word
 cause_with is_last lacks_main p (Some s) = first_cause (causes is_last lacks_main p s)
+
+abbrev pub is_function : Option Declared → Bool
+is_function None = false
+is_function (Some d) = is_kind_function d.kind
 
 -- whether the script ends here without a function `main`
 abbrev pub lacks_main : Names → Bool → Bool
@@ -142,17 +122,17 @@ head_cause names is_last line =
 abbrev pub count_if : Bool → ℕ → ℕ
 count_if b n = if b then n + 1 else n
 
--- how far a reader is behind a statement
-abbrev pub progress_with : Progress → Keyword → Progress
-progress_with p keyword = record {
-  inside = inside_after p.inside keyword;
-  names = count_if (is_declaration keyword) p.names;
-  functions = count_if (opens keyword) p.functions;
-  instructions = count_if (acts keyword) p.instructions;
+-- how far a reader is behind a line
+abbrev pub progress_with : Progress → Role → Progress
+progress_with p role = record {
+  inside = inside_after p.inside role;
+  names = count_if (is_declaration role) p.names;
+  functions = count_if (opens role) p.functions;
+  instructions = count_if (acts role) p.instructions;
 }
 
 abbrev pub progress_after : Progress → NumberedLine → Progress
-progress_after p line = elim (command_of line.words) [ None ↦ p | Some c ↦ progress_with p c.keyword ]
+progress_after p line = elim (command_of line.words) [ None ↦ p | Some c ↦ progress_with p (form_of c.keyword).role ]
 
 abbrev pub no_progress : Progress
 no_progress = record { inside = false; names = 0; functions = 0; instructions = 0 }
@@ -161,10 +141,6 @@ no_progress = record { inside = false; names = 0; functions = 0; instructions = 
 abbrev pub fault_or : Option Why → ℕ → Option ScriptFault → Option ScriptFault
 fault_or None number later = later
 fault_or (Some why) number later = Some (record { line = number; why = why })
-
-abbrev pub is_end : List NumberedLine → Bool
-is_end [] = true
-is_end (line ∷ lines) = false
 
 -- the first fault of the lines behind a reader
 abbrev pub fault_from : Names → Progress → List NumberedLine → Option ScriptFault
