@@ -4,8 +4,6 @@
 mod fault;
 mod pairs;
 mod read;
-#[cfg(test)]
-mod tests;
 
 pub use fault::DurFault;
 pub use read::read_dur;

@@ -1,6 +1,7 @@
 //! The reader of durations.
 
 ghost use Rattle.std.specs.Prelude.{◌≡◌, ◌≢◌, ◌<◌, ◌≤◌, ◌↔◌, ℕ, [], codes, IsErrOf, IsTrue};
+ghost use Rattle.gt_model.specs.Times.{greatest_time};
 ghost use Rattle.gt_dur.specs.Pairs.{pairs_of, SplitsInto};
 ghost use Rattle.gt_dur.specs.Duration.{begins_with_digit, BeginsWithoutDigit, is_duration, nanoseconds_of, unmet_place, capped, read_of};
 

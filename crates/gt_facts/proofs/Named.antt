@@ -60,27 +60,28 @@ one-next_number s child e = omega arith
 
 -- an entry that may come next can be printed
 pub named-May : (script : Script) (s : State) (e : Entry) → IsGood script → May script s e → IsNamed script e
-named-May script s (Entry.Say g n) good may = one-Does script s g (Instr.Say n) may
-named-May script s (Entry.Now g at) good may = one-Does script s g Instr.Now may.0
+named-May script s (Entry.Say g n) good may = (tt, (one-Does script s g (Instr.Say n) may, (tt, tt)))
+named-May script s (Entry.Now g at) good may = (tt, (one-Does script s g Instr.Now may.0, (tt, tt)))
 named-May script s (Entry.Go g child f) good may =
-    (one-Does script s g (Instr.Go f) may.0, one-next_number s child may.1, names-Does script s g (Instr.Go f) good may.0)
-named-May script s (Entry.End g) good may = one-Does script s g Instr.Finish may
-named-May script s (Entry.Sleep g until) good may = one-Does script s g (Instr.Sleep may.0) may.1
-named-May script s (Entry.Wake g) good may = one-sleeps_until s g _ may
+    (tt, (one-Does script s g (Instr.Go f) may.0, (one-next_number s child may.1, (names-Does script s g (Instr.Go f) good may.0, tt))))
+named-May script s (Entry.End g) good may = (tt, (one-Does script s g Instr.Finish may, tt))
+named-May script s (Entry.Sleep g until) good may = (tt, (one-Does script s g (Instr.Sleep may.0) may.1, (tt, tt)))
+named-May script s (Entry.Wake g) good may = (tt, (one-sleeps_until s g _ may, tt))
 named-May script s (Entry.New g t due) good may =
-    (one-Does script s g (Instr.New t may.0) may.1, (names-Does script s g (Instr.New t may.0) good may.1).0)
+    (tt, (one-Does script s g (Instr.New t may.0) may.1, ((names-Does script s g (Instr.New t may.0) good may.1).0, (tt, tt))))
 named-May script s (Entry.Stop g t was) good may =
-    (one-Does script s g (Instr.Stop t) may.0, names-Does script s g (Instr.Stop t) good may.0)
+    (tt, (one-Does script s g (Instr.Stop t) may.0, (names-Does script s g (Instr.Stop t) good may.0, (tt, tt))))
 named-May script s (Entry.Reset g t was due) good may =
-    (one-Does script s g (Instr.Reset t may.0) may.1, (names-Does script s g (Instr.Reset t may.0) good may.1).0)
-named-May script s (Entry.TRecv p t due next) good may = (one-operation_at script s p.g p.case_no t may.0.stands, may.1)
-named-May script s (Entry.FireFunc t child) good may = (may.0, one-next_number s child may.2)
-named-May script s (Entry.Clock world to) good may = tt
-named-May script s (Entry.Panic p reason) good may = one-panic_at script s p.g p.case_no reason may
-named-May script s (Entry.Finish outcome) good may = tt
+    (tt, (one-Does script s g (Instr.Reset t may.0) may.1, ((names-Does script s g (Instr.Reset t may.0) good may.1).0, (tt, (tt, tt)))))
+named-May script s (Entry.TRecv p t due next) good may =
+    (tt, (one-operation_at script s p.g p.case_no t may.0.stands, (may.1, (tt, (tt, tt)))))
+named-May script s (Entry.FireFunc t child) good may = (tt, (may.0, (one-next_number s child may.2, tt)))
+named-May script s (Entry.Clock world to) good may = (tt, (tt, (tt, tt)))
+named-May script s (Entry.Panic p reason) good may = (tt, (one-panic_at script s p.g p.case_no reason may, (tt, tt)))
+named-May script s (Entry.Finish outcome) good may = (tt, tt)
 
 named-Legal : (script : Script) (limits : Limits) (s : State) (e : Entry) → IsGood script → Legal script limits s e → IsNamed script e
-named-Legal script limits s (Entry.Finish outcome) good legal = tt
+named-Legal script limits s (Entry.Finish outcome) good legal = (tt, tt)
 named-Legal script limits s e good legal = named-May script s e good legal.1
 
 -- a legal history can be printed

@@ -4,22 +4,29 @@ use Rattle.gt_model.specs.declared.script.Script.{Script}
 use Rattle.gt_model.specs.declared.entry.Entry.{Entry}
 use Rattle.gt_model.specs.Script.{is_timer, is_func}
 use Rattle.gt_model.specs.Good.{is_setting}
+use Rattle.gt_model.specs.Parts.{Part, keyword, goroutine, party, number, time, timer, after_func, setting, function, flag, reason, outcome, parts_of}
 
+abbrev pub IsNamedPart : Script → Part → Type 0
+IsNamedPart script (keyword word) = Unit {0}
+IsNamedPart script (goroutine g) = 1 ≤ g
+IsNamedPart script (party p) = 1 ≤ p.g
+IsNamedPart script (number n) = Unit {0}
+IsNamedPart script (time t) = Unit {0}
+IsNamedPart script (timer t) = IsTrue (is_timer script t)
+IsNamedPart script (after_func t) = IsTrue (is_func script t)
+IsNamedPart script (setting t) = IsTrue (is_setting script t)
+IsNamedPart script (function f) = f < length script.funcs
+IsNamedPart script (flag b) = Unit {0}
+IsNamedPart script (reason why) = Unit {0}
+IsNamedPart script (outcome how) = Unit {0}
+
+abbrev pub AreNamed : Script → List Part → Type 0
+AreNamed script [] = Unit {0}
+AreNamed script (p ∷ ps) = IsNamedPart script p × AreNamed script ps
+
+-- each part of an entry is named
 abbrev pub IsNamed : Script → Entry → Type 0
-IsNamed script (Entry.Say g n) = 1 ≤ g
-IsNamed script (Entry.Now g at) = 1 ≤ g
-IsNamed script (Entry.Go g child f) = (1 ≤ g) × (1 ≤ child) × (f < length script.funcs)
-IsNamed script (Entry.End g) = 1 ≤ g
-IsNamed script (Entry.Sleep g until) = 1 ≤ g
-IsNamed script (Entry.Wake g) = 1 ≤ g
-IsNamed script (Entry.New g t due) = (1 ≤ g) × IsTrue (is_setting script t)
-IsNamed script (Entry.Stop g t was) = (1 ≤ g) × IsTrue (is_setting script t)
-IsNamed script (Entry.Reset g t was due) = (1 ≤ g) × IsTrue (is_setting script t)
-IsNamed script (Entry.TRecv p t due next) = (1 ≤ p.g) × IsTrue (is_timer script t)
-IsNamed script (Entry.FireFunc t child) = IsTrue (is_func script t) × (1 ≤ child)
-IsNamed script (Entry.Clock world to) = Unit {0}
-IsNamed script (Entry.Panic p reason) = 1 ≤ p.g
-IsNamed script (Entry.Finish outcome) = Unit {0}
+IsNamed script e = AreNamed script (parts_of e)
 
 abbrev pub AllNamed : Script → List Entry → Type 0
 AllNamed script [] = Unit {0}

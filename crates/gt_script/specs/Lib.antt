@@ -1,10 +1,3 @@
-pub mod Words
-pub mod Duration
-pub mod Number
-pub mod Keywords
-pub mod Names
-pub mod Statements
-pub mod Faults
-pub mod Grammar
+pub use Rattle.gt_grammar.specs.Grammar
+pub mod Unread
 pub mod Reading
-pub mod Known

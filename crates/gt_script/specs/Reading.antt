@@ -7,20 +7,14 @@ use Rattle.gt_model.specs.declared.script.Func.{Func}
 use Rattle.gt_model.specs.declared.script.Instr.{Instr}
 use Rattle.gt_model.specs.declared.script.Script.{Script}
 use Rattle.gt_model.specs.declared.script.What.{What}
-use Rattle.gt_script.specs.declared.statement.Step.{Step}
-use Rattle.gt_script.specs.declared.lines.Line.{Line}
-use Rattle.gt_script.specs.Words.{NumberedLine, words_of, lines_from, next}
-use Rattle.gt_script.specs.Names.{Names}
-use Rattle.gt_script.specs.Statements.{code_of, decls_of, func_place, funcs_of}
+use Rattle.gt_lines.specs.Words.{Words, NumberedLine}
+use Rattle.gt_names.specs.Names.{Names}
+use Rattle.gt_grammar.specs.Deeds.{Deed, declares, opens, does, closes, deeds_of, decl_of, func_of, decls_in, code_in, funcs_in, func_place}
 
--- the line that a reader stands at
-abbrev pub line_at : Line → NumberedLine
-line_at line = record { number = line.number; words = line.word.now ∷ words_of line.rest.now }
-
--- the lines from there on
-abbrev pub lines_at : Option Line → List NumberedLine
-lines_at None = []
-lines_at (Some line) = line_at line ∷ lines_from (next line.number) line.after.now
+-- the word of a line that has no other
+abbrev pub only_word : Words → Option (List ℕ)
+only_word (word ∷ []) = Some word
+only_word _ = None
 
 -- what is made of the lines so far: the declarations, the functions that are closed, and the one that is open
 pub record Built : Type 0 where
@@ -36,26 +30,22 @@ abbrev pub nothing_built : Built
 nothing_built = built [] [] 0 []
 
 -- what is made of one line more
-abbrev pub built_after : Built → List ℕ → Step → Built
-built_after b name (Step.Declare what) = record b { decls = b.decls ++ record { name = name; what = what } ∷ [] }
-built_after b name (Step.Open decl) =
-    record b { decls = b.decls ++ record { name = name; what = What.Function } ∷ []; open_decl = decl; code = [] }
-built_after b name (Step.Do instr) = record b { code = b.code ++ instr ∷ [] }
-built_after b name Step.Close =
-    record b { funcs = b.funcs ++ record { decl = b.open_decl; code = b.code ++ Instr.Finish ∷ [] } ∷ []; code = [] }
+abbrev pub built_after : Built → Deed → Built
+built_after b (declares name what) = record b { decls = b.decls ++ decl_of name what ∷ [] }
+built_after b (opens name decl) = record b { decls = b.decls ++ decl_of name What.Function ∷ []; open_decl = decl; code = [] }
+built_after b (does instr) = record b { code = b.code ++ instr ∷ [] }
+built_after b closes = record b { funcs = b.funcs ++ func_of b.open_decl (b.code ++ Instr.Finish ∷ []) ∷ []; code = [] }
 
--- the functions of a script, where these lines are left
-abbrev pub funcs_left : Names → Bool → Built → List NumberedLine → List Func
-funcs_left names inside b lines =
-    b.funcs ++ (if inside then record { decl = b.open_decl; code = b.code ++ code_of names lines } ∷ funcs_of names lines else funcs_of names lines)
+-- the functions of a script, where these deeds are left
+abbrev pub funcs_left : Bool → Built → List Deed → List Func
+funcs_left inside b deeds = b.funcs ++ (if inside then func_of b.open_decl (b.code ++ code_in deeds) ∷ funcs_in deeds else funcs_in deeds)
+
+abbrev pub script_by : Bool → Built → List Deed → ℕ → Script
+script_by inside b deeds main = record { decls = b.decls ++ decls_in deeds; funcs = funcs_left inside b deeds; main = main }
 
 -- the script, where these lines are left
 abbrev pub script_left : Names → Bool → Built → List NumberedLine → Script
-script_left names inside b lines = record {
-  decls = b.decls ++ decls_of names lines;
-  funcs = funcs_left names inside b lines;
-  main = func_place (names (codes "main"));
-}
+script_left names inside b lines = script_by inside b (deeds_of names lines) (func_place (names (codes "main")))
 
 -- behind a line the same script is left as in front of it
 abbrev pub Goes : Names → Bool → Built → NumberedLine → Bool → Built → Type 0

@@ -1,20 +1,12 @@
 //! The reader of the script language.
 #![tactic(auto)]
 
-mod duration;
-mod fault;
-mod keyword;
-mod lines;
-mod name;
-mod names;
-mod number;
-mod progress;
+mod command;
 mod read;
 mod reader;
-mod statement;
-#[cfg(test)]
-mod tests;
+mod unread;
+mod value;
 
-pub use fault::{ScriptFault, Why};
-pub use number::read_number;
+pub use gt_grammar::{ScriptFault, Why};
 pub use read::read_script;
+pub use unread::Unread;

@@ -1,22 +1,26 @@
 //! From a text to a script.
 
-ghost use Rattle.std.specs.Prelude.{◌≡◌, ◌≢◌, ◌∷◌, None, Some, IfErr, IfOk, OnOk, MatchResult, nat_lt, if◌then◌else◌};
+ghost use Rattle.std.specs.Prelude.{◌≡◌, ◌∷◌, None, Some, IfErr, IfOk, OnOk, MatchResult};
 ghost use Rattle.std.specs.Option.{option_copied};
 ghost use Rattle.gt_model.specs.declared.script.Script.{Script};
 ghost use Rattle.gt_model.specs.Good.{IsGood};
-ghost use Rattle.gt_script.specs.declared.fault.Why.{Why};
-ghost use Rattle.gt_script.specs.Words.{numbered_lines, only_word, words_of};
-ghost use Rattle.gt_script.specs.Known.{known};
-ghost use Rattle.gt_script.specs.Reading.{line_at, lines_at};
-ghost use Rattle.gt_script.specs.Statements.{is_head, script_of, script_with};
-ghost use Rattle.gt_script.specs.Faults.{fault_from, fault_in_lines, head_cause, no_progress};
-ghost use Rattle.gt_script.specs.Grammar.{IsFirstFault, Spells, line_number};
+ghost use Rattle.gt_lines.specs.Words.{numbered_lines, words_of};
+ghost use Rattle.gt_lines.specs.Lines.{line_at, lines_at};
+ghost use Rattle.gt_names.specs.Known.{known};
+ghost use Rattle.gt_grammar.specs.declared.fault.Why.{Why};
+ghost use Rattle.gt_grammar.specs.Statements.{is_head};
+ghost use Rattle.gt_grammar.specs.Deeds.{script_of, script_with};
+ghost use Rattle.gt_grammar.specs.Faults.{fault_from, fault_in_lines, head_cause, no_progress};
+ghost use Rattle.gt_grammar.specs.Grammar.{IsFirstFault, Spells, line_number};
+ghost use Rattle.gt_script.specs.Reading.{only_word};
+ghost use Rattle.gt_script.specs.Unread.{IfRefused, fault_of, earlier_of};
 
-use crate::fault::{ScriptFault, Why};
-use crate::lines::{Line, first_word, is_text, next_line};
-use crate::names::{NameTable, read_names};
 use crate::reader::{Reader, lacks_main};
+use crate::unread::Unread;
+use gt_grammar::Why;
+use gt_lines::{Line, first_word, is_text, next_line};
 use gt_model::Script;
+use gt_names::{NameTable, read_names};
 use std::alloc::Global;
 
 // The word of a line that has no other.
@@ -57,42 +61,40 @@ fn read_body<'a>(
     alloc: Global,
     names: &NameTable<'a>,
     first: Option<Line<'a>>,
-) -> Result<Script, ScriptFault>
+) -> Result<Script, Unread>
     ensures faultless { OnOk result (fault_from (known names.now) no_progress (lines_at first.entry) ≡ None) }
     ensures read { IfOk result (λ script. script ≡ script_with (known names.now) (lines_at first.entry)) }
-    ensures fault { IfErr result (λ fault. fault.why ≢ Why.NoMemory
-        → fault_from (known names.now) no_progress (lines_at first.entry) ≡ Some fault) }
-    ensures no_memory { IfErr result (λ fault. fault.why ≡ Why.NoMemory → fault.line ≡ 0) }
+    ensures fault { IfErr result (λ unread. IfRefused unread (λ fault.
+        fault_from (known names.now) no_progress (lines_at first.entry) ≡ Some fault)) }
 {
     let mut reader = Reader::new(alloc);
     let mut ahead = first;
     while let Some(line) = ahead {
         ahead = next_line(line.after, line.number.saturating_add(1));
-        if let Err(why) = reader.read(names, &line, ahead.is_none()) {
-            return Err(ScriptFault::new(line.number, why));
+        if let Err(unread) = reader.read(names, &line, ahead.is_none()) {
+            return Err(unread);
         }
     }
     Ok(reader.finish(names))
 }
 
 // Reads the lines of a text, of which each byte counts as part of a character.
-fn read_lines(alloc: Global, text: &[u8]) -> Result<Script, ScriptFault>
+fn read_lines(alloc: Global, text: &[u8]) -> Result<Script, Unread>
     ensures faultless { OnOk result (fault_in_lines (numbered_lines text.now) ≡ None) }
     ensures read { IfOk result (λ script. script ≡ script_of (numbered_lines text.now)) }
     ensures good { IfOk result (λ script. IsGood script) }
-    ensures fault { IfErr result (λ fault. fault.why ≢ Why.NoMemory
-        → fault_in_lines (numbered_lines text.now) ≡ Some fault) }
-    ensures no_memory { IfErr result (λ fault. fault.why ≡ Why.NoMemory → fault.line ≡ 0) }
+    ensures fault { IfErr result (λ unread. IfRefused unread (λ fault.
+        fault_in_lines (numbered_lines text.now) ≡ Some fault)) }
 {
     let Ok(names) = read_names(alloc, text) else {
-        return Err(ScriptFault::new(1, Why::NoMemory));
+        return Err(Unread::NoMemory);
     };
     let Some(head) = next_line(text, 1) else {
-        return Err(ScriptFault::new(1, Why::Head));
+        return Err(Unread::refused(1, Why::Head));
     };
     let ahead = next_line(head.after, head.number.saturating_add(1));
     match head_cause(&names, &head, ahead.is_none()) {
-        Some(why) => Err(ScriptFault::new(head.number, why)),
+        Some(why) => Err(Unread::refused(head.number, why)),
         None => read_body(alloc, &names, ahead),
     }
 }
@@ -110,14 +112,14 @@ fn line_number(front: &[u8]) -> u32
     number
 }
 
-// Of a line with a byte that is not UTF-8 and what is wrong with the lines, the fault on the earlier line.
-fn earlier(line: u32, read: Result<Script, ScriptFault>) -> ScriptFault
-    ensures { MatchResult read (λ _. result ≡ record { line = line; why = Why.Utf8 })
-        (λ fault. result ≡ (if nat_lt fault.line line then fault else record { line = line; why = Why.Utf8 })) }
+// Of a line with a byte that is not UTF-8 and what came of the lines, the fault on the earlier line.
+fn earlier(line: u32, read: Result<Script, Unread>) -> Unread
+    ensures { MatchResult read (λ _. result ≡ Unread.Refused (fault_of line Why.Utf8)) (λ unread. result ≡ earlier_of line unread) }
 {
     match read {
-        Err(fault) if fault.line < line => fault,
-        _ => ScriptFault::new(line, Why::Utf8),
+        Err(Unread::NoMemory) => Unread::NoMemory,
+        Err(Unread::Refused { fault }) if fault.line < line => Unread::Refused { fault },
+        _ => Unread::refused(line, Why::Utf8),
     }
 }
 
@@ -133,15 +135,14 @@ fn earlier(line: u32, read: Result<Script, ScriptFault>) -> ScriptFault
 ///
 /// # Errors
 ///
-/// A text is refused exactly where it spells no script, or memory ran out. The fault names the first faulty line and the
-/// first cause on it, in the order of [`Why`]. For [`Why::NoMemory`] its line is 0.
-pub fn read_script(alloc: Global, bytes: &[u8]) -> Result<Script, ScriptFault>
+/// A text is refused exactly where it spells no script, unless memory runs out. The fault names the first faulty line and the
+/// first cause on it, in the order of [`Why`].
+pub fn read_script(alloc: Global, bytes: &[u8]) -> Result<Script, Unread>
     ensures read { IfOk result (λ script. Spells bytes.now script) }
     ensures good { IfOk result (λ script. IsGood script) }
-    ensures fault { IfErr result (λ fault. fault.why ≢ Why.NoMemory → IsFirstFault bytes.now fault) }
+    ensures fault { IfErr result (λ unread. IfRefused unread (λ fault. IsFirstFault bytes.now fault)) }
     ensures refused { IfErr result
-        (λ fault. fault.why ≢ Why.NoMemory → (script : Script) → Spells bytes.now script → ⊥) }
-    ensures no_memory { IfErr result (λ fault. fault.why ≡ Why.NoMemory → fault.line ≡ 0) }
+        (λ unread. IfRefused unread (λ _. (script : Script) → Spells bytes.now script → ⊥)) }
 {
     let read = read_lines(alloc, bytes);
     match str::from_utf8(bytes) {

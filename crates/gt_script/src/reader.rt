@@ -1,16 +1,17 @@
 //! The reader: what it makes of one line after the other.
 
 ghost use Rattle.std.specs.Prelude.{◌≡◌, codes};
-ghost use Rattle.gt_script.specs.Faults.{lacks_main};
-ghost use Rattle.gt_script.specs.Known.{known};
-ghost use Rattle.gt_script.specs.Statements.{func_place};
+ghost use Rattle.gt_names.specs.Known.{known};
+ghost use Rattle.gt_grammar.specs.Deeds.{func_place};
+ghost use Rattle.gt_grammar.specs.Faults.{is_function, lacks_main};
 
-use crate::fault::Why;
-use crate::lines::Line;
-use crate::names::NameTable;
-use crate::progress::{Progress, is_function};
-use crate::statement::{Statement, Step, read_command};
+use crate::command::{read_command, step_with};
+use crate::unread::Unread;
+use gt_grammar::{Progress, Statement, Why};
+use gt_lines::Line;
 use gt_model::{Code, Decl, Decls, Func, Funcs, Instr, Script, Text, What};
+use gt_names::{Declared, NameTable};
+use gt_table::{Kind, Step};
 use std::alloc::{AllocError, Global};
 use std::mem;
 
@@ -26,6 +27,15 @@ pub(crate) struct Reader {
     pub(crate) open_decl: u32,
     /// The instructions of the function that is open.
     pub(crate) code: Vec<Instr>,
+}
+
+fn is_function(declared: Option<Declared>) -> bool
+    ensures { result ≡ is_function declared }
+{
+    match declared {
+        None => false,
+        Some(d) => matches!(d.kind, Kind::Function),
+    }
 }
 
 /// Whether the script ends here without a function `main`.
@@ -45,12 +55,16 @@ fn main_place(names: &NameTable) -> u32
 }
 
 impl Reader {
-    ghost use Rattle.std.specs.Prelude.{◌≡◌, ◌≢◌, ◌∷◌, ◌++◌, [], None, Some, OnOk, IfErr, IfSome, IsSome, false};
-    ghost use Rattle.gt_script.specs.declared.fault.Why.{Why};
-    ghost use Rattle.gt_script.specs.Faults.{brings_too_many, cause_at, progress_after, progress_with, no_progress};
-    ghost use Rattle.gt_script.specs.Known.{known};
-    ghost use Rattle.gt_script.specs.Statements.{step_of};
-    ghost use Rattle.gt_script.specs.Reading.{Goes, line_at, built, built_after, nothing_built, script_left};
+    ghost use Rattle.std.specs.Prelude.{◌≡◌, ◌≤◌, ◌∷◌, ◌++◌, [], None, Some, OnOk, IfErr, IfSome, IsSome, false};
+    ghost use Rattle.gt_table.specs.Forms.{most_of};
+    ghost use Rattle.gt_table.specs.Table.{form_of};
+    ghost use Rattle.gt_lines.specs.Lines.{line_at};
+    ghost use Rattle.gt_names.specs.Known.{known};
+    ghost use Rattle.gt_grammar.specs.Statements.{step_with};
+    ghost use Rattle.gt_grammar.specs.Deeds.{deed_of};
+    ghost use Rattle.gt_grammar.specs.Faults.{role_of, brings_too_many, cause_at, progress_after, progress_with, no_progress};
+    ghost use Rattle.gt_script.specs.Unread.{IfRefused};
+    ghost use Rattle.gt_script.specs.Reading.{Goes, built, built_after, nothing_built, script_left};
 
     pub(crate) fn new(alloc: Global) -> Reader
         ensures progress { result.progress ≡ no_progress }
@@ -96,10 +110,10 @@ impl Reader {
         Ok(())
     }
 
-    // Does what a statement does, whose first word may be a name.
+    // Does what a line does, whose first word may be a name.
     fn take(&mut self, name: &[u8], step: Step) -> Result<(), AllocError>
         ensures built { OnOk result (built self.new.decls.items self.new.funcs.items self.new.open_decl self.new.code.items
-            ≡ built_after (built self.old.decls.items self.old.funcs.items self.old.open_decl self.old.code.items) name.now step) }
+            ≡ built_after (built self.old.decls.items self.old.funcs.items self.old.open_decl self.old.code.items) (deed_of name.now step)) }
         ensures progress { self.new.progress ≡ self.old.progress }
     {
         match step {
@@ -116,17 +130,20 @@ impl Reader {
             Step::Close => self.close(),
         }
     }
+
     // Goes on behind a statement with nothing wrong, whose first word may be a name.
     fn go_on(&mut self, name: &[u8], statement: &Statement) -> Result<(), AllocError>
-        requires room { brings_too_many self.old.progress statement.now ≡ false }
-        requires known { IsSome (step_of statement.now) }
-        ensures progress { OnOk result (self.new.progress ≡ progress_with self.old.progress statement.now.keyword) }
-        ensures built { OnOk result (IfSome (step_of statement.now) (λ step.
+        requires room { brings_too_many self.old.progress (role_of statement.now) ≡ false }
+        requires known { IsSome (step_with statement.now) }
+        requires first { IfSome statement.now.first (λ v. v ≤ most_of (form_of statement.now.keyword).first) }
+        requires second { IfSome statement.now.second (λ v. v ≤ most_of (form_of statement.now.keyword).second) }
+        ensures progress { OnOk result (self.new.progress ≡ progress_with self.old.progress (role_of statement.now)) }
+        ensures built { OnOk result (IfSome (step_with statement.now) (λ step.
             built self.new.decls.items self.new.funcs.items self.new.open_decl self.new.code.items
-            ≡ built_after (built self.old.decls.items self.old.funcs.items self.old.open_decl self.old.code.items) name.now step)) }
+            ≡ built_after (built self.old.decls.items self.old.funcs.items self.old.open_decl self.old.code.items) (deed_of name.now step))) }
     {
-        self.progress = self.progress.after(statement);
-        match statement.step() {
+        self.progress = self.progress.after(statement.keyword.form().role);
+        match step_with(statement) {
             Some(step) => self.take(name, step),
             None => unreachable!(),
         }
@@ -138,9 +155,9 @@ impl Reader {
         names: &NameTable<'a>,
         line: &Line<'a>,
         is_last: bool,
-    ) -> Result<(), Why>
-        ensures fault { IfErr result (λ why. why ≢ Why.NoMemory
-            → cause_at (known names.now) is_last self.old.progress (line_at line.now) ≡ Some why) }
+    ) -> Result<(), Unread>
+        ensures fault { IfErr result (λ unread. IfRefused unread (λ fault. (fault.line ≡ line.now.number)
+            × (cause_at (known names.now) is_last self.old.progress (line_at line.now) ≡ Some fault.why))) }
         ensures faultless { OnOk result (cause_at (known names.now) is_last self.old.progress (line_at line.now) ≡ None) }
         ensures progress { OnOk result (self.new.progress ≡ progress_after self.old.progress (line_at line.now)) }
         ensures built { OnOk result (Goes (known names.now)
@@ -149,15 +166,15 @@ impl Reader {
             self.new.progress.inside (built self.new.decls.items self.new.funcs.items self.new.open_decl self.new.code.items)) }
     {
         let Some(command) = read_command(line.word, line.rest) else {
-            return Err(Why::Word);
+            return Err(Unread::refused(line.number, Why::Word));
         };
         let statement = command.read(names);
         let lacks_main = lacks_main(names, is_last);
         match self.progress.cause(&statement, is_last, lacks_main) {
-            Some(why) => Err(why),
+            Some(why) => Err(Unread::refused(line.number, why)),
             None => match self.go_on(command.first, &statement) {
                 Ok(()) => Ok(()),
-                Err(_) => Err(Why::NoMemory),
+                Err(_) => Err(Unread::NoMemory),
             },
         }
     }

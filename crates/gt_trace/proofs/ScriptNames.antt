@@ -11,7 +11,7 @@ use Rattle.gt_model.specs.declared.entry.Entry.{Entry}
 use Rattle.gt_model.specs.Script.{what_at}
 use Rattle.gt_model.specs.Good.{IsGood, is_name, is_name_byte, is_letter}
 use Rattle.gt_model.specs.Named.{IsNamed, AllNamed}
-use Rattle.gt_model.proofs.GoodCode.{all_at}
+use Rattle.gt_model.proofs.GoodCode.{all_at, function_declared}
 use Rattle.gt_model.proofs.Declared.{declared_at}
 use Rattle.gt_trace.specs.Text.{name_of, function_name}
 
@@ -37,7 +37,7 @@ decl_name script place decl good within read =
     let found : slice_get script.decls place ≡ Some decl = slice_get_read script.decls (length script.decls) place decl refl within read in
     record {
       name = rw (found, name_of) refl;
-      short = length-is_name decl.name (all_at (λ (d : Decl). IsTrue (is_name d.name)) script.decls place decl good.names found);
+      short = length-is_name decl.name (all_at (λ (d : Decl). IsTrue (is_name d.name)) script.decls place decl good.names.each found);
     }
 
 -- a function that was read at its place
@@ -52,7 +52,7 @@ func_name script f func good within read =
     record {
       name = rw (found, function_name) refl;
       declared = declared_at script func.decl What.Function
-          (all_at (λ (f : Func). what_at script f.decl ≡ Some What.Function) script.funcs f func good.kinds found);
+          (function_declared script f func good found);
     }
 
 -- each entry of a list that can be printed can be

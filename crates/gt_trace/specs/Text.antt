@@ -1,5 +1,5 @@
 -- The text of a history: a line for each entry.
-use Rattle.std.specs.Prelude.{ℕ, ◌==◌, if◌then◌else◌, true, false, Bool, List, [], ◌∷◌, ◌++◌, codes, decimal, slice_get}
+use Rattle.std.specs.Prelude.{ℕ, ◌==◌, if◌then◌else◌, true, false, Bool, List, [], ◌∷◌, ◌++◌, codes, decimal, map, slice_get}
 use Rattle.std.specs.List.{flat_map, join_with_byte}
 use Rattle.std.specs.declared.option.Option.{Option}
 use Rattle.std.specs.declared.option.Option.TheVariants.{None, Some}
@@ -8,6 +8,7 @@ use Rattle.gt_model.specs.declared.entry.Entry.{Entry}
 use Rattle.gt_model.specs.declared.entry.Outcome.{Outcome}
 use Rattle.gt_model.specs.declared.entry.Party.{Party}
 use Rattle.gt_model.specs.declared.entry.Reason.{Reason}
+use Rattle.gt_model.specs.Parts.{Part, keyword, goroutine, party, number, time, timer, after_func, setting, function, flag, reason, outcome, parts_of}
 
 -- the byte between two words
 abbrev pub space : ℕ
@@ -36,7 +37,7 @@ party_word p = goroutine_word p.g ++ case_suffix p.case_no
 -- a time, where there is one
 abbrev pub time_word : Option ℕ → List ℕ
 time_word None = codes "-"
-time_word (Some time) = decimal time
+time_word (Some t) = decimal t
 
 -- whether a timer was set, where that is told
 abbrev pub flag_word : Option Bool → List ℕ
@@ -56,24 +57,24 @@ outcome_word Outcome.Deadlock = codes "deadlock"
 outcome_word Outcome.Panic = codes "panic"
 outcome_word Outcome.Limit = codes "limit"
 
--- the words of an entry's line
+-- the word that a line says for a part
+abbrev pub word_of : Script → Part → List ℕ
+word_of script (keyword word) = word
+word_of script (goroutine g) = goroutine_word g
+word_of script (party p) = party_word p
+word_of script (number n) = decimal n
+word_of script (time t) = time_word t
+word_of script (timer t) = name_of script t
+word_of script (after_func t) = name_of script t
+word_of script (setting t) = name_of script t
+word_of script (function f) = function_name script f
+word_of script (flag b) = flag_word b
+word_of script (reason why) = reason_word why
+word_of script (outcome how) = outcome_word how
+
+-- the words of an entry's line: one for each part
 abbrev pub words_of : Script → Entry → List (List ℕ)
-words_of script (Entry.Say g n) = codes "say" ∷ goroutine_word g ∷ decimal n ∷ []
-words_of script (Entry.Now g at) = codes "now" ∷ goroutine_word g ∷ decimal at ∷ []
-words_of script (Entry.Go g child f) = codes "go" ∷ goroutine_word g ∷ goroutine_word child ∷ function_name script f ∷ []
-words_of script (Entry.End g) = codes "end" ∷ goroutine_word g ∷ []
-words_of script (Entry.Sleep g until) = codes "sleep" ∷ goroutine_word g ∷ time_word until ∷ []
-words_of script (Entry.Wake g) = codes "wake" ∷ goroutine_word g ∷ []
-words_of script (Entry.New g t due) = codes "new" ∷ goroutine_word g ∷ name_of script t ∷ decimal due ∷ []
-words_of script (Entry.Stop g t was) = codes "stop" ∷ goroutine_word g ∷ name_of script t ∷ flag_word was ∷ []
-words_of script (Entry.Reset g t was due) =
-    codes "reset" ∷ goroutine_word g ∷ name_of script t ∷ flag_word was ∷ decimal due ∷ []
-words_of script (Entry.TRecv p t due next) =
-    codes "trecv" ∷ party_word p ∷ name_of script t ∷ decimal due ∷ time_word next ∷ []
-words_of script (Entry.FireFunc t child) = codes "fire" ∷ name_of script t ∷ goroutine_word child ∷ []
-words_of script (Entry.Clock world at) = codes "clock" ∷ decimal world ∷ decimal at ∷ []
-words_of script (Entry.Panic p reason) = codes "panic" ∷ party_word p ∷ reason_word reason ∷ []
-words_of script (Entry.Finish outcome) = outcome_word outcome ∷ []
+words_of script entry = map (word_of script) (parts_of entry)
 
 -- the line of an entry: its words with a space between each two, and a line feed
 abbrev pub line_of : Script → Entry → List ℕ

@@ -8,6 +8,3 @@ mod print;
 mod timers;
 
 pub use print::{write_line, write_trace};
-
-#[cfg(test)]
-mod tests;

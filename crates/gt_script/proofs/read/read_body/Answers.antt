@@ -1,24 +1,31 @@
 use Rattle.std.proofs.Common.{◌≡◌, ◌∷◌, List, Some, sym, ap, ◌∙◌}
-use Rattle.gt_script.specs.declared.progress.Progress.{Progress}
-use Rattle.gt_script.specs.declared.fault.ScriptFault.{ScriptFault}
-use Rattle.gt_script.specs.Words.{NumberedLine}
-use Rattle.gt_script.specs.Names.{Names}
-use Rattle.gt_script.specs.Known.{known}
-use Rattle.gt_script.specs.Faults.{fault_from, is_end}
-use Rattle.gt_script.specs.Reading.{line_at, lines_at, built, script_left}
-use Rattle.gt_script.proofs.ReadingLemmas.{fault-here, fault-later, fault-is, outside, lines-ahead, last-is}
+use Rattle.gt_lines.specs.Words.{NumberedLine, is_end}
+use Rattle.gt_lines.specs.Lines.{line_at, lines_at}
+use Rattle.gt_lines.proofs.Ahead.{lines-ahead, last-is}
+use Rattle.gt_names.specs.Known.{known}
+use Rattle.gt_names.specs.Names.{Names}
+use Rattle.gt_grammar.specs.declared.fault.ScriptFault.{ScriptFault}
+use Rattle.gt_grammar.specs.declared.progress.Progress.{Progress}
+use Rattle.gt_grammar.specs.Faults.{fault_from, cause_at, no_progress}
+use Rattle.gt_grammar.proofs.RightLines.{outside}
+use Rattle.gt_script.specs.Reading.{built, script_left}
+use Rattle.gt_script.proofs.ReadingLemmas.{fault-here, fault-later, if-refused}
 use Rattle.gt_script.proofs.read.read_body.Goals as goal
 
 pub returns-in-Err-clause-fault : goal.returns-in-Err-clause-fault
-returns-in-Err-clause-fault c = λ memory.
+returns-in-Err-clause-fault c =
     let names : Names = known c.args.names.now in
     let p : Progress = c.loop-ahead.reader.progress in
     let left : lines_at c.loop-ahead.ahead ≡ line_at c.in-Some.line ∷ lines_at c.next_line-ahead.result =
     lines-ahead c.loop-ahead.ahead c.next_line-ahead.result c.in-Some.line c.saturating_add.result c.in-Some.is c.next_line-ahead.ensures.next c.saturating_add.ensures in
-    sym c.loop-ahead.invariant.fault ∙ ap (fault_from names p) left
-    ∙ fault-here names p (line_at c.in-Some.line) (lines_at c.next_line-ahead.result) c.is_none.result c.in-Err.why
-    (last-is c.next_line-ahead.result c.is_none.result c.is_none.ensures) (c.in-Err.ensures.fault (λ e. memory (c.new.ensures.why ∙ e)))
-    ∙ ap (λ (f : ScriptFault). Some f) (fault-is c.new.result c.in-Some.line.number c.in-Err.why (c.new.ensures.line (λ e. memory (c.new.ensures.why ∙ e))) c.new.ensures.why)
+    if-refused
+    (λ (f : ScriptFault). (f.line ≡ c.in-Some.line.number) × (cause_at names c.is_none.result p (line_at c.in-Some.line) ≡ Some f.why))
+    (λ (f : ScriptFault). fault_from names no_progress (lines_at c.args.first) ≡ Some f)
+    c.in-Err.unread
+    (λ f h. sym c.loop-ahead.invariant.fault ∙ ap (fault_from names p) left
+    ∙ fault-here names p (line_at c.in-Some.line) (lines_at c.next_line-ahead.result) c.is_none.result f
+    (last-is c.next_line-ahead.result c.is_none.result c.is_none.ensures) h.0 h.1)
+    c.in-Err.ensures.fault
 
 pub loop-ahead-preserved : goal.loop-ahead-preserved
 loop-ahead-preserved c =

@@ -1,8 +1,10 @@
 use Rattle.std.proofs.Common.{◌≡◌, true, false}
-use Rattle.gt_script.specs.Known.{known}
-use Rattle.gt_script.specs.Faults.{fault_from, is_end, no_progress}
-use Rattle.gt_script.specs.Reading.{built, nothing_built, lines_at, script_left}
-use Rattle.gt_script.proofs.ReadingLemmas.{bytes_left}
+use Rattle.gt_lines.specs.Words.{is_end}
+use Rattle.gt_lines.specs.Lines.{lines_at}
+use Rattle.gt_lines.proofs.Ahead.{bytes_left}
+use Rattle.gt_names.specs.Known.{known}
+use Rattle.gt_grammar.specs.Faults.{fault_from, no_progress}
+use Rattle.gt_script.specs.Reading.{built, nothing_built, script_left}
 use Rattle.gt_script.proofs.read.read_body.Given as goal
 
 abbrev pub invariant-loop-ahead : goal.invariant-loop-ahead

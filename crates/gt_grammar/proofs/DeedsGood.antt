@@ -1,0 +1,215 @@
+-- Deeds that follow one another rightly make a good script.
+use Rattle.std.proofs.Common.{◌≡◌, ◌⊎◌, inl, inr, ℕ, zero, suc, ◌+◌, ◌-◌, ◌<◌, ◌≤◌, Bool, true, false, cond, ◌||◌, List, [], ◌∷◌, length, slice_get, sum_by, Option, Some, None, IsTrue, refl, sym, ap, subst, ◌∙◌, arith, codes, eqb}
+use Rattle.std.specs.Option.{option_map, option_and_then}
+use Rattle.std.specs.List.{All}
+use Rattle.std.proofs.lemmas.List.Elements.{All-cons}
+use Rattle.std.proofs.lemmas.List.Sums.{sum_by-cons}
+use Rattle.std.proofs.lemmas.Option.{slice_get_within}
+use Rattle.std.proofs.lemmas.Bool.{eq-eqb, ne_eqb, both_ways}
+use Rattle.gt_model.specs.declared.script.Script.{Script}
+use Rattle.gt_model.specs.declared.script.Func.{Func}
+use Rattle.gt_model.specs.declared.script.Decl.{Decl}
+use Rattle.gt_model.specs.declared.script.What.{What}
+use Rattle.gt_model.specs.declared.script.Instr.{Instr}
+use Rattle.gt_model.specs.Script.{what_at, names_timer, names_func, is_timer as model_is_timer}
+use Rattle.gt_model.specs.Good.{is_setting as model_is_setting, is_finish, NamesRightly, StartsRightly, IsGoodInstr, IsGoodCode, IsGood, function_name}
+use Rattle.gt_table.specs.declared.form.Kind.{Kind}
+use Rattle.gt_table.specs.Forms.{is_kind_function, is_kind_timer}
+use Rattle.gt_names.specs.declared.names.Declared.{Declared}
+use Rattle.gt_names.specs.Names.{Names, find}
+use Rattle.gt_grammar.specs.Deeds.{Deed, declares, opens, does, closes, decl_of, func_of, decls_in, code_in, funcs_in, script_in}
+use Rattle.gt_grammar.proofs.Rightly.{kind_in, names_in, Ref, Refers, Starts, Right}
+use Rattle.gt_grammar.proofs.DeedNames.{Placed, placed, has_names, functions_are, HasFunc, Found, found}
+
+-- what a script has at the place of a name that is declared
+record Knows (script : Script) (q : List ℕ) (d : Declared) : Type 0 where
+  kind : option_map kind_in (what_at script d.place) ≡ Some d.kind
+  name : option_map (λ (x : Decl). x.name) (slice_get script.decls d.place) ≡ Some q
+  func : is_kind_function d.kind ≡ true → HasFunc script.funcs 0 d
+
+abbrev AllKnown : Names → Script → Type 0
+AllKnown names script = (q : List ℕ) (d : Declared) → names q ≡ Some d → Knows script q d
+
+knows-found : (deeds : List Deed) (main : ℕ) (q : List ℕ) (d : Declared) → Found (decls_in deeds) (funcs_in deeds) 0 0 q d → Knows (script_in deeds main) q d
+knows-found deeds main q d w =
+    let here : d.place ≡ w.at = omega (arith, w.place) in
+    let there : slice_get (decls_in deeds) d.place ≡ Some w.decl = ap (slice_get (decls_in deeds)) here ∙ w.there in
+    record {
+      kind = ap (λ o. option_map kind_in (option_map (λ (x : Decl). x.what) o)) there ∙ ap (λ k. Some k) w.kind;
+      name = ap (option_map (λ (x : Decl). x.name)) there ∙ ap (λ n. Some n) w.name;
+      func = w.func;
+    }
+
+-- a function that is known is there
+func-within : (script : Script) (q : List ℕ) (d : Declared) → Knows script q d → is_kind_function d.kind ≡ true → d.func < length script.funcs
+func-within script q d k t =
+    let w : HasFunc script.funcs 0 d = k.func t in
+    omega (arith, w.is, slice_get_within script.funcs w.at w.func w.there)
+
+-- and has the name
+func-name : (script : Script) (q : List ℕ) (d : Declared) → Knows script q d → is_kind_function d.kind ≡ true → function_name script d.func ≡ Some q
+func-name script q d k t =
+    let w : HasFunc script.funcs 0 d = k.func t in
+    let at : d.func ≡ w.at = omega (arith, w.is) in
+    ap (option_and_then (λ (g : Func). option_map (λ (x : Decl). x.name) (slice_get script.decls g.decl))) (ap (slice_get script.funcs) at ∙ w.there)
+    ∙ ap (λ i. option_map (λ (x : Decl). x.name) (slice_get script.decls i)) w.decl ∙ k.name
+
+is_setting-by : (o : Option What) (k : Kind) → option_map kind_in o ≡ Some k → is_kind_function k ≡ false → (names_timer o || names_func o) ≡ true
+is_setting-by None k h e = cc
+is_setting-by (Some What.Timer) k h e = refl
+is_setting-by (Some (What.AfterFunc f)) k h e = refl
+is_setting-by (Some What.Function) Kind.Timer h e = cc
+is_setting-by (Some What.Function) Kind.AfterFunc h e = cc
+is_setting-by (Some What.Function) Kind.Function h e = cc
+
+is_timer-by : (o : Option What) (k : Kind) → option_map kind_in o ≡ Some k → is_kind_timer k ≡ true → names_timer o ≡ true
+is_timer-by None k h e = cc
+is_timer-by (Some What.Timer) k h e = refl
+is_timer-by (Some (What.AfterFunc f)) Kind.Timer h e = cc
+is_timer-by (Some (What.AfterFunc f)) Kind.AfterFunc h e = cc
+is_timer-by (Some (What.AfterFunc f)) Kind.Function h e = cc
+is_timer-by (Some What.Function) Kind.Timer h e = cc
+is_timer-by (Some What.Function) Kind.AfterFunc h e = cc
+is_timer-by (Some What.Function) Kind.Function h e = cc
+
+names_rightly-by : (names : Names) (script : Script) → AllKnown names script → (i : Instr) → Refers names i → NamesRightly script i
+names_rightly-by names script known (Instr.Say n) r = tt
+names_rightly-by names script known Instr.Now r = tt
+names_rightly-by names script known (Instr.Sleep d) r = r
+names_rightly-by names script known (Instr.Go f) r = omega (arith, r.2, func-within script r.0.name r.0.declared (known r.0.name r.0.declared r.0.known) r.1)
+names_rightly-by names script known (Instr.New t d) r =
+    let P : ℕ → Type 0 = λ x. model_is_setting script x ≡ true in
+    (subst P (sym r.2) (is_setting-by (what_at script r.0.declared.place) r.0.declared.kind (known r.0.name r.0.declared r.0.known).kind r.1), r.3)
+names_rightly-by names script known (Instr.Stop t) r =
+    let P : ℕ → Type 0 = λ x. model_is_setting script x ≡ true in
+    subst P (sym r.2) (is_setting-by (what_at script r.0.declared.place) r.0.declared.kind (known r.0.name r.0.declared r.0.known).kind r.1)
+names_rightly-by names script known (Instr.Reset t d) r =
+    let P : ℕ → Type 0 = λ x. model_is_setting script x ≡ true in
+    (subst P (sym r.2) (is_setting-by (what_at script r.0.declared.place) r.0.declared.kind (known r.0.name r.0.declared r.0.known).kind r.1), r.3)
+names_rightly-by names script known (Instr.Recv o) r =
+    let P : ℕ → Type 0 = λ x. model_is_timer script x ≡ true in
+    subst P (sym r.2) (is_timer-by (what_at script r.0.declared.place) r.0.declared.kind (known r.0.name r.0.declared r.0.known).kind r.1)
+names_rightly-by names script known Instr.Finish r = absurd r
+
+no_finish : (names : Names) (i : Instr) → Refers names i → is_finish i ≡ false
+no_finish names (Instr.Say n) r = refl
+no_finish names Instr.Now r = refl
+no_finish names (Instr.Sleep d) r = refl
+no_finish names (Instr.Go f) r = refl
+no_finish names (Instr.New t d) r = refl
+no_finish names (Instr.Stop t) r = refl
+no_finish names (Instr.Reset t d) r = refl
+no_finish names (Instr.Recv o) r = refl
+no_finish names Instr.Finish r = absurd r
+
+-- a code whose last instruction alone is the end
+abbrev Ends : Script → List Instr → Type 0
+Ends script [] = ⊥
+Ends script (i ∷ is) = ((is_finish i ≡ true) × NamesRightly script i × (is ≡ [])) ⊎ ((is_finish i ≡ false) × NamesRightly script i × Ends script is)
+
+ends-some : (script : Script) (is : List Instr) → Ends script is → 0 < length is
+ends-some script [] h = absurd h
+ends-some script (i ∷ is) h = omega arith
+
+ends : (names : Names) (script : Script) → AllKnown names script → (deeds : List Deed) (inside : Bool) (n f k : ℕ) → Right names inside n f k deeds → inside ≡ true → Ends script (code_in deeds)
+ends names script known [] inside n f k r e = absurd (both_ways inside r e)
+ends names script known (declares name what ∷ rest) inside n f k r e = absurd (both_ways inside r.0 e)
+ends names script known (opens name decl ∷ rest) inside n f k r e = absurd (both_ways inside r.0 e)
+ends names script known (does i ∷ rest) inside n f k r e = inr (no_finish names i r.2, names_rightly-by names script known i r.2, ends names script known rest true n f (k + 1) r.3 refl)
+ends names script known (closes ∷ rest) inside n f k r e = inl (refl, tt, refl)
+
+each-good : (script : Script) (code : List Instr) (front i : ℕ) (x : Instr) → Ends script code → slice_get code i ≡ Some x → (n j : ℕ) → n ≡ front + length code → j ≡ front + i → IsGoodInstr script n j x
+each-good script [] front i x h is n j e g = absurd h
+each-good script (y ∷ ys) front zero x h is n j e g =
+    let same : y ≡ x = cc in
+    let P : Instr → Type 0 = IsGoodInstr script n j in
+    subst P same (elim h [
+      | inl w ↦ let none : length ys ≡ 0 = ap length w.2 in record { names = w.1; last = w.0 ∙ sym (eq-eqb (j + 1) n (omega (arith, none))) }
+      | inr w ↦ let some : 0 < length ys = ends-some script ys w.2 in record { names = w.1; last = w.0 ∙ sym (ne_eqb (j + 1) n (λ q. absurd (omega (arith, q, some)))) }
+    ])
+each-good script (y ∷ ys) front (suc i) x h is n j e g =
+    elim h [
+      | inl w ↦ let none : slice_get ys i ≡ None = ap (λ zs. slice_get zs i) w.2 in cc
+      | inr w ↦ each-good script ys (suc front) i x w.2 is n j (omega arith) (omega arith)
+    ]
+
+code-good : (script : Script) (code : List Instr) → Ends script code → IsGoodCode script code
+code-good script code h = record {
+  some = ends-some script code h;
+  each = λ i x is. each-good script code 0 i x h is (length code) i (omega arith) (omega arith);
+}
+
+All-none : {X : Type 0} (P : X → Type 0) → All P []
+All-none P = λ k d h. absurd (omega arith)
+
+funcs-good : (names : Names) (script : Script) → AllKnown names script → (deeds : List Deed) (inside : Bool) (n f k : ℕ) → Right names inside n f k deeds → All (λ (g : Func). IsGoodCode script g.code) (funcs_in deeds)
+funcs-good names script known [] inside n f k r = All-none (λ (g : Func). IsGoodCode script g.code)
+funcs-good names script known (declares name what ∷ rest) inside n f k r = funcs-good names script known rest false (n + 1) f k r.4
+funcs-good names script known (opens name decl ∷ rest) inside n f k r =
+    All-cons (λ (g : Func). IsGoodCode script g.code) (func_of decl (code_in rest)) (funcs_in rest)
+    (code-good script (code_in rest) (ends names script known rest true (n + 1) (f + 1) k r.5 refl)) (funcs-good names script known rest true (n + 1) (f + 1) k r.5)
+funcs-good names script known (does i ∷ rest) inside n f k r = funcs-good names script known rest true n f (k + 1) r.3
+funcs-good names script known (closes ∷ rest) inside n f k r = funcs-good names script known rest false n f k r.1
+
+starts-by : (names : Names) (script : Script) → AllKnown names script → (what : What) → Starts names what → StartsRightly script what
+starts-by names script known What.Timer s = tt
+starts-by names script known (What.AfterFunc f) s = omega (arith, s.2, func-within script s.0.name s.0.declared (known s.0.name s.0.declared s.0.known) s.1)
+starts-by names script known What.Function s = absurd s
+
+starts-good : (names : Names) (script : Script) → AllKnown names script → (deeds : List Deed) (inside : Bool) (n f k : ℕ) → Right names inside n f k deeds → All (λ (d : Decl). StartsRightly script d.what) (decls_in deeds)
+starts-good names script known [] inside n f k r = All-none (λ (d : Decl). StartsRightly script d.what)
+starts-good names script known (declares name what ∷ rest) inside n f k r = All-cons (λ (d : Decl). StartsRightly script d.what) (decl_of name what) (decls_in rest) (starts-by names script known what r.3) (starts-good names script known rest false (n + 1) f k r.4)
+starts-good names script known (opens name decl ∷ rest) inside n f k r = All-cons (λ (d : Decl). StartsRightly script d.what) (decl_of name What.Function) (decls_in rest) tt (starts-good names script known rest true (n + 1) (f + 1) k r.5)
+starts-good names script known (does i ∷ rest) inside n f k r = starts-good names script known rest true n f (k + 1) r.3
+starts-good names script known (closes ∷ rest) inside n f k r = starts-good names script known rest false n f k r.1
+
+few-names : (names : Names) (deeds : List Deed) (inside : Bool) (n f k : ℕ) → Right names inside n f k deeds → n ≤ 4096 → n + length (decls_in deeds) ≤ 4096
+few-names names [] inside n f k r h = omega arith
+few-names names (declares name what ∷ rest) inside n f k r h = omega (arith, few-names names rest false (n + 1) f k r.4 (omega (arith, r.1)))
+few-names names (opens name decl ∷ rest) inside n f k r h = omega (arith, few-names names rest true (n + 1) (f + 1) k r.5 (omega (arith, r.1)))
+few-names names (does i ∷ rest) inside n f k r h = few-names names rest true n f (k + 1) r.3 h
+few-names names (closes ∷ rest) inside n f k r h = few-names names rest false n f k r.1 h
+
+few-functions : (names : Names) (deeds : List Deed) (inside : Bool) (n f k : ℕ) → Right names inside n f k deeds → f ≤ 256 → f + length (funcs_in deeds) ≤ 256
+few-functions names [] inside n f k r h = omega arith
+few-functions names (declares name what ∷ rest) inside n f k r h = few-functions names rest false (n + 1) f k r.4 h
+few-functions names (opens name decl ∷ rest) inside n f k r h = omega (arith, few-functions names rest true (n + 1) (f + 1) k r.5 (omega (arith, r.2)))
+few-functions names (does i ∷ rest) inside n f k r h = few-functions names rest true n f (k + 1) r.3 h
+few-functions names (closes ∷ rest) inside n f k r h = few-functions names rest false n f k r.1 h
+
+abbrev size_of : Func → ℕ
+size_of f = length f.code - 1
+
+-- how many instructions the function has that is open
+abbrev open_size : Bool → List Instr → ℕ
+open_size inside code = cond inside (length code - 1) 0
+
+few-instructions : (names : Names) (deeds : List Deed) (inside : Bool) (n f k : ℕ) → Right names inside n f k deeds → k ≤ 100000 → k + open_size inside (code_in deeds) + sum_by size_of (funcs_in deeds) ≤ 100000
+few-instructions names [] true n f k r h = cc
+few-instructions names [] false n f k r h = omega arith
+few-instructions names (declares name what ∷ rest) true n f k r h = let e = r.0 in cc
+few-instructions names (declares name what ∷ rest) false n f k r h = few-instructions names rest false (n + 1) f k r.4 h
+few-instructions names (opens name decl ∷ rest) true n f k r h = let e = r.0 in cc
+few-instructions names (opens name decl ∷ rest) false n f k r h =
+    omega (arith, few-instructions names rest true (n + 1) (f + 1) k r.5 h, sum_by-cons size_of (func_of decl (code_in rest)) (funcs_in rest))
+few-instructions names (does i ∷ rest) false n f k r h = let e = r.0 in cc
+few-instructions names (does i ∷ rest) true n f k r h = omega (arith, few-instructions names rest true n f (k + 1) r.3 (omega (arith, r.1)))
+few-instructions names (closes ∷ rest) false n f k r h = let e = r.0 in cc
+few-instructions names (closes ∷ rest) true n f k r h = omega (arith, few-instructions names rest false n f k r.1 h)
+
+pub deeds-good : (names : Names) (deeds : List Deed) (main : Declared) → names ≡ find (names_in 0 0 deeds) → Right names false 0 0 0 deeds
+    → names (codes "main") ≡ Some main → is_kind_function main.kind ≡ true → IsGood (script_in deeds main.func)
+deeds-good names deeds main are r is function =
+    let script : Script = script_in deeds main.func in
+    let places : Placed names 0 0 deeds = placed names deeds are r in
+    let known : AllKnown names script = λ q d e. knows-found deeds main.func q d (found names deeds false 0 0 0 r places q d (sym (ap (λ (m : Names). m q) are) ∙ e)) in
+    record {
+      main = func-name script (codes "main") main (known (codes "main") main is) function;
+      names = has_names names deeds r places;
+      starts = starts-good names script known deeds false 0 0 0 r;
+      functions = functions_are names deeds false 0 0 0 r places;
+      code = funcs-good names script known deeds false 0 0 0 r;
+      few_names = omega (arith, few-names names deeds false 0 0 0 r (omega arith));
+      few_functions = omega (arith, few-functions names deeds false 0 0 0 r (omega arith));
+      few_instructions = omega (arith, few-instructions names deeds false 0 0 0 r (omega arith));
+    }

@@ -1,0 +1,123 @@
+-- What a line does fits where it stands, and refers to what is declared.
+use Rattle.std.proofs.Common.{◌≡◌, ℕ, ◌≤◌, Bool, true, false, not, cond, List, Option, Some, None, IfSome, Result, Ok, Err, refl, sym, ap, subst, ◌∙◌, arith, codes, leb, eqb, length}
+use Rattle.std.specs.Option.{option_map, option_and_then}
+use Rattle.std.specs.Result.{result_ok}
+use Rattle.std.specs.Str.{bytes_eq, is_utf8}
+use Rattle.std.proofs.lemmas.Bool.{leb-true, cond_both}
+use Rattle.gt_model.specs.declared.script.What.{What}
+use Rattle.gt_model.specs.Times.{greatest_time}
+use Rattle.gt_dur.specs.declared.fault.DurFault.{DurFault}
+use Rattle.gt_dur.specs.Duration.{read_of, capped, outcome_of, begins_with_digit, unmet_place, nanoseconds_of}
+use Rattle.gt_table.specs.declared.form.Arg.{Arg}
+use Rattle.gt_table.specs.declared.form.Kind.{Kind}
+use Rattle.gt_table.specs.declared.form.Role.{Role}
+use Rattle.gt_table.specs.declared.form.Step.{Step}
+use Rattle.gt_table.specs.declared.table.Keyword.{Keyword}
+use Rattle.gt_table.specs.Forms.{is_kind_function, is_kind_timer}
+use Rattle.gt_table.specs.Table.{form_of, step_of}
+use Rattle.gt_names.specs.declared.names.Declared.{Declared}
+use Rattle.gt_names.specs.Names.{Names, is_free_name}
+use Rattle.gt_grammar.specs.Duration.{duration_of}
+use Rattle.gt_grammar.specs.Statements.{timer_place, setting_place, function_place, value_of}
+use Rattle.gt_grammar.proofs.Rightly.{kind_in, Ref, Refers, Starts}
+
+-- ---- a duration is at most the greatest time
+
+capped-most : (n : ℕ) → IfSome (result_ok (capped n)) (λ d. d ≤ greatest_time)
+capped-most n = cond_both (leb n greatest_time) (Ok n) (Err DurFault.Big) (λ r. IfSome (result_ok r) (λ d. d ≤ greatest_time)) (λ e. leb-true n greatest_time e) (λ e. tt)
+
+outcome-most : (o : Option ℕ) (n : ℕ) → IfSome (result_ok (outcome_of o n)) (λ d. d ≤ greatest_time)
+outcome-most None n = capped-most n
+outcome-most (Some at) n = tt
+
+IfSome-if : {X : Type 0} (b : Bool) (r s : Result ℕ X) (P : ℕ → Type 0) → IfSome (result_ok r) P → IfSome (result_ok s) P → IfSome (result_ok (cond b r s)) P
+IfSome-if true r s P h k = h
+IfSome-if false r s P h k = k
+
+read-most : (text : List ℕ) → IfSome (result_ok (read_of text)) (λ d. d ≤ greatest_time)
+read-most text =
+    IfSome-if (eqb (length text) 0) (Err DurFault.Empty) (cond (bytes_eq text (codes "0")) (Ok 0) (cond (begins_with_digit text) (outcome_of (unmet_place text) (nanoseconds_of text)) (Err DurFault.Digit))) (λ d. d ≤ greatest_time) tt
+    (IfSome-if (bytes_eq text (codes "0")) (Ok 0) (cond (begins_with_digit text) (outcome_of (unmet_place text) (nanoseconds_of text)) (Err DurFault.Digit)) (λ d. d ≤ greatest_time) (omega arith)
+    (IfSome-if (begins_with_digit text) (outcome_of (unmet_place text) (nanoseconds_of text)) (Err DurFault.Digit) (λ d. d ≤ greatest_time) (outcome-most (unmet_place text) (nanoseconds_of text)) tt))
+
+some-most : (b : Bool) (o : Option ℕ) → IfSome o (λ d. d ≤ greatest_time) → IfSome (cond b o None) (λ d. d ≤ greatest_time)
+some-most true o h = h
+some-most false o h = tt
+
+pub duration-most : (word : List ℕ) → IfSome (duration_of word) (λ d. d ≤ greatest_time)
+duration-most word = some-most (is_utf8 word) (result_ok (read_of word)) (read-most word)
+
+duration-value : (word : List ℕ) (d : ℕ) → duration_of word ≡ Some d → d ≤ greatest_time
+duration-value word d e = let P : Option ℕ → Type 0 = λ o. IfSome o (λ n. n ≤ greatest_time) in subst P e (duration-most word)
+
+-- ---- names are declared as such
+
+if-Some : (b : Bool) (x v : ℕ) → cond b (Some x) None ≡ Some v → (b ≡ true) × (v ≡ x)
+if-Some true x v h = let e : v ≡ x = cc in (refl, e)
+if-Some false x v h = cc
+
+if-None : (b : Bool) (x v : ℕ) → cond b None (Some x) ≡ Some v → (b ≡ false) × (v ≡ x)
+if-None false x v h = let e : v ≡ x = cc in (refl, e)
+if-None true x v h = cc
+
+abbrev ref : (names : Names) (q : List ℕ) (d : Declared) → names q ≡ Some d → Ref names
+ref names q d h = record { name = q; declared = d; known = h }
+
+timer-by : (names : Names) (q : List ℕ) (v : ℕ) (o : Option Declared) → names q ≡ o → option_and_then timer_place o ≡ Some v → (r : Ref names) × (is_kind_timer r.declared.kind ≡ true) × (v ≡ r.declared.place)
+timer-by names q v None e h = cc
+timer-by names q v (Some d) e h = let both = if-Some (is_kind_timer d.kind) d.place v h in (ref names q d e, both.0, both.1)
+
+setting-by : (names : Names) (q : List ℕ) (v : ℕ) (o : Option Declared) → names q ≡ o → option_and_then setting_place o ≡ Some v → (r : Ref names) × (is_kind_function r.declared.kind ≡ false) × (v ≡ r.declared.place)
+setting-by names q v None e h = cc
+setting-by names q v (Some d) e h = let both = if-None (is_kind_function d.kind) d.place v h in (ref names q d e, both.0, both.1)
+
+function-by : (names : Names) (q : List ℕ) (v : ℕ) (o : Option Declared) → names q ≡ o → option_and_then function_place o ≡ Some v → (r : Ref names) × (is_kind_function r.declared.kind ≡ true) × (v ≡ r.declared.func)
+function-by names q v None e h = cc
+function-by names q v (Some d) e h = let both = if-Some (is_kind_function d.kind) d.func v h in (ref names q d e, both.0, both.1)
+
+-- a new name is spelled rightly, and declared
+pub record IsFree (names : Names) (q : List ℕ) (v : ℕ) : Type 0 where
+  pub free : is_free_name q ≡ true
+  pub declared : Declared
+  pub known : names q ≡ Some declared
+  pub place : v ≡ declared.place
+
+free-by : (names : Names) (q : List ℕ) (v : ℕ) (b : Bool) (o : Option Declared) → is_free_name q ≡ b → names q ≡ o → cond b (option_map (λ (d : Declared). d.place) o) None ≡ Some v → IsFree names q v
+free-by names q v false o f e h = cc
+free-by names q v true None f e h = cc
+free-by names q v true (Some d) f e h = let same : v ≡ d.place = cc in record { free = f; declared = d; known = e; place = same }
+
+pub new-value : (names : Names) (q : List ℕ) (v : ℕ) → value_of names Arg.NewName q ≡ Some v → IsFree names q v
+new-value names q v h = free-by names q v (is_free_name q) (names q) refl refl h
+
+-- ---- each keyword
+
+-- what a line with this role and this first argument, of this value, may do
+abbrev pub FitsRole : Names → Role → Arg → ℕ → Step → Type 0
+FitsRole names (Role.Declares kind) arg a (Step.Declare what) = (arg ≡ Arg.NewName) × (kind ≡ kind_in what) × Starts names what
+FitsRole names (Role.Declares kind) arg a (Step.Open decl) = (arg ≡ Arg.NewName) × (kind ≡ Kind.Function) × (decl ≡ a)
+FitsRole names (Role.Declares kind) arg a (Step.Do instr) = ⊥
+FitsRole names (Role.Declares kind) arg a Step.Close = ⊥
+FitsRole names Role.Closes arg a (Step.Declare what) = ⊥
+FitsRole names Role.Closes arg a (Step.Open decl) = ⊥
+FitsRole names Role.Closes arg a (Step.Do instr) = ⊥
+FitsRole names Role.Closes arg a Step.Close = Unit {0}
+FitsRole names Role.Acts arg a (Step.Declare what) = ⊥
+FitsRole names Role.Acts arg a (Step.Open decl) = ⊥
+FitsRole names Role.Acts arg a (Step.Do instr) = Refers names instr
+FitsRole names Role.Acts arg a Step.Close = ⊥
+
+pub fits : (names : Names) (k : Keyword) (w u : List ℕ) (a b : ℕ) → value_of names (form_of k).first w ≡ Some a → value_of names (form_of k).second u ≡ Some b
+    → FitsRole names (form_of k).role (form_of k).first a (step_of k a b)
+fits names Keyword.Timer w u a b first second = (refl, refl, tt)
+fits names Keyword.AfterFunc w u a b first second = (refl, refl, function-by names u b (names u) refl second)
+fits names Keyword.Func w u a b first second = (refl, refl, refl)
+fits names Keyword.End w u a b first second = tt
+fits names Keyword.Say w u a b first second = tt
+fits names Keyword.Now w u a b first second = tt
+fits names Keyword.Sleep w u a b first second = duration-value w a first
+fits names Keyword.Go w u a b first second = function-by names w a (names w) refl first
+fits names Keyword.New w u a b first second = let r = setting-by names w a (names w) refl first in (r.0, r.1, r.2, duration-value u b second)
+fits names Keyword.Stop w u a b first second = setting-by names w a (names w) refl first
+fits names Keyword.Reset w u a b first second = let r = setting-by names w a (names w) refl first in (r.0, r.1, r.2, duration-value u b second)
+fits names Keyword.Recv w u a b first second = timer-by names w a (names w) refl first

@@ -1,0 +1,317 @@
+-- A script that a text spells is good.
+use Rattle.std.proofs.Common.{◌≡◌, ℕ, ◌+◌, ◌<◌, Bool, true, false, not, cond, ◌&&◌, ◌||◌, List, [], ◌∷◌, ◌++◌, Option, None, Some, Result, Ok, Err, OnOk, IfOk, refl, sym, ap, subst, ◌∙◌, arith, codes, leb, ltb}
+use Rattle.std.specs.Option.{option_map, option_and_then, option_to_list}
+use Rattle.std.specs.Str.{bytes_eq}
+use Rattle.std.proofs.lemmas.Slice.Eq.{bytes_eq-Decides}
+use Rattle.std.proofs.lemmas.Bool.{leb-false, not-false, and_parts}
+use Rattle.gt_model.specs.declared.script.Script.{Script}
+use Rattle.gt_model.specs.declared.script.What.{What}
+use Rattle.gt_model.specs.declared.script.Instr.{Instr}
+use Rattle.gt_model.specs.Good.{IsGood}
+use Rattle.gt_lines.specs.Words.{Words, NumberedLine, next, is_end}
+use Rattle.gt_table.specs.declared.form.Arg.{Arg}
+use Rattle.gt_table.specs.declared.form.Kind.{Kind}
+use Rattle.gt_table.specs.declared.form.Role.{Role}
+use Rattle.gt_table.specs.declared.form.Step.{Step}
+use Rattle.gt_table.specs.declared.table.Keyword.{Keyword}
+use Rattle.gt_table.specs.Forms.{declared_kind, is_wanted, is_kind_function, is_declaration as is_declaring, closes as closes_role}
+use Rattle.gt_table.specs.Table.{keyword_of, form_of}
+use Rattle.gt_names.specs.declared.names.Declared.{Declared}
+use Rattle.gt_names.specs.Names.{Names, Naming, naming, is_free_name, kind_of, named, naming_of, functions_with, Declaration, declaration, declarations_from, find, names_of}
+use Rattle.gt_grammar.specs.declared.fault.Why.{Why}
+use Rattle.gt_grammar.specs.declared.progress.Progress.{Progress}
+use Rattle.gt_grammar.specs.Statements.{Command, command, command_by, command_with, command_of, statement_of, value_of, is_head}
+use Rattle.gt_grammar.specs.Deeds.{Deed, declares, opens, does, closes, deed_of, deed_with, deed_at, deeds_of, func_place, script_in, script_with, script_of}
+use Rattle.gt_grammar.specs.Faults.{Test, test, stands, is_before, is_function, progress_after, progress_with, brings_too_many, lacks_main, fault_from, fault_in_lines, head_cause, no_progress}
+use Rattle.gt_grammar.proofs.Rightly.{kind_in, place_of, is_declared_before, naming_as, names_in, Refers, Starts, IsNew, Right}
+use Rattle.gt_grammar.proofs.DeedsGood.{deeds-good}
+use Rattle.gt_grammar.proofs.Fits.{FitsRole, IsFree, new-value}
+use Rattle.gt_grammar.proofs.RightLines.{first-None, Doing, doing, AllRight, all_right, fault_or-None}
+
+-- ---- what a line declares, by its command
+
+-- the first word of a command is the word behind the keyword, if one is wanted
+abbrev FirstIs : Bool → Words → List ℕ → Type 0
+FirstIs false words first = first ≡ []
+FirstIs true [] first = ⊥
+FirstIs true (word ∷ words) first = first ≡ word
+
+record CommandIs (k : Keyword) (wanted : Bool) (words : Words) (c : Command) : Type 0 where
+  keyword : c.keyword ≡ k
+  first : FirstIs wanted words c.first
+
+command-is : (k : Keyword) (first second : List ℕ) (c : Command) → Some (command k first second) ≡ Some c → (c.keyword ≡ k) × (c.first ≡ first)
+command-is k first second c h = let same : c ≡ command k first second = cc in (ap (λ (d : Command). d.keyword) same, ap (λ (d : Command). d.first) same)
+
+with-words : (k : Keyword) (x y : Bool) (words : Words) (c : Command) → command_by k x y words ≡ Some c → CommandIs k x words c
+with-words k false false [] c h = let e = command-is k [] [] c h in record { keyword = e.0; first = e.1 }
+with-words k false false (w ∷ ws) c h = cc
+with-words k false true [] c h = cc
+with-words k false true (w ∷ []) c h = let e = command-is k [] w c h in record { keyword = e.0; first = e.1 }
+with-words k false true (w ∷ v ∷ ws) c h = cc
+with-words k true false [] c h = cc
+with-words k true false (w ∷ []) c h = let e = command-is k w [] c h in record { keyword = e.0; first = e.1 }
+with-words k true false (w ∷ v ∷ ws) c h = cc
+with-words k true true [] c h = cc
+with-words k true true (w ∷ []) c h = cc
+with-words k true true (w ∷ v ∷ []) c h = let e = command-is k w v c h in record { keyword = e.0; first = e.1 }
+with-words k true true (w ∷ v ∷ u ∷ ws) c h = cc
+
+abbrev role_in : Keyword → Role
+role_in k = (form_of k).role
+
+abbrev kind_by : Option Keyword → Option Kind
+kind_by o = option_and_then (λ (k : Keyword). declared_kind (role_in k)) o
+
+abbrev naming_by : Option Keyword → Words → Option Naming
+naming_by o [] = None
+naming_by o (name ∷ words) = named name (kind_by o)
+
+cond-None : {X : Type 0} (b : Bool) → cond {A = Option X} b None None ≡ None
+cond-None true = refl
+cond-None false = refl
+
+named-none : (word : List ℕ) → named word None ≡ None
+named-none word = cond-None (is_free_name word)
+
+naming-first : (kind : Option Kind) (wanted : Bool) (o : Option Keyword) (words : Words) (first : List ℕ) → kind_by o ≡ kind → (wanted ≡ false → kind ≡ None) → FirstIs wanted words first → naming_by o words ≡ named first kind
+naming-first kind false o [] first e none is = sym (ap (λ w. named w kind) is ∙ first-none kind)
+  where
+    first-none : (k : Option Kind) → named [] k ≡ None
+    first-none None = refl
+    first-none (Some k) = refl
+naming-first kind false o (word ∷ words) first e none is =
+    ap (named word) (e ∙ none refl) ∙ named-none word ∙ sym (ap (named first) (none refl) ∙ named-none first)
+naming-first kind true o [] first e none is = absurd is
+naming-first kind true o (word ∷ words) first e none is = ap (named word) e ∙ ap (λ w. named w kind) (sym is)
+
+naming-command : (o : Option Keyword) (words : Words) (c : Command) → option_and_then (λ (k : Keyword). command_with k words) o ≡ Some c → (is_wanted (form_of c.keyword).first ≡ false → declared_kind (role_in c.keyword) ≡ None) → naming_by o words ≡ named c.first (declared_kind (role_in c.keyword))
+naming-command None words c h none = cc
+naming-command (Some k) words c h none =
+    let is : CommandIs k (is_wanted (form_of k).first) words c = with-words k (is_wanted (form_of k).first) (is_wanted (form_of k).second) words c h in
+    let P : Keyword → Type 0 = λ x. FirstIs (is_wanted (form_of x).first) words c.first in
+    naming-first (declared_kind (role_in c.keyword)) (is_wanted (form_of c.keyword).first) (Some k) words c.first (ap (λ x. declared_kind (role_in x)) (sym is.keyword)) none (subst P (sym is.keyword) is.first)
+
+naming-words : (word : List ℕ) (words : Words) → naming_of (word ∷ words) ≡ naming_by (keyword_of word) words
+naming-words word [] = refl
+naming-words word (name ∷ words) = refl
+
+naming-is : (words : Words) (c : Command) → command_of words ≡ Some c → (is_wanted (form_of c.keyword).first ≡ false → declared_kind (role_in c.keyword) ≡ None) → naming_of words ≡ named c.first (declared_kind (role_in c.keyword))
+naming-is [] c h none = cc
+naming-is (word ∷ words) c h none = naming-words word words ∙ naming-command (keyword_of word) words c h none
+
+-- a line that declares wants a name
+wants-name : (names : Names) (role : Role) (arg : Arg) (a : ℕ) (step : Step) → FitsRole names role arg a step → is_wanted arg ≡ false → declared_kind role ≡ None
+wants-name names (Role.Declares kind) arg a (Step.Declare what) f h = let e : is_wanted arg ≡ true = ap is_wanted f.0 in cc
+wants-name names (Role.Declares kind) arg a (Step.Open decl) f h = let e : is_wanted arg ≡ true = ap is_wanted f.0 in cc
+wants-name names (Role.Declares kind) arg a (Step.Do instr) f h = absurd f
+wants-name names (Role.Declares kind) arg a Step.Close f h = absurd f
+wants-name names Role.Closes arg a step f h = refl
+wants-name names Role.Acts arg a step f h = refl
+
+-- ---- what lines with nothing wrong do
+
+record Done (names : Names) (p : Progress) (lines : List NumberedLine) : Type 0 where
+  are : declarations_from p.names p.functions lines ≡ names_in p.names p.functions (deeds_of names lines)
+  right : Right names p.inside p.names p.functions p.instructions (deeds_of names lines)
+
+next-is : (n : ℕ) → n < 4096 → next n ≡ n + 1
+next-is n h = omega arith
+
+abbrev declared_by : ℕ → ℕ → List NumberedLine → Option Naming → List Declaration
+declared_by n f lines o = elim o [
+  | None ↦ declarations_from n f lines
+  | Some m ↦ declaration m n f ∷ declarations_from (next n) (functions_with m.kind f) lines
+]
+
+abbrev progress : Bool → ℕ → ℕ → ℕ → Progress
+progress inside n f k = record { inside = inside; names = n; functions = f; instructions = k }
+
+abbrev with_deed : Option Deed → List Deed → List Deed
+with_deed o deeds = option_to_list o ++ deeds
+
+-- the line does this deed, and declares this
+record Says (names : Names) (line : NumberedLine) (deed : Deed) (naming : Option Naming) : Type 0 where
+  deed_is : deed_at names line ≡ Some deed
+  naming_is : naming_of line.words ≡ naming
+
+by-deed : (names : Names) (p : Progress) (line : NumberedLine) (rest : List NumberedLine) (deed : Deed) (naming : Option Naming) → Says names line deed naming
+    → declared_by p.names p.functions rest naming ≡ names_in p.names p.functions (deed ∷ deeds_of names rest)
+    → Right names p.inside p.names p.functions p.instructions (deed ∷ deeds_of names rest) → Done names p (line ∷ rest)
+by-deed names p line rest deed naming says are right =
+    let deeds : deeds_of names (line ∷ rest) ≡ deed ∷ deeds_of names rest = ap (λ o. with_deed o (deeds_of names rest)) says.deed_is in
+    record {
+      are = ap (declared_by p.names p.functions rest) says.naming_is ∙ are ∙ ap (names_in p.names p.functions) (sym deeds);
+      right = subst (Right names p.inside p.names p.functions p.instructions) (sym deeds) right;
+    }
+
+starts-functions : (names : Names) (what : What) (f : ℕ) → Starts names what → functions_with (kind_in what) f ≡ f
+starts-functions names What.Timer f s = refl
+starts-functions names (What.AfterFunc g) f s = refl
+starts-functions names What.Function f s = absurd s
+
+done-declares : (names : Names) (inside : Bool) (n f k : ℕ) (line : NumberedLine) (rest : List NumberedLine) (name : List ℕ) (what : What) → Says names line (declares name what) (Some (naming_as name (kind_in what))) → not inside ≡ true → n < 4096 → IsNew names name n → Starts names what → Done names (progress inside (n + 1) f k) rest → Done names (progress inside n f k) (line ∷ rest)
+done-declares names true n f k line rest name what says here room new starts ih = cc
+done-declares names false n f k line rest name what says here room new starts ih =
+    let x : Naming = naming_as name (kind_in what) in
+    by-deed names (progress false n f k) line rest (declares name what) (Some x) says
+    (ap (λ m. declaration x n f ∷ declarations_from m (functions_with (kind_in what) f) rest) (next-is n room)
+    ∙ ap (λ m. declaration x n f ∷ declarations_from (n + 1) m rest) (starts-functions names what f starts)
+    ∙ ap (λ ds. declaration x n f ∷ ds) ih.are)
+    (refl, room, new, starts, ih.right)
+
+done-opens : (names : Names) (inside : Bool) (n f k : ℕ) (line : NumberedLine) (rest : List NumberedLine) (name : List ℕ) (decl : ℕ) → Says names line (opens name decl) (Some (naming_as name Kind.Function)) → not inside ≡ true → n < 4096 → f < 256 → IsNew names name n → decl ≡ place_of (names name) → Done names (progress true (n + 1) (f + 1) k) rest → Done names (progress inside n f k) (line ∷ rest)
+done-opens names true n f k line rest name decl says here room few new place ih = cc
+done-opens names false n f k line rest name decl says here room few new place ih =
+    let x : Naming = naming_as name Kind.Function in
+    by-deed names (progress false n f k) line rest (opens name decl) (Some x) says
+    (ap (λ m. declaration x n f ∷ declarations_from m (next f) rest) (next-is n room)
+    ∙ ap (λ m. declaration x n f ∷ declarations_from (n + 1) m rest) (next-is f (omega arith))
+    ∙ ap (λ ds. declaration x n f ∷ ds) ih.are)
+    (refl, room, few, new, place, ih.right)
+
+done-does : (names : Names) (inside : Bool) (n f k : ℕ) (line : NumberedLine) (rest : List NumberedLine) (i : Instr) → Says names line (does i) None → inside ≡ true → k < 100000 → Refers names i → Done names (progress inside n f (k + 1)) rest → Done names (progress inside n f k) (line ∷ rest)
+done-does names false n f k line rest i says here room refers ih = cc
+done-does names true n f k line rest i says here room refers ih =
+    by-deed names (progress true n f k) line rest (does i) None says ih.are (refl, room, refers, ih.right)
+
+done-closes : (names : Names) (inside : Bool) (n f k : ℕ) (line : NumberedLine) (rest : List NumberedLine) → Says names line closes None → not inside ≡ false → Done names (progress false n f k) rest → Done names (progress inside n f k) (line ∷ rest)
+done-closes names false n f k line rest says here ih = cc
+done-closes names true n f k line rest says here ih = by-deed names (progress true n f k) line rest closes None says ih.are (refl, ih.right)
+
+or-first : (a b : Bool) → (a || b) ≡ false → a ≡ false
+or-first true b h = cc
+or-first false b h = refl
+
+or-second : (a b : Bool) → (a || b) ≡ false → b ≡ false
+or-second true b h = cc
+or-second false b h = h
+
+new-name : (names : Names) (name : List ℕ) (n a : ℕ) → IsFree names name a → ltb a n ≡ false → IsNew names name n
+new-name names name n a free late = record {
+  free = free.free;
+  first = ap (is_declared_before n) free.known ∙ ap (λ x. ltb x n) (sym free.place) ∙ late;
+}
+
+new-place : (names : Names) (name : List ℕ) (decl a : ℕ) → IsFree names name a → decl ≡ a → decl ≡ place_of (names name)
+new-place names name decl a free e = e ∙ free.place ∙ ap place_of (sym free.known)
+
+as-new : (names : Names) (arg : Arg) (name : List ℕ) (a : ℕ) → arg ≡ Arg.NewName → value_of names arg name ≡ Some a → IsFree names name a
+as-new names arg name a e h = new-value names name a (ap (λ x. value_of names x name) (sym e) ∙ h)
+
+naming-free : (name : List ℕ) (kind : Kind) → is_free_name name ≡ true → named name (Some kind) ≡ Some (naming_as name kind)
+naming-free name kind h = ap (λ b. cond b (Some (naming_as name kind)) None) h
+
+-- the deed of a line, and what it declares
+says : (names : Names) (line : NumberedLine) (name : List ℕ) (kind : Option Kind) (step : Step) (naming : Option Naming) → deed_at names line ≡ Some (deed_of name step) → naming_of line.words ≡ named name kind → named name kind ≡ naming → Says names line (deed_of name step) naming
+says names line name kind step naming d n e = record { deed_is = d; naming_is = n ∙ e }
+
+done-role : (names : Names) (inside : Bool) (n f k : ℕ) (line : NumberedLine) (rest : List NumberedLine) (name : List ℕ) (role : Role) (arg : Arg) (a : ℕ) (step : Step)
+    → deed_at names line ≡ Some (deed_of name step) → naming_of line.words ≡ named name (declared_kind role) → value_of names arg name ≡ Some a
+    → stands inside role ≡ true → (is_declaring role && ltb a n) ≡ false → (closes_role role && not inside) ≡ false → brings_too_many (progress inside n f k) role ≡ false
+    → FitsRole names role arg a step → Done names (progress_with (progress inside n f k) role) rest → Done names (progress inside n f k) (line ∷ rest)
+done-role names inside n f k line rest name (Role.Declares Kind.Timer) arg a (Step.Declare What.Timer) d m v here late nested room fit ih =
+    let free : IsFree names name a = as-new names arg name a fit.0 v in
+    done-declares names inside n f k line rest name What.Timer (says names line name (Some Kind.Timer) (Step.Declare What.Timer) (Some (naming_as name Kind.Timer)) d m (naming-free name Kind.Timer free.free))
+    here (leb-false 4096 n (or-first (leb 4096 n) false (or-first (leb 4096 n || false) false room))) (new-name names name n a free late) tt ih
+done-role names inside n f k line rest name (Role.Declares Kind.AfterFunc) arg a (Step.Declare (What.AfterFunc g)) d m v here late nested room fit ih =
+    let free : IsFree names name a = as-new names arg name a fit.0 v in
+    done-declares names inside n f k line rest name (What.AfterFunc g) (says names line name (Some Kind.AfterFunc) (Step.Declare (What.AfterFunc g)) (Some (naming_as name Kind.AfterFunc)) d m (naming-free name Kind.AfterFunc free.free))
+    here (leb-false 4096 n (or-first (leb 4096 n) false (or-first (leb 4096 n || false) false room))) (new-name names name n a free late) fit.2 ih
+done-role names inside n f k line rest name (Role.Declares Kind.Function) arg a (Step.Open decl) d m v here late nested room fit ih =
+    let free : IsFree names name a = as-new names arg name a fit.0 v in
+    let full = or-first (leb 4096 n || leb 256 f) false room in
+    done-opens names inside n f k line rest name decl (says names line name (Some Kind.Function) (Step.Open decl) (Some (naming_as name Kind.Function)) d m (naming-free name Kind.Function free.free))
+    here (leb-false 4096 n (or-first (leb 4096 n) (leb 256 f) full)) (leb-false 256 f (or-second (leb 4096 n) (leb 256 f) full)) (new-name names name n a free late) (new-place names name decl a free fit.2) ih
+done-role names inside n f k line rest name Role.Closes arg a Step.Close d m v here late nested room fit ih =
+    done-closes names inside n f k line rest (says names line name None Step.Close None d m (named-none name)) nested ih
+done-role names inside n f k line rest name Role.Acts arg a (Step.Do instr) d m v here late nested room fit ih =
+    done-does names inside n f k line rest instr (says names line name None (Step.Do instr) None d m (named-none name)) here (leb-false 100000 k room) fit ih
+done-role names inside n f k line rest name (Role.Declares Kind.Timer) arg a (Step.Declare (What.AfterFunc g)) d m v here late nested room fit ih = let e = fit.1 in cc
+done-role names inside n f k line rest name (Role.Declares Kind.Timer) arg a (Step.Declare What.Function) d m v here late nested room fit ih = absurd fit.2
+done-role names inside n f k line rest name (Role.Declares Kind.AfterFunc) arg a (Step.Declare What.Timer) d m v here late nested room fit ih = let e = fit.1 in cc
+done-role names inside n f k line rest name (Role.Declares Kind.AfterFunc) arg a (Step.Declare What.Function) d m v here late nested room fit ih = absurd fit.2
+done-role names inside n f k line rest name (Role.Declares Kind.Function) arg a (Step.Declare What.Timer) d m v here late nested room fit ih = let e = fit.1 in cc
+done-role names inside n f k line rest name (Role.Declares Kind.Function) arg a (Step.Declare (What.AfterFunc g)) d m v here late nested room fit ih = let e = fit.1 in cc
+done-role names inside n f k line rest name (Role.Declares Kind.Function) arg a (Step.Declare What.Function) d m v here late nested room fit ih = absurd fit.2
+done-role names inside n f k line rest name (Role.Declares Kind.Timer) arg a (Step.Open decl) d m v here late nested room fit ih = let e = fit.1 in cc
+done-role names inside n f k line rest name (Role.Declares Kind.AfterFunc) arg a (Step.Open decl) d m v here late nested room fit ih = let e = fit.1 in cc
+done-role names inside n f k line rest name role arg a step d m v here late nested room fit ih = absurd fit
+
+abbrev progress_by : Progress → Option Command → Progress
+progress_by p o = elim o [ None ↦ p | Some c ↦ progress_with p (role_in c.keyword) ]
+
+late-is : (names : Names) (role : Role) (n a : ℕ) (o : Option ℕ) → o ≡ Some a → (is_declaring role && is_before n o) ≡ false → (is_declaring role && ltb a n) ≡ false
+late-is names role n a o e h = ap (λ x. is_declaring role && is_before n x) (sym e) ∙ h
+
+done : (names : Names) (p : Progress) (lines : List NumberedLine) → AllRight names p lines → Done names p lines
+done names p [] out = record { are = refl; right = out }
+done names p (line ∷ lines) r =
+    let c : Command = r.0.c in
+    let P : Progress → Type 0 = λ q. Done names q lines in
+    let ih : Done names (progress_with p (role_in c.keyword)) lines = subst P (ap (progress_by p) r.0.is) (done names (progress_after p line) lines r.1) in
+    let right = r.0.right in
+    let what : Doing names c = doing names c right.names right.counts in
+    done-role names p.inside p.names p.functions p.instructions line lines c.first (role_in c.keyword) (form_of c.keyword).first what.first what.step
+    (ap (option_and_then (deed_with names)) r.0.is ∙ ap (option_map (deed_of c.first)) what.step_is)
+    (naming-is line.words c r.0.is (wants-name names (role_in c.keyword) (form_of c.keyword).first what.first what.step what.fits))
+    what.first_is right.stands_here
+    (late-is names (role_in c.keyword) p.names what.first (value_of names (form_of c.keyword).first c.first) what.first_is right.first)
+    right.nested right.room what.fits ih
+
+-- `main` is a function
+and-right : (a b : Bool) → a ≡ true → (a && not b) ≡ false → b ≡ true
+and-right true true e h = refl
+and-right true false e h = cc
+and-right false b e h = cc
+
+main-body : (names : Names) (p : Progress) (lines : List NumberedLine) → AllRight names p lines → (is_end lines ≡ true → is_function (names (codes "main")) ≡ true) → is_function (names (codes "main")) ≡ true
+main-body names p [] r h = h refl
+main-body names p (line ∷ lines) r h =
+    main-body names (progress_after p line) lines r.1 (λ e. and-right (is_end lines) (is_function (names (codes "main"))) e r.0.right.main)
+
+-- what is declared as a function
+record Main (o : Option Declared) : Type 0 where
+  declared : Declared
+  is : o ≡ Some declared
+  function : is_kind_function declared.kind ≡ true
+
+main-by : (o : Option Declared) → is_function o ≡ true → Main o
+main-by None h = cc
+main-by (Some d) h = record { declared = d; is = refl; function = h }
+
+-- the head declares nothing
+head-naming : (words : Words) → is_head words ≡ true → naming_of words ≡ None
+head-naming [] h = cc
+head-naming (a ∷ []) h = refl
+head-naming (a ∷ b ∷ []) h = cc
+head-naming (a ∷ b ∷ c ∷ d ∷ more) h = cc
+head-naming (a ∷ b ∷ c ∷ []) h =
+    let parts = and_parts (bytes_eq a (codes "gotime") && bytes_eq b (codes "script")) (bytes_eq c (codes "1")) h in
+    let first = and_parts (bytes_eq a (codes "gotime")) (bytes_eq b (codes "script")) parts.0 in
+    let same : a ≡ codes "gotime" = (bytes_eq-Decides a (codes "gotime")).0 first.0 in
+    ap (λ (w : List ℕ). named b (kind_of w)) same ∙ named-none b
+
+script-good : (names : Names) (lines : List NumberedLine) → Done names no_progress lines → names ≡ find (declarations_from 0 0 lines) → is_function (names (codes "main")) ≡ true → IsGood (script_with names lines)
+script-good names lines d are main =
+    let found : Main (names (codes "main")) = main-by (names (codes "main")) main in
+    let place : found.declared.func ≡ func_place (names (codes "main")) = sym (ap func_place found.is) in
+    subst IsGood (ap (script_in (deeds_of names lines)) place) (deeds-good names (deeds_of names lines) found.declared (are ∙ ap find d.are) d.right found.is found.function)
+
+-- lines with no fault make a good script
+pub lines-good : (all : List NumberedLine) → fault_in_lines all ≡ None → IsGood (script_of all)
+lines-good [] h = cc
+lines-good (head ∷ lines) h =
+    let names : Names = names_of (head ∷ lines) in
+    let both = fault_or-None (head_cause names (is_end lines) head) head.number (fault_from names no_progress lines) h in
+    let first = first-None (not (is_head head.words)) Why.Head (test (lacks_main names (is_end lines)) Why.NoMain ∷ []) both.0 in
+    let second = first-None (lacks_main names (is_end lines)) Why.NoMain [] first.1 in
+    let right : AllRight names no_progress lines = all_right names no_progress lines (λ e. refl) both.1 in
+    let are : names ≡ find (declarations_from 0 0 lines) = ap (λ o. find (declared_by 0 0 lines o)) (head-naming head.words (not-false (is_head head.words) first.0)) in
+    script-good names lines (done names no_progress lines right) are
+    (main-body names no_progress lines right (λ e. and-right (is_end lines) (is_function (names (codes "main"))) e second.0))
+
+-- what is read is good
+pub good-read : {E : Type 0} (r : Result Script E) (lines : List NumberedLine) → OnOk r (fault_in_lines lines ≡ None) → IfOk r (λ script. script ≡ script_of lines) → IfOk r (λ script. IsGood script)
+good-read (Err e) lines h k = tt
+good-read (Ok script) lines h k = subst IsGood (sym k) (lines-good lines h)

@@ -1,0 +1,6 @@
+pub mod Rightly
+pub mod DeedNames
+pub mod DeedsGood
+pub mod Fits
+pub mod RightLines
+pub mod Good

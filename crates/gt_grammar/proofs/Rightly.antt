@@ -1,0 +1,71 @@
+-- When the deeds of lines follow one another rightly.
+use Rattle.std.proofs.Common.{◌≡◌, ℕ, ◌+◌, ◌<◌, ◌≤◌, Bool, true, false, List, [], ◌∷◌, Option, None, Some, ltb}
+use Rattle.gt_model.specs.declared.script.What.{What}
+use Rattle.gt_model.specs.declared.script.Instr.{Instr}
+use Rattle.gt_model.specs.Times.{greatest_time}
+use Rattle.gt_table.specs.declared.form.Kind.{Kind}
+use Rattle.gt_table.specs.Forms.{is_kind_function, is_kind_timer}
+use Rattle.gt_names.specs.declared.names.Declared.{Declared}
+use Rattle.gt_names.specs.Names.{Names, Naming, is_free_name, Declaration, declaration}
+use Rattle.gt_grammar.specs.Deeds.{Deed, declares, opens, does, closes}
+
+abbrev pub kind_in : What → Kind
+kind_in What.Timer = Kind.Timer
+kind_in (What.AfterFunc func) = Kind.AfterFunc
+kind_in What.Function = Kind.Function
+
+-- the place of a declared name, and whether it is among the first ones
+abbrev pub place_of : Option Declared → ℕ
+place_of None = 0
+place_of (Some d) = d.place
+
+abbrev pub is_declared_before : ℕ → Option Declared → Bool
+is_declared_before n None = false
+is_declared_before n (Some d) = ltb d.place n
+
+abbrev pub naming_as : List ℕ → Kind → Naming
+naming_as name kind = record { name = name; kind = kind }
+
+abbrev pub names_in : ℕ → ℕ → List Deed → List Declaration
+names_in n f [] = []
+names_in n f (declares name what ∷ rest) = declaration (naming_as name (kind_in what)) n f ∷ names_in (n + 1) f rest
+names_in n f (opens name decl ∷ rest) = declaration (naming_as name Kind.Function) n f ∷ names_in (n + 1) (f + 1) rest
+names_in n f (does instr ∷ rest) = names_in n f rest
+names_in n f (closes ∷ rest) = names_in n f rest
+
+-- a name that is declared
+pub record Ref (names : Names) : Type 0 where
+  pub name : List ℕ
+  pub declared : Declared
+  pub known : names name ≡ Some declared
+
+-- what an instruction names is declared as such
+abbrev pub Refers : Names → Instr → Type 0
+Refers names (Instr.Say n) = Unit {0}
+Refers names Instr.Now = Unit {0}
+Refers names (Instr.Sleep d) = d ≤ greatest_time
+Refers names (Instr.Go f) = (r : Ref names) × (is_kind_function r.declared.kind ≡ true) × (f ≡ r.declared.func)
+Refers names (Instr.New t d) = (r : Ref names) × (is_kind_function r.declared.kind ≡ false) × (t ≡ r.declared.place) × (d ≤ greatest_time)
+Refers names (Instr.Stop t) = (r : Ref names) × (is_kind_function r.declared.kind ≡ false) × (t ≡ r.declared.place)
+Refers names (Instr.Reset t d) = (r : Ref names) × (is_kind_function r.declared.kind ≡ false) × (t ≡ r.declared.place) × (d ≤ greatest_time)
+Refers names (Instr.Recv o) = (r : Ref names) × (is_kind_timer r.declared.kind ≡ true) × (o ≡ r.declared.place)
+Refers names Instr.Finish = ⊥
+
+abbrev pub Starts : Names → What → Type 0
+Starts names What.Timer = Unit {0}
+Starts names (What.AfterFunc f) = (r : Ref names) × (is_kind_function r.declared.kind ≡ true) × (f ≡ r.declared.func)
+Starts names What.Function = ⊥
+
+-- a name that is spelled rightly and declared by none of the first n declarations
+pub record IsNew (names : Names) (name : List ℕ) (n : ℕ) : Type 0 where
+  pub free : is_free_name name ≡ true
+  pub first : is_declared_before n (names name) ≡ false
+
+-- deeds that follow one another rightly, behind so many names, functions and instructions
+abbrev pub Right : Names → Bool → ℕ → ℕ → ℕ → List Deed → Type 0
+Right names inside n f k [] = inside ≡ false
+Right names inside n f k (declares name what ∷ rest) = (inside ≡ false) × (n < 4096) × IsNew names name n × Starts names what × Right names false (n + 1) f k rest
+Right names inside n f k (opens name decl ∷ rest) =
+    (inside ≡ false) × (n < 4096) × (f < 256) × IsNew names name n × (decl ≡ place_of (names name)) × Right names true (n + 1) (f + 1) k rest
+Right names inside n f k (does instr ∷ rest) = (inside ≡ true) × (k < 100000) × Refers names instr × Right names true n f (k + 1) rest
+Right names inside n f k (closes ∷ rest) = (inside ≡ true) × Right names false n f k rest

@@ -1,0 +1,156 @@
+-- What is wrong with the lines of a script: the first faulty line, and the first cause on it.
+use Rattle.std.specs.Prelude.{ℕ, ◌+◌, nat_lt, nat_le, Bool, true, false, not, ◌&&◌, ◌||◌, if◌then◌else◌, List, [], ◌∷◌, codes}
+use Rattle.std.specs.Option.{option_map, is_some}
+use Rattle.std.specs.declared.option.Option.{Option}
+use Rattle.std.specs.declared.option.Option.TheVariants.{None, Some}
+use Rattle.gt_model.specs.Good.{most_names, most_functions, most_instructions}
+use Rattle.gt_lines.specs.Words.{NumberedLine, is_end}
+use Rattle.gt_table.specs.declared.form.Arg.{Arg}
+use Rattle.gt_table.specs.declared.form.Role.{Role}
+use Rattle.gt_table.specs.Forms.{is_declaration, opens, closes, acts, is_amount, is_kind_function}
+use Rattle.gt_table.specs.Table.{form_of}
+use Rattle.gt_names.specs.declared.names.Declared.{Declared}
+use Rattle.gt_names.specs.Names.{Names, names_of}
+use Rattle.gt_grammar.specs.declared.fault.Why.{Why}
+use Rattle.gt_grammar.specs.declared.fault.ScriptFault.{ScriptFault}
+use Rattle.gt_grammar.specs.declared.statement.Statement.{Statement}
+use Rattle.gt_grammar.specs.declared.progress.Progress.{Progress}
+use Rattle.gt_grammar.specs.Statements.{command_of, statement_of, is_head}
+
+-- a cause, and whether it applies
+pub record Test : Type 0 where
+  pub applies : Bool
+  pub why : Why
+
+abbrev pub test : Bool → Why → Test
+test applies why = record { applies = applies; why = why }
+
+-- the first cause that applies
+abbrev pub first_cause : List Test → Option Why
+first_cause [] = None
+first_cause (t ∷ ts) = if t.applies then Some t.why else first_cause ts
+
+-- declarations stand outside functions and instructions inside; `end` is judged by itself
+abbrev pub stands : Bool → Role → Bool
+stands inside (Role.Declares kind) = not inside
+stands inside Role.Closes = true
+stands inside Role.Acts = inside
+
+abbrev pub role_of : Statement → Role
+role_of s = (form_of s.keyword).role
+
+-- a word that spells no amount has a value: the name is spelled rightly, declared, and of the right kind
+abbrev pub is_named : Arg → Option ℕ → Bool
+is_named arg value = is_amount arg || is_some value
+
+-- a word that spells an amount has one
+abbrev pub is_counted : Arg → Option ℕ → Bool
+is_counted arg value = not (is_amount arg) || is_some value
+
+-- whether the names of a statement are spelled rightly, declared, and of the right kind
+abbrev pub names_rightly : Statement → Bool
+names_rightly s = is_named (form_of s.keyword).first s.first && is_named (form_of s.keyword).second s.second
+
+-- whether the amounts of a statement are spelled rightly and in their ranges
+abbrev pub counts_rightly : Statement → Bool
+counts_rightly s = is_counted (form_of s.keyword).first s.first && is_counted (form_of s.keyword).second s.second
+
+-- whether a place is among the first ones
+abbrev pub is_before : ℕ → Option ℕ → Bool
+is_before names None = false
+is_before names (Some place) = nat_lt place names
+
+-- whether a statement declares a name anew: so many declarations precede it
+abbrev pub declares_twice : Progress → Statement → Bool
+declares_twice p s = is_declaration (role_of s) && is_before p.names s.first
+
+-- whether a reader is inside a function behind a line
+abbrev pub inside_after : Bool → Role → Bool
+inside_after inside (Role.Declares kind) = is_kind_function kind || inside
+inside_after inside Role.Closes = false
+inside_after inside Role.Acts = inside
+
+-- whether a statement is an `end` without its function
+abbrev pub closes_nothing : Progress → Role → Bool
+closes_nothing p role = closes role && not p.inside
+
+-- whether a line brings the names, functions or instructions above their limits
+abbrev pub brings_too_many : Progress → Role → Bool
+brings_too_many p role =
+    (is_declaration role && nat_le most_names p.names)
+    || (opens role && nat_le most_functions p.functions)
+    || (acts role && nat_le most_instructions p.instructions)
+
+-- the causes on a line that has the form of a statement, in their order; on the last line it counts where the script ends
+abbrev pub causes : Bool → Bool → Progress → Statement → List Test
+causes is_last lacks_main p s =
+    test (not (stands p.inside (role_of s))) Why.Word
+    ∷ test (not (names_rightly s)) Why.Name
+    ∷ test (declares_twice p s) Why.Twice
+    ∷ test (is_last && inside_after p.inside (role_of s)) Why.Missing
+    ∷ test (not (counts_rightly s)) Why.Number
+    ∷ test (closes_nothing p (role_of s)) Why.Nest
+    ∷ test (brings_too_many p (role_of s)) Why.Many
+    ∷ test lacks_main Why.NoMain
+    ∷ []
+
+abbrev pub cause_with : Bool → Bool → Progress → Option Statement → Option Why
+cause_with is_last lacks_main p None = Some Why.Word
+cause_with is_last lacks_main p (Some s) = first_cause (causes is_last lacks_main p s)
+
+abbrev pub is_function : Option Declared → Bool
+is_function None = false
+is_function (Some d) = is_kind_function d.kind
+
+-- whether the script ends here without a function `main`
+abbrev pub lacks_main : Names → Bool → Bool
+lacks_main names is_last = is_last && not (is_function (names (codes "main")))
+
+abbrev pub statement_at : Names → NumberedLine → Option Statement
+statement_at names line = option_map (statement_of names) (command_of line.words)
+
+-- what is wrong with a line behind the first
+abbrev pub cause_at : Names → Bool → Progress → NumberedLine → Option Why
+cause_at names is_last p line = cause_with is_last (lacks_main names is_last) p (statement_at names line)
+
+-- what is wrong with the first line
+abbrev pub head_cause : Names → Bool → NumberedLine → Option Why
+head_cause names is_last line =
+    first_cause (test (not (is_head line.words)) Why.Head ∷ test (lacks_main names is_last) Why.NoMain ∷ [])
+
+-- one more, where a test holds
+abbrev pub count_if : Bool → ℕ → ℕ
+count_if b n = if b then n + 1 else n
+
+-- how far a reader is behind a line
+abbrev pub progress_with : Progress → Role → Progress
+progress_with p role = record {
+  inside = inside_after p.inside role;
+  names = count_if (is_declaration role) p.names;
+  functions = count_if (opens role) p.functions;
+  instructions = count_if (acts role) p.instructions;
+}
+
+abbrev pub progress_after : Progress → NumberedLine → Progress
+progress_after p line = elim (command_of line.words) [ None ↦ p | Some c ↦ progress_with p (form_of c.keyword).role ]
+
+abbrev pub no_progress : Progress
+no_progress = record { inside = false; names = 0; functions = 0; instructions = 0 }
+
+-- a fault, where there is a cause; else what is wrong further on
+abbrev pub fault_or : Option Why → ℕ → Option ScriptFault → Option ScriptFault
+fault_or None number later = later
+fault_or (Some why) number later = Some (record { line = number; why = why })
+
+-- the first fault of the lines behind a reader
+abbrev pub fault_from : Names → Progress → List NumberedLine → Option ScriptFault
+fault_from names p [] = None
+fault_from names p (line ∷ lines) =
+    fault_or (cause_at names (is_end lines) p line) line.number (fault_from names (progress_after p line) lines)
+
+-- the first fault of lines, where each byte is part of a character
+abbrev pub fault_in_lines : List NumberedLine → Option ScriptFault
+fault_in_lines [] = Some (record { line = 1; why = Why.Head })
+fault_in_lines (head ∷ lines) =
+    fault_or (head_cause (names_of (head ∷ lines)) (is_end lines) head) head.number
+    (fault_from (names_of (head ∷ lines)) no_progress lines)

@@ -1,0 +1,5 @@
+pub mod Duration
+pub mod Statements
+pub mod Deeds
+pub mod Faults
+pub mod Grammar

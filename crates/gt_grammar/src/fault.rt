@@ -1,0 +1,34 @@
+//! Why a text is no script.
+
+/// A refusal: the first faulty line, and the first cause on it in the order of [`Why`].
+#[derive(Clone, Copy, Debug, PartialEq, Eq)]
+pub struct ScriptFault {
+    /// The line, counted from 1, skipped lines included.
+    pub line: u32,
+    pub why: Why,
+}
+
+/// The causes of a refusal, in the order in which they count on one line.
+#[derive(Clone, Copy, Debug, PartialEq, Eq)]
+pub enum Why {
+    /// The line holds the first byte at which the text is not UTF-8.
+    Utf8,
+    /// The first line with words is not `gotime script 1`.
+    Head,
+    /// The first word is unknown or cannot stand here, or the number of words is wrong.
+    Word,
+    /// A name is spelled wrongly, is undeclared, or is of the wrong kind.
+    Name,
+    /// The name was declared on an earlier line.
+    Twice,
+    /// The script ends inside a function.
+    Missing,
+    /// A number or a duration is spelled wrongly or out of range.
+    Number,
+    /// An `end` without its function.
+    Nest,
+    /// The line brings the declared names above 4,096, the functions above 256, or the instructions above 100,000.
+    Many,
+    /// There is no function `main`.
+    NoMain,
+}

@@ -1,0 +1,42 @@
+-- What an entry is made of, part by part: the line of an entry says its parts in this order.
+use Rattle.std.specs.Prelude.{ℕ, Bool, List, [], ◌∷◌, codes}
+use Rattle.std.specs.declared.option.Option.{Option}
+use Rattle.gt_model.specs.declared.entry.Entry.{Entry}
+use Rattle.gt_model.specs.declared.entry.Outcome.{Outcome}
+use Rattle.gt_model.specs.declared.entry.Party.{Party}
+use Rattle.gt_model.specs.declared.entry.Reason.{Reason}
+
+pub data Part : Type 0 where
+  -- the word that tells what happened
+  keyword : List ℕ → Part
+  goroutine : ℕ → Part
+  party : Party → Part
+  -- a number or a time; the second may be missing
+  number : ℕ → Part
+  time : Option ℕ → Part
+  -- what is named: a channel timer, an AfterFunc timer, a timer of either kind, a function
+  timer : ℕ → Part
+  after_func : ℕ → Part
+  setting : ℕ → Part
+  function : ℕ → Part
+  -- whether a timer was set, where that is told
+  flag : Option Bool → Part
+  reason : Reason → Part
+  -- how the run ended: a word that tells what happened by itself
+  outcome : Outcome → Part
+
+abbrev pub parts_of : Entry → List Part
+parts_of (Entry.Say g n) = keyword (codes "say") ∷ goroutine g ∷ number n ∷ []
+parts_of (Entry.Now g at) = keyword (codes "now") ∷ goroutine g ∷ number at ∷ []
+parts_of (Entry.Go g child f) = keyword (codes "go") ∷ goroutine g ∷ goroutine child ∷ function f ∷ []
+parts_of (Entry.End g) = keyword (codes "end") ∷ goroutine g ∷ []
+parts_of (Entry.Sleep g until) = keyword (codes "sleep") ∷ goroutine g ∷ time until ∷ []
+parts_of (Entry.Wake g) = keyword (codes "wake") ∷ goroutine g ∷ []
+parts_of (Entry.New g t due) = keyword (codes "new") ∷ goroutine g ∷ setting t ∷ number due ∷ []
+parts_of (Entry.Stop g t was) = keyword (codes "stop") ∷ goroutine g ∷ setting t ∷ flag was ∷ []
+parts_of (Entry.Reset g t was due) = keyword (codes "reset") ∷ goroutine g ∷ setting t ∷ flag was ∷ number due ∷ []
+parts_of (Entry.TRecv p t due next) = keyword (codes "trecv") ∷ party p ∷ timer t ∷ number due ∷ time next ∷ []
+parts_of (Entry.FireFunc t child) = keyword (codes "fire") ∷ after_func t ∷ goroutine child ∷ []
+parts_of (Entry.Clock world at) = keyword (codes "clock") ∷ number world ∷ number at ∷ []
+parts_of (Entry.Panic p why) = keyword (codes "panic") ∷ party p ∷ reason why ∷ []
+parts_of (Entry.Finish how) = outcome how ∷ []

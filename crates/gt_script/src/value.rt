@@ -1,0 +1,78 @@
+//! The values of words: places of names, and amounts.
+
+ghost use Rattle.std.specs.Prelude.{◌≡◌, ◌≤◌, IfSome, if◌then◌else◌, None};
+ghost use Rattle.std.specs.Option.{option_map};
+ghost use Rattle.gt_model.specs.Times.{greatest_time};
+ghost use Rattle.gt_table.specs.Forms.{most_of};
+ghost use Rattle.gt_names.specs.Known.{known};
+ghost use Rattle.gt_names.specs.Names.{is_free_name};
+ghost use Rattle.gt_grammar.specs.Duration.{duration_of};
+ghost use Rattle.gt_grammar.specs.Statements.{timer_place, setting_place, function_place, value_of};
+
+use gt_dur::read_dur;
+use gt_lines::read_number;
+use gt_names::{Declared, NameTable, is_free_name};
+use gt_table::{Arg, Kind};
+
+// The duration that a word spells, in nanoseconds. `None` for any other word, or a duration above [`gt_model::CAP`].
+fn read_duration(word: &[u8]) -> Option<u64>
+    ensures value { result ≡ duration_of word.now }
+    ensures most { IfSome result (λ d. d ≤ greatest_time) }
+{
+    match str::from_utf8(word) {
+        Ok(text) => read_dur(text).ok(),
+        Err(_) => None,
+    }
+}
+
+fn timer_place(d: Declared) -> Option<u32>
+    ensures { result ≡ timer_place d }
+{
+    match d.kind {
+        Kind::Timer => Some(d.place),
+        Kind::AfterFunc | Kind::Function => None,
+    }
+}
+
+fn setting_place(d: Declared) -> Option<u32>
+    ensures { result ≡ setting_place d }
+{
+    match d.kind {
+        Kind::Timer | Kind::AfterFunc => Some(d.place),
+        Kind::Function => None,
+    }
+}
+
+fn function_place(d: Declared) -> Option<u32>
+    ensures { result ≡ function_place d }
+{
+    match d.kind {
+        Kind::Function => Some(d.func),
+        Kind::Timer | Kind::AfterFunc => None,
+    }
+}
+
+fn new_place<'a>(names: &NameTable<'a>, word: &'a [u8]) -> Option<u32>
+    ensures { result ≡ value_of (known names.now) Arg.NewName word.now }
+{
+    if !is_free_name(word) {
+        return None;
+    }
+    Some(names.find(word)?.place)
+}
+
+/// What a word of this kind stands for, with these names; `None` where the word is wrong.
+pub(crate) fn read_value<'a>(names: &NameTable<'a>, arg: Arg, word: &'a [u8]) -> Option<u64>
+    ensures value { result ≡ value_of (known names.now) arg word.now }
+    ensures most { IfSome result (λ v. v ≤ most_of arg) }
+{
+    match arg {
+        Arg::Nothing => Some(0),
+        Arg::NewName => Some(u64::from(new_place(names, word)?)),
+        Arg::Timer => Some(u64::from(timer_place(names.find(word)?)?)),
+        Arg::Setting => Some(u64::from(setting_place(names.find(word)?)?)),
+        Arg::Function => Some(u64::from(function_place(names.find(word)?)?)),
+        Arg::Duration => read_duration(word),
+        Arg::Number => Some(u64::from(read_number(word)?)),
+    }
+}

@@ -1,0 +1,76 @@
+-- What a line is made of.
+use Rattle.std.specs.Prelude.{ℕ, Bool, true, false}
+use Rattle.std.specs.declared.option.Option.{Option}
+use Rattle.std.specs.declared.option.Option.TheVariants.{None, Some}
+use Rattle.gt_model.specs.Times.{greatest_time}
+use Rattle.gt_table.specs.declared.form.Arg.{Arg}
+use Rattle.gt_table.specs.declared.form.Kind.{Kind}
+use Rattle.gt_table.specs.declared.form.Role.{Role}
+
+-- what a line declares its name as
+abbrev pub declared_kind : Role → Option Kind
+declared_kind (Role.Declares kind) = Some kind
+declared_kind Role.Closes = None
+declared_kind Role.Acts = None
+
+abbrev pub is_declaration : Role → Bool
+is_declaration (Role.Declares kind) = true
+is_declaration Role.Closes = false
+is_declaration Role.Acts = false
+
+abbrev pub is_kind_function : Kind → Bool
+is_kind_function Kind.Timer = false
+is_kind_function Kind.AfterFunc = false
+is_kind_function Kind.Function = true
+
+abbrev pub is_kind_timer : Kind → Bool
+is_kind_timer Kind.Timer = true
+is_kind_timer Kind.AfterFunc = false
+is_kind_timer Kind.Function = false
+
+-- the declaration of a function opens it
+abbrev pub opens : Role → Bool
+opens (Role.Declares kind) = is_kind_function kind
+opens Role.Closes = false
+opens Role.Acts = false
+
+abbrev pub closes : Role → Bool
+closes (Role.Declares kind) = false
+closes Role.Closes = true
+closes Role.Acts = false
+
+-- whether it is an instruction
+abbrev pub acts : Role → Bool
+acts (Role.Declares kind) = false
+acts Role.Closes = false
+acts Role.Acts = true
+
+-- whether a word is wanted there
+abbrev pub is_wanted : Arg → Bool
+is_wanted Arg.Nothing = false
+is_wanted Arg.NewName = true
+is_wanted Arg.Timer = true
+is_wanted Arg.Setting = true
+is_wanted Arg.Function = true
+is_wanted Arg.Duration = true
+is_wanted Arg.Number = true
+
+-- whether a word of this kind spells an amount; the others are names
+abbrev pub is_amount : Arg → Bool
+is_amount Arg.Nothing = false
+is_amount Arg.NewName = false
+is_amount Arg.Timer = false
+is_amount Arg.Setting = false
+is_amount Arg.Function = false
+is_amount Arg.Duration = true
+is_amount Arg.Number = true
+
+-- the greatest value of a word of this kind: a place and a number have 32 bits, a duration is a time
+abbrev pub most_of : Arg → ℕ
+most_of Arg.Nothing = 0
+most_of Arg.NewName = 4294967295
+most_of Arg.Timer = 4294967295
+most_of Arg.Setting = 4294967295
+most_of Arg.Function = 4294967295
+most_of Arg.Duration = greatest_time
+most_of Arg.Number = 4294967295

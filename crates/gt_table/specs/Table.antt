@@ -1,0 +1,56 @@
+-- The table of the words that a line may begin with: where such a line stands, what follows the word, and what the line does.
+use Rattle.std.specs.Prelude.{ℕ, if◌then◌else◌, List, [], ◌∷◌, codes}
+use Rattle.std.specs.Str.{bytes_eq}
+use Rattle.std.specs.declared.option.Option.{Option}
+use Rattle.std.specs.declared.option.Option.TheVariants.{None, Some}
+use Rattle.gt_model.specs.declared.script.Instr.{Instr}
+use Rattle.gt_model.specs.declared.script.What.{What}
+use Rattle.gt_table.specs.declared.form.Arg.{Arg}
+use Rattle.gt_table.specs.declared.form.Form.{Form}
+use Rattle.gt_table.specs.declared.form.Kind.{Kind}
+use Rattle.gt_table.specs.declared.form.Role.{Role}
+use Rattle.gt_table.specs.declared.form.Step.{Step}
+use Rattle.gt_table.specs.declared.table.Keyword.{Keyword}
+
+-- what a line with this word does, by the values of the words that follow; one that is not wanted counts as 0
+pub record Row : Type 0 where
+  pub word : List ℕ
+  pub form : Form
+  pub step : ℕ → ℕ → Step
+
+abbrev row : List ℕ → Role → Arg → Arg → (ℕ → ℕ → Step) → Row
+row word role first second step = record { word = word; form = record { role = role; first = first; second = second }; step = step }
+
+-- A timer's value is its place among the names, and a function's its place among the functions. A new name's is its own place
+abbrev pub row_of : Keyword → Row
+row_of Keyword.Timer = row (codes "timer") (Role.Declares Kind.Timer) Arg.NewName Arg.Nothing (λ a b. Step.Declare What.Timer)
+row_of Keyword.AfterFunc = row (codes "afterfunc") (Role.Declares Kind.AfterFunc) Arg.NewName Arg.Function (λ a f. Step.Declare (What.AfterFunc f))
+row_of Keyword.Func = row (codes "func") (Role.Declares Kind.Function) Arg.NewName Arg.Nothing (λ decl b. Step.Open decl)
+row_of Keyword.End = row (codes "end") Role.Closes Arg.Nothing Arg.Nothing (λ a b. Step.Close)
+row_of Keyword.Say = row (codes "say") Role.Acts Arg.Number Arg.Nothing (λ n b. Step.Do (Instr.Say n))
+row_of Keyword.Now = row (codes "now") Role.Acts Arg.Nothing Arg.Nothing (λ a b. Step.Do Instr.Now)
+row_of Keyword.Sleep = row (codes "sleep") Role.Acts Arg.Duration Arg.Nothing (λ d b. Step.Do (Instr.Sleep d))
+row_of Keyword.Go = row (codes "go") Role.Acts Arg.Function Arg.Nothing (λ f b. Step.Do (Instr.Go f))
+row_of Keyword.New = row (codes "new") Role.Acts Arg.Setting Arg.Duration (λ t d. Step.Do (Instr.New t d))
+row_of Keyword.Stop = row (codes "stop") Role.Acts Arg.Setting Arg.Nothing (λ t b. Step.Do (Instr.Stop t))
+row_of Keyword.Reset = row (codes "reset") Role.Acts Arg.Setting Arg.Duration (λ t d. Step.Do (Instr.Reset t d))
+row_of Keyword.Recv = row (codes "recv") Role.Acts Arg.Timer Arg.Nothing (λ o b. Step.Do (Instr.Recv o))
+
+abbrev pub keywords : List Keyword
+keywords =
+    Keyword.Timer ∷ Keyword.AfterFunc ∷ Keyword.Func ∷ Keyword.End ∷ Keyword.Say ∷ Keyword.Now ∷ Keyword.Sleep ∷ Keyword.Go ∷ Keyword.New
+    ∷ Keyword.Stop ∷ Keyword.Reset ∷ Keyword.Recv ∷ []
+
+abbrev pub keyword_in : List Keyword → List ℕ → Option Keyword
+keyword_in [] word = None
+keyword_in (k ∷ ks) word = if bytes_eq word (row_of k).word then Some k else keyword_in ks word
+
+-- the keyword that a word is
+abbrev pub keyword_of : List ℕ → Option Keyword
+keyword_of word = keyword_in keywords word
+
+abbrev pub form_of : Keyword → Form
+form_of k = (row_of k).form
+
+abbrev pub step_of : Keyword → ℕ → ℕ → Step
+step_of k = (row_of k).step

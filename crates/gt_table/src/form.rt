@@ -1,0 +1,144 @@
+//! What a line is made of, and what it does.
+
+ghost use Rattle.std.specs.Prelude.{◌≡◌};
+
+use gt_model::{Instr, What};
+
+/// What kind of thing a name is declared as.
+#[derive(Clone, Copy, Debug, PartialEq, Eq)]
+pub enum Kind {
+    Timer,
+    AfterFunc,
+    Function,
+}
+
+/// What stands behind a keyword at one place.
+#[derive(Clone, Copy, Debug, PartialEq, Eq)]
+pub enum Arg {
+    /// No word.
+    Nothing,
+    /// The name that the line declares.
+    NewName,
+    /// The name of a channel timer.
+    Timer,
+    /// The name of a channel timer or of an AfterFunc timer.
+    Setting,
+    /// The name of a function.
+    Function,
+    /// A duration.
+    Duration,
+    /// A number of 32 bits.
+    Number,
+}
+
+/// Where a line stands, and what it is there.
+#[derive(Clone, Copy, Debug, PartialEq, Eq)]
+pub enum Role {
+    /// It stands outside functions and declares a name. The declaration of a function opens it.
+    Declares { kind: Kind },
+    /// It closes a function.
+    Closes,
+    /// It stands inside a function and is an instruction.
+    Acts,
+}
+
+/// What a keyword makes of its line.
+#[derive(Clone, Copy, Debug, PartialEq, Eq)]
+pub struct Form {
+    pub role: Role,
+    pub first: Arg,
+    pub second: Arg,
+}
+
+/// What a line does.
+#[derive(Drop)]
+pub enum Step {
+    /// Declares its name as an object.
+    Declare { what: What },
+    /// Opens the function whose name is declared at this place.
+    Open { decl: u32 },
+    /// Goes on with an instruction.
+    Do { instr: Instr },
+    /// Closes the function.
+    Close,
+}
+
+impl Arg {
+    ghost use Rattle.std.specs.Prelude.{◌≡◌};
+    ghost use Rattle.gt_table.specs.Forms.{is_wanted, is_amount};
+
+    /// Whether a word is wanted there.
+    pub fn is_wanted(self) -> bool
+        ensures { result ≡ is_wanted self }
+    {
+        !matches!(self, Arg::Nothing)
+    }
+
+    /// Whether the word spells an amount; the others are names.
+    pub fn is_amount(self) -> bool
+        ensures { result ≡ is_amount self }
+    {
+        matches!(self, Arg::Duration | Arg::Number)
+    }
+}
+
+impl Role {
+    ghost use Rattle.std.specs.Prelude.{◌≡◌};
+    ghost use Rattle.gt_table.specs.Forms.{declared_kind, is_declaration, opens, closes, acts};
+
+    /// What it declares a name as, if it declares one.
+    pub fn declared_kind(self) -> Option<Kind>
+        ensures { result ≡ declared_kind self }
+    {
+        match self {
+            Role::Declares { kind } => Some(kind),
+            Role::Closes | Role::Acts => None,
+        }
+    }
+
+    /// Whether it declares a name.
+    pub fn is_declaration(self) -> bool
+        ensures { result ≡ is_declaration self }
+    {
+        matches!(self, Role::Declares { .. })
+    }
+
+    /// Whether it opens a function.
+    pub fn opens(self) -> bool
+        ensures { result ≡ opens self }
+    {
+        match self {
+            Role::Declares { kind } => matches!(kind, Kind::Function),
+            Role::Closes | Role::Acts => false,
+        }
+    }
+
+    /// Whether it closes a function.
+    pub fn closes(self) -> bool
+        ensures { result ≡ closes self }
+    {
+        matches!(self, Role::Closes)
+    }
+
+    /// Whether it is an instruction.
+    pub fn acts(self) -> bool
+        ensures { result ≡ acts self }
+    {
+        matches!(self, Role::Acts)
+    }
+}
+
+impl Form {
+    ghost use Rattle.std.specs.Prelude.{◌≡◌};
+
+    /// This form.
+    pub fn new(role: Role, first: Arg, second: Arg) -> Form
+        ensures { result ≡ record { role = role; first = first; second = second } }
+    {
+        Form {
+            role,
+            first,
+            second,
+        }
+    }
+}

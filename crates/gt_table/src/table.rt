@@ -1,0 +1,111 @@
+//! The keywords: one row for each says what it wants and what it does.
+
+ghost use Rattle.std.specs.Prelude.{◌≡◌};
+ghost use Rattle.gt_table.specs.Table.{keyword_of};
+
+use crate::form::{Arg, Form, Kind, Role, Step};
+use gt_model::{Instr, What};
+
+/// A word that a line may begin with.
+#[derive(Clone, Copy, Debug, PartialEq, Eq)]
+pub enum Keyword {
+    Timer,
+    AfterFunc,
+    Func,
+    End,
+    Say,
+    Now,
+    Sleep,
+    Go,
+    New,
+    Stop,
+    Reset,
+    Recv,
+}
+
+/// The keyword that a word is, if it is one.
+pub fn read_keyword(word: &[u8]) -> Option<Keyword>
+    ensures { result ≡ keyword_of word.now }
+{
+    match word {
+        b"timer" => Some(Keyword::Timer),
+        b"afterfunc" => Some(Keyword::AfterFunc),
+        b"func" => Some(Keyword::Func),
+        b"end" => Some(Keyword::End),
+        b"say" => Some(Keyword::Say),
+        b"now" => Some(Keyword::Now),
+        b"sleep" => Some(Keyword::Sleep),
+        b"go" => Some(Keyword::Go),
+        b"new" => Some(Keyword::New),
+        b"stop" => Some(Keyword::Stop),
+        b"reset" => Some(Keyword::Reset),
+        b"recv" => Some(Keyword::Recv),
+        _ => None,
+    }
+}
+
+impl Keyword {
+    ghost use Rattle.std.specs.Prelude.{◌≡◌, ◌≤◌};
+    ghost use Rattle.gt_table.specs.Forms.{most_of};
+    ghost use Rattle.gt_table.specs.Table.{form_of, step_of};
+
+    /// Where a line with it stands, and what follows it there.
+    pub fn form(self) -> Form
+        ensures { result ≡ form_of self }
+    {
+        let object = Role::Declares { kind: Kind::Timer };
+        let timer = Role::Declares { kind: Kind::AfterFunc };
+        let function = Role::Declares { kind: Kind::Function };
+        match self {
+            Keyword::Timer => Form::new(object, Arg::NewName, Arg::Nothing),
+            Keyword::AfterFunc => Form::new(timer, Arg::NewName, Arg::Function),
+            Keyword::Func => Form::new(function, Arg::NewName, Arg::Nothing),
+            Keyword::End => Form::new(Role::Closes, Arg::Nothing, Arg::Nothing),
+            Keyword::Say => Form::new(Role::Acts, Arg::Number, Arg::Nothing),
+            Keyword::Now => Form::new(Role::Acts, Arg::Nothing, Arg::Nothing),
+            Keyword::Sleep => Form::new(Role::Acts, Arg::Duration, Arg::Nothing),
+            Keyword::Go => Form::new(Role::Acts, Arg::Function, Arg::Nothing),
+            Keyword::New | Keyword::Reset => Form::new(Role::Acts, Arg::Setting, Arg::Duration),
+            Keyword::Stop => Form::new(Role::Acts, Arg::Setting, Arg::Nothing),
+            Keyword::Recv => Form::new(Role::Acts, Arg::Timer, Arg::Nothing),
+        }
+    }
+
+    /// What a line with it does, by the values of the words behind it: 0 where there is none.
+    pub fn step(self, first: u64, second: u64) -> Step
+        requires first { first ≤ most_of (form_of self).first }
+        requires second { second ≤ most_of (form_of self).second }
+        ensures { result ≡ step_of self first second }
+    {
+        match self {
+            Keyword::Timer => Step::Declare { what: What::Timer },
+            Keyword::AfterFunc => Step::Declare {
+                what: What::AfterFunc {
+                    func: second as u32,
+                },
+            },
+            Keyword::Func => Step::Open { decl: first as u32 },
+            Keyword::End => Step::Close,
+            Keyword::Say => act(Instr::Say { n: first as u32 }),
+            Keyword::Now => act(Instr::Now),
+            Keyword::Sleep => act(Instr::Sleep { d: first }),
+            Keyword::Go => act(Instr::Go { f: first as u32 }),
+            Keyword::New => act(Instr::New {
+                t: first as u32,
+                d: second,
+            }),
+            Keyword::Stop => act(Instr::Stop { t: first as u32 }),
+            Keyword::Reset => act(Instr::Reset {
+                t: first as u32,
+                d: second,
+            }),
+            Keyword::Recv => act(Instr::Recv { o: first as u32 }),
+        }
+    }
+}
+
+fn act(instr: Instr) -> Step
+    ensures { result ≡ Step.Do instr }
+{
+    Step::Do { instr }
+}
