@@ -143,40 +143,37 @@ may-sleep b g d until lawful running step in_hand e =
     let is : until ≡ due_at (clock_of b.state g) d = e ∙ ap (λ now. due_at now d) (sym (one_clock b g lawful)) in
     (((d, does, ap Some is ∙ sym (sleeps.ends (clock_of b.state g))), in_hand, tt), not_gone b (Op.Sleep g until) running refl)
 
--- an instruction that sets t
-abbrev Sets : ℕ → Instr → Type 0
-Sets t i = ((d : ℕ) × (i ≡ Instr.New t d)) ⊎ ((d : ℕ) × (i ≡ Instr.Reset t d))
+instr-new : (s : State) (g t d : ℕ) (i : Instr) → step_of_instr s g i ≡ Step.Needs (TimerOp.New t d) → i ≡ Instr.New t d
+instr-new s g t d (Instr.New u e) h =
+    let timer : u ≡ t = cc in
+    let time : e ≡ d = cc in
+    ap (λ u. Instr.New u e) timer ∙ ap (Instr.New t) time
+instr-new s g t d (Instr.Sleep zero) h = cc
+instr-new s g t d _ h = cc
 
-instr-sets : (s : State) (g t : ℕ) (i : Instr) → step_of_instr s g i ≡ Step.Needs (TimerOp.Set t) → Sets t i
-instr-sets s g t (Instr.New o d) h = let same : o ≡ t = cc in inl (d, ap (λ o. Instr.New o d) same)
-instr-sets s g t (Instr.Reset o d) h = let same : o ≡ t = cc in inr (d, ap (λ o. Instr.Reset o d) same)
-instr-sets s g t (Instr.Sleep zero) h = cc
-instr-sets s g t _ h = cc
+instr-reset : (s : State) (g t d : ℕ) (i : Instr) → step_of_instr s g i ≡ Step.Needs (TimerOp.Reset t d) → i ≡ Instr.Reset t d
+instr-reset s g t d (Instr.Reset u e) h =
+    let timer : u ≡ t = cc in
+    let time : e ≡ d = cc in
+    ap (λ u. Instr.Reset u e) timer ∙ ap (Instr.Reset t) time
+instr-reset s g t d (Instr.Sleep zero) h = cc
+instr-reset s g t d _ h = cc
 
-pub set-stands : (script : Script) (s : State) (g t : ℕ) → step_of script s g ≡ Some (Step.Needs (TimerOp.Set t))
-    → ((d : ℕ) × (stands_at script s g ≡ Some (Instr.New t d))) ⊎ ((d : ℕ) × (stands_at script s g ≡ Some (Instr.Reset t d)))
-set-stands script s g t step =
-    let asks : Asks script s g (TimerOp.Set t) = needs-asks script s g (TimerOp.Set t) step in
-    elim (instr-sets s g t asks.instr asks.is) [
-      | inl new ↦ inl (new.0, asks.does.stands ∙ ap Some new.1)
-      | inr reset ↦ inr (reset.0, asks.does.stands ∙ ap Some reset.1)
-    ]
-
-pub may-new : (b : BookView) (g t d due : ℕ) → IsLawful b → outcome_of b ≡ None → step_of b.script b.state g ≡ Some (Step.Needs (TimerOp.Set t))
-    → stands_at b.script b.state g ≡ Some (Instr.New t d) → status_of b.schedule g ≡ Some RunStatus.InHand → due ≡ min (clock b.state 0 + d) greatest_time
+pub may-new : (b : BookView) (g t d due : ℕ) → IsLawful b → outcome_of b ≡ None → step_of b.script b.state g ≡ Some (Step.Needs (TimerOp.New t d))
+    → status_of b.schedule g ≡ Some RunStatus.InHand → due ≡ min (clock b.state 0 + d) greatest_time
     → MayCommit b (Op.New g t due 0) × (is_gone b (Op.New g t due 0) ≡ false)
-may-new b g t d due lawful running step stands in_hand e =
-    let asks : Asks b.script b.state g (TimerOp.Set t) = needs-asks b.script b.state g (TimerOp.Set t) step in
-    let does : Does b.script b.state g (Instr.New t d) = record { stands = stands; calm = asks.does.calm } in
+may-new b g t d due lawful running step in_hand e =
+    let asks : Asks b.script b.state g (TimerOp.New t d) = needs-asks b.script b.state g (TimerOp.New t d) step in
+    let does : Does b.script b.state g (Instr.New t d) = subst (Does b.script b.state g) (instr-new b.state g t d asks.instr asks.is) asks.does in
     let is : due ≡ due_at (clock_of b.state g) d = e ∙ ap (λ now. due_at now d) (sym (one_clock b g lawful)) in
     (((d, does, is), in_hand, refl), not_gone b (Op.New g t due 0) running refl)
 
-pub may-reset : (b : BookView) (g t d due : ℕ) (was : Bool) → IsLawful b → outcome_of b ≡ None → step_of b.script b.state g ≡ Some (Step.Needs (TimerOp.Set t))
-    → stands_at b.script b.state g ≡ Some (Instr.Reset t d) → status_of b.schedule g ≡ Some RunStatus.InHand
+pub may-reset : (b : BookView) (g t d due : ℕ) (was : Bool) → IsLawful b → outcome_of b ≡ None → step_of b.script b.state g ≡ Some (Step.Needs (TimerOp.Reset t d))
+    → status_of b.schedule g ≡ Some RunStatus.InHand
     → was ≡ is_some (due_of b.state t) → due ≡ min (clock b.state 0 + d) greatest_time
     → MayCommit b (Op.Reset g t was due 0) × (is_gone b (Op.Reset g t was due 0) ≡ false)
-may-reset b g t d due was lawful running step stands in_hand was_set e =
-    let asks : Asks b.script b.state g (TimerOp.Set t) = needs-asks b.script b.state g (TimerOp.Set t) step in
-    let does : Does b.script b.state g (Instr.Reset t d) = record { stands = stands; calm = asks.does.calm } in
+may-reset b g t d due was lawful running step in_hand was_set e =
+    let asks : Asks b.script b.state g (TimerOp.Reset t d) = needs-asks b.script b.state g (TimerOp.Reset t d) step in
+    let does : Does b.script b.state g (Instr.Reset t d) = subst (Does b.script b.state g) (instr-reset b.state g t d asks.instr asks.is) asks.does in
     let is : due ≡ due_at (clock_of b.state g) d = e ∙ ap (λ now. due_at now d) (sym (one_clock b g lawful)) in
     (((d, does, ap Some was_set, is), in_hand, refl), not_gone b (Op.Reset g t was due 0) running refl)

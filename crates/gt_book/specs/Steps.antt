@@ -34,9 +34,9 @@ step_of_instr s g Instr.Now = Step.Makes (Entry.Now g (clock_of s g))
 step_of_instr s g (Instr.Sleep zero) = Step.Makes (Entry.Sleep g None)
 step_of_instr s g (Instr.Sleep (suc d)) = Step.Needs (TimerOp.Sleep (suc d))
 step_of_instr s g (Instr.Go f) = Step.Makes (Entry.Go g (next_number s) f)
-step_of_instr s g (Instr.New t d) = Step.Needs (TimerOp.Set t)
+step_of_instr s g (Instr.New t d) = Step.Needs (TimerOp.New t d)
 step_of_instr s g (Instr.Stop t) = Step.Needs (TimerOp.Stop t)
-step_of_instr s g (Instr.Reset t d) = Step.Needs (TimerOp.Set t)
+step_of_instr s g (Instr.Reset t d) = Step.Needs (TimerOp.Reset t d)
 step_of_instr s g (Instr.Recv o) = Step.Waits o
 step_of_instr s g Instr.Finish = Step.Makes (Entry.End g)
 

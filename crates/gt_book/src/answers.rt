@@ -30,8 +30,10 @@ pub enum Did {
 /// What an instruction wants of a timer's record. Timers go by the places of their declarations, from 0.
 #[derive(Clone, Copy)]
 pub enum TimerOp {
-    /// To set this timer.
-    Set(u32),
+    /// To make timer `t`, due after `d` nanoseconds.
+    New { t: u32, d: u64 },
+    /// To set timer `t` anew, due after `d` nanoseconds.
+    Reset { t: u32, d: u64 },
     /// To stop this timer.
     Stop(u32),
     /// To sleep for so many nanoseconds.

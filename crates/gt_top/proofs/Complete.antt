@@ -12,6 +12,7 @@ use Rattle.gt_model.specs.Named.{AllNamed}
 use Rattle.gt_facts.proofs.Named.{AllNamed-legal}
 use Rattle.gt_laws.proofs.Laws.{each-in_order, each-in_time, each-fresh}
 use Rattle.gt_laws.proofs.Made.{each-uses_rightly}
+use Rattle.gt_laws.proofs.Jumps.{each-jumps}
 use Rattle.gt_laws.proofs.Ends.{each-ends, each-ends_where_stuck}
 use Rattle.gt_book.specs.View.{BookView, IsLawful, outcome_of}
 use Rattle.gt_machine.specs.Outcomes.{outcome_in}
@@ -41,7 +42,8 @@ complete-IsRun script limits b outcome run lawful is =
       fresh = each-fresh script limits b.history outcome good complete;
       uses = each-uses_rightly script limits b.history outcome good complete;
       ends = each-ends script limits b.history outcome good complete;
-      ends_where_stuck = each-ends_where_stuck script limits 0 b.history outcome complete jumps;
+      ends_where_stuck = each-ends_where_stuck script limits 0 b.history outcome good complete jumps;
+      jumps_to_least = each-jumps script limits 0 b.history outcome good complete jumps;
     }
 
 pub complete-AllNamed : (script : Script) (limits : Limits) (b : BookView) → IsComplete script limits b → IsLawful b → AllNamed script b.history

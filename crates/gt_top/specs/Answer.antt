@@ -11,16 +11,15 @@ use Rattle.gt_model.specs.declared.entry.Outcome.{Outcome}
 use Rattle.gt_rules.specs.After.{first_state}
 use Rattle.gt_rules.specs.History.{History, AllJump}
 use Rattle.gt_laws.specs.Laws.{AtEach, InOrder, InTime, IsFresh, UsesRightly}
-use Rattle.gt_laws.specs.Ends.{EndsRightly, EndsWhereStuck}
-use Rattle.gt_script.specs.Grammar.{IsFirstFault, Spells}
-use Rattle.gt_script.specs.declared.fault.ScriptFault.{ScriptFault}
+use Rattle.gt_laws.specs.Ends.{EndsRightly, EndsWhereStuck, JumpsToLeast}
+use Rattle.gt_grammar.specs.Grammar.{IsFirstFault, Spells}
+use Rattle.gt_grammar.specs.declared.fault.ScriptFault.{ScriptFault}
 use Rattle.gt_trace.specs.Text.{text}
-use Rattle.gt_top.specs.declared.call.TheConstants.{INPUT_LIMIT}
 use Rattle.gt_top.specs.declared.status.Status.{Status}
 use Rattle.gt_top.specs.declared.words.Order.{Order}
 use Rattle.gt_top.specs.declared.words.WordFault.{WordFault}
 use Rattle.gt_top.specs.Words.{order_of}
-use Rattle.gt_top.specs.Call.{SourceState, SinkState, Call, ReadsAll, IsUntouched}
+use Rattle.gt_top.specs.Call.{input_limit, SourceState, SinkState, Call, ReadsAll, IsUntouched}
 
 -- A complete history of the script: each entry legal in the one-thread machine, and its clock moved only where nothing else could happen. So
 -- each goroutine's calls come once and in order, nothing comes before its time, no value of a setting that was ended is received, each panic is a
@@ -29,7 +28,8 @@ pub record IsRun (script : Script) (limits : Limits) (h : List Entry) (outcome :
   pub complete : History script limits h outcome
   pub jumps : AllJump script 0 (first_state script) h
   pub in_order : AtEach (InOrder script) h
-  pub in_time : AtEach InTime h
+  pub jumps_to_least : AtEach (JumpsToLeast script 0) h
+  pub in_time : AtEach (InTime script) h
   pub fresh : AtEach IsFresh h
   pub uses : AtEach (UsesRightly script) h
   pub ends : AtEach (EndsRightly script limits) h
@@ -63,7 +63,7 @@ Prints script limits before after Status.ReadFault = ⊥
 -- the status of a reading that gave no whole input
 abbrev pub ReadsNot : SourceState → SourceState → Status → Type 0
 ReadsNot before after (Status.TooLong limit) =
-    (limit ≡ INPUT_LIMIT) × RoseBy (INPUT_LIMIT + 1) before.given after.given × IfSome before.left (λ left. INPUT_LIMIT < length left)
+    (limit ≡ input_limit) × RoseBy (input_limit + 1) before.given after.given × IfSome before.left (λ left. input_limit < length left)
 ReadsNot before after Status.ReadFault = Rose before.faults after.faults
 ReadsNot before after Status.NoMemory = Unit {0}
 ReadsNot before after (Status.Done outcome) = ⊥
@@ -126,7 +126,7 @@ pub record IsAccepted (words : List (List ℕ)) (c : Call) : Type 0 where
   pub bytes : List ℕ
   pub script : Script
   pub told : c.source_before.left ≡ Some bytes
-  pub short : length bytes ≤ INPUT_LIMIT
+  pub short : length bytes ≤ input_limit
   pub spelled : Spells bytes script
   pub no_read_fault : ¬ Rose c.source_before.faults c.source_after.faults
   pub no_write_fault : ¬ Rose c.sink_before.faults c.sink_after.faults

@@ -1,7 +1,10 @@
 -- What a call of the program saw and did.
 use Rattle.std.specs.Prelude.{◌≡◌, ℕ, ◌≤◌, List, [], length, Option, Some, IfSome}
 use Rattle.gt_io.specs.Counts.{RoseBy}
-use Rattle.gt_top.specs.declared.call.TheConstants.{INPUT_LIMIT}
+
+-- the most bytes that an input may have: 64 MiB
+abbrev pub input_limit : ℕ
+input_limit = 67108864
 
 -- a source: the bytes that are left, where it tells them, how often it failed, and how many bytes it gave
 pub record SourceState : Type 0 where
@@ -37,7 +40,7 @@ call_of left faults given written sink_faults s s' k k' = record {
 
 -- these bytes were read, within the limit. They are all that the source had, where it tells that
 pub record ReadsAll (before after : SourceState) (bytes : List ℕ) : Type 0 where
-  pub short : length bytes ≤ INPUT_LIMIT
+  pub short : length bytes ≤ input_limit
   pub given : RoseBy (length bytes) before.given after.given
   pub told : IfSome before.left (λ left. (bytes ≡ left) × (after.left ≡ Some []))
 

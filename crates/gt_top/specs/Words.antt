@@ -5,8 +5,7 @@ use Rattle.std.specs.declared.option.Option.TheVariants.{None, Some}
 use Rattle.std.specs.declared.result.Result.{Result}
 use Rattle.std.specs.declared.result.Result.TheVariants.{Ok, Err}
 use Rattle.gt_model.specs.Good.{most_entries}
-use Rattle.gt_script.specs.Number.{number_of}
-use Rattle.gt_top.specs.declared.words.TheConstants.{DEFAULT_LIMIT}
+use Rattle.gt_lines.specs.Number.{number_of}
 use Rattle.gt_top.specs.declared.words.Order.{Order}
 use Rattle.gt_top.specs.declared.words.WordFault.{WordFault}
 
@@ -14,6 +13,10 @@ use Rattle.gt_top.specs.declared.words.WordFault.{WordFault}
 abbrev pub is_option : List ℕ → Bool
 is_option (first ∷ second ∷ rest) = first == 45
 is_option _ = false
+
+-- how many entries a run may have where no word says it
+abbrev pub default_limit : ℕ
+default_limit = 10000
 
 -- a number from 1 to the greatest limit
 abbrev pub limit_of : List ℕ → Result ℕ WordFault
@@ -24,7 +27,7 @@ limit_of value = elim (number_of value) [
 
 -- the limit that the words behind a command give: `-l LIMIT`, or none
 abbrev pub limit_after : List (List ℕ) → Result ℕ WordFault
-limit_after [] = Ok DEFAULT_LIMIT
+limit_after [] = Ok default_limit
 limit_after (option ∷ value ∷ []) = if bytes_eq option (codes "-l") && not (is_option value) then limit_of value else Err WordFault.Form
 limit_after _ = Err WordFault.Form
 

@@ -2,7 +2,7 @@
 
 ghost use Rattle.std.specs.Prelude.{◌≡◌, ℕ, IfOk, IfErr, map, string_bytes};
 ghost use Rattle.gt_model.specs.Good.{IsGood, AreLimits};
-ghost use Rattle.gt_script.specs.Grammar.{Spells};
+ghost use Rattle.gt_grammar.specs.Grammar.{Spells};
 ghost use Rattle.gt_top.specs.Call.{call_of, source_state, sink_state, ReadsAll};
 ghost use Rattle.gt_top.specs.Answer.{Answers, Simulates, IsAccepted, IsDoneOrNoMemory, ReadsNot, SpellsNot, Prints};
 
@@ -11,7 +11,7 @@ use crate::status::Status;
 use crate::words::{Order, read_words};
 use gt_io::{ReadError, Sink, Source, read_to_limit};
 use gt_model::{Limits, Script};
-use gt_script::{Why, read_script};
+use gt_script::{Unread, read_script};
 use gt_trace::write_trace;
 use std::alloc::Global;
 
@@ -89,10 +89,8 @@ fn spelled_script(alloc: Global, bytes: Vec<u8>) -> Result<Script, Status>
 {
     match read_script(alloc, bytes.as_slice()) {
         Ok(script) => Ok(script),
-        Err(fault) => match fault.why {
-            Why::NoMemory => Err(Status::NoMemory),
-            _ => Err(Status::BadScript(fault)),
-        },
+        Err(Unread::Refused { fault }) => Err(Status::BadScript(fault)),
+        Err(Unread::NoMemory) => Err(Status::NoMemory),
     }
 }
 

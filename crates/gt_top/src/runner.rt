@@ -1,51 +1,23 @@
 //! Runs a script on one worker, one whole call at a time: a goroutine goes on until it waits or ends, then the next of the run queue does. Timers are
 //! served only where nobody is to run, and the clock moves only where nothing is due.
 
-ghost use Rattle.std.specs.Prelude.{◌≡◌, ◌≤◌, ◌<◌, false, IfOk, IsSomeAnd, Some, None};
+ghost use Rattle.std.specs.Prelude.{◌≡◌, ◌≤◌, ◌<◌, false, IfOk, Some, None};
 ghost use Rattle.gt_model.specs.Good.{IsGood, AreLimits};
 ghost use Rattle.gt_rules.specs.State as at;
 ghost use Rattle.gt_book.specs.Least.{NobodyRuns, IsTimeOf};
 ghost use Rattle.gt_book.specs.Schedule.{status_of};
 ghost use Rattle.gt_book.specs.Steps.{MayCommit, is_gone, step_of};
 ghost use Rattle.gt_book.specs.View.{outcome_of};
-ghost use Rattle.gt_book.specs.declared.answers.TimerOp.{TimerOp};
 ghost use Rattle.gt_book.specs.declared.status.RunStatus.{RunStatus};
 ghost use Rattle.gt_book.specs.declared.step.Step.{Step};
 ghost use Rattle.gt_top.specs.Run.{IsComplete, IsAlone, Goes, HandsFree, Moves, Passes, Turns, run_left};
 
 use gt_book::{Book, Did, Due, Op, Pick, TimerOp, Whose};
-use gt_model::{Instr, Limits, NoMemory, Script, due_after};
+use gt_model::{Limits, NoMemory, Script, due_after};
 use std::alloc::Global;
 
 /// The number of the program's world.
 const PROGRAM: u32 = 0;
-
-/// What `new` and `reset` do with a timer, by the instruction of their goroutine.
-fn setting(book: &Book, g: u32, t: u32) -> Option<Op>
-    requires wanted { step_of book.now.script book.now.state g ≡ Some (Step.Needs (TimerOp.Set t)) }
-    requires in_hand { status_of book.now.schedule g ≡ Some RunStatus.InHand }
-    requires running { outcome_of book.now ≡ None }
-    ensures { IsSomeAnd result (λ op. MayCommit book.now op × (is_gone book.now op ≡ false)) }
-{
-    book.lawful();
-    let now = book.clock_of(PROGRAM);
-    match *book.instr_of(g) {
-        Instr::New { d, .. } => Some(Op::New {
-            g,
-            t,
-            due: due_after(now, d),
-            period: 0,
-        }),
-        Instr::Reset { d, .. } => Some(Op::Reset {
-            g,
-            t,
-            was: book.due_of(t).is_some(),
-            due: due_after(now, d),
-            period: 0,
-        }),
-        _ => None,
-    }
-}
 
 /// The operation that an instruction wants of a timer's record, with its answer.
 fn operation(book: &Book, g: u32, wanted: TimerOp) -> Op
@@ -56,17 +28,30 @@ fn operation(book: &Book, g: u32, wanted: TimerOp) -> Op
     ensures not_gone { is_gone book.now result ≡ false }
 {
     book.lawful();
+    let now = book.clock_of(PROGRAM);
     match wanted {
         TimerOp::Sleep(d) => Op::Sleep {
             g,
-            until: due_after(book.clock_of(PROGRAM), d),
+            until: due_after(now, d),
         },
         TimerOp::Stop(t) => Op::Stop {
             g,
             t,
             was: book.due_of(t).is_some(),
         },
-        TimerOp::Set(t) => setting(book, g, t).unwrap(),
+        TimerOp::New { t, d } => Op::New {
+            g,
+            t,
+            due: due_after(now, d),
+            period: 0,
+        },
+        TimerOp::Reset { t, d } => Op::Reset {
+            g,
+            t,
+            was: book.due_of(t).is_some(),
+            due: due_after(now, d),
+            period: 0,
+        },
     }
 }
 
