@@ -9,6 +9,3 @@ mod words;
 pub use call::{INPUT_LIMIT, calm};
 pub use status::Status;
 pub use words::{DEFAULT_LIMIT, WordFault};
-
-#[cfg(test)]
-mod tests;

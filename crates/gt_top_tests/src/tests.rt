@@ -1,9 +1,9 @@
 //! What no clause says: that memory suffices, and how the answers read.
 
-use crate::{Status, WordFault, calm};
 use gt_io::{SureSink, SureSource};
 use gt_model::Outcome;
 use gt_script::{ScriptFault, Why};
+use gt_top::{Status, WordFault, calm};
 use std::alloc::Global;
 use std::test::Fail;
 

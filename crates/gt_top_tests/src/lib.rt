@@ -1,0 +1,5 @@
+//! Scripts and their traces: what no clause of the top call says.
+#![tactic(auto)]
+
+#[cfg(test)]
+mod tests;
