@@ -99,8 +99,8 @@ impl Sink for SureSink {
     }
 }
 
-/// A writer, as standard output is one, as a sink. It holds no bytes back and tells nothing of them. A
-/// write that a signal interrupts is tried again, and is a fault after 64 tries.
+/// A writer, as standard output is one, as a sink. It holds no bytes back and tells nothing of them: over it goes
+/// [`BufferedSink`](crate::BufferedSink) where pieces are small. A write that a signal interrupts is tried again, and is a fault after 64 tries.
 #[derive(Drop)]
 pub struct StdSink<W> {
     writer: W,
@@ -110,7 +110,8 @@ pub struct StdSink<W> {
 impl<W: Write> StdSink<W> {
     /// The sink over this writer, as `io::writer(&rt)`. Each write to it is one write to the writer.
     pub fn new(writer: W) -> StdSink<W>
-        ensures { ⟦<StdSink<W> as Sink>⟧.faults result ≡ 0 }
+        ensures no_faults { ⟦<StdSink<W> as Sink>⟧.faults result ≡ 0 }
+        ensures tells_nothing { ⟦<StdSink<W> as Sink>⟧.written result ≡ None }
     {
         StdSink { writer, faults: 0 }
     }
