@@ -6,6 +6,7 @@ if ! command -v valgrind >/dev/null; then
     exit 0
 fi
 "$top/gotime" sim <"$top/examples/sleep.gotime" >/dev/null || exit 1
+program=$(echo "$top"/out/gotime-*)
 work=$(mktemp -d) || exit 1
 trap 'rm -rf "$work"' EXIT
 
@@ -37,7 +38,7 @@ script() {
 
 # instructions LIMIT: how many instructions the program takes on the script
 instructions() {
-    valgrind --tool=callgrind --callgrind-out-file="$work/out" "$top/crates/gt_cli/out/gt_cli" sim -l "$1" <"$work/script" 2>"$work/log" >"$work/trace"
+    valgrind --tool=callgrind --callgrind-out-file="$work/out" "$program" sim -l "$1" <"$work/script" 2>"$work/log" >"$work/trace"
     sed -n 's/.*Collected : \([0-9]*\).*/\1/p' "$work/log"
 }
 

@@ -2,10 +2,12 @@
 //! and that a call fails only where the count of faults of what it was handed rose.
 #![tactic(auto)]
 
+mod buffered;
 mod sinks;
 mod sources;
 mod whole;
 
+pub use buffered::BufferedSink;
 pub use sinks::{Sink, StdSink, SureSink};
 pub use sources::{Source, StdSource, SureSource};
 pub use whole::{ReadError, read_to_limit, write_all};

@@ -1,8 +1,9 @@
 // What takes bytes.
-ghost use Rattle.std.specs.Prelude.{◌≡◌, ℕ, ◌-◌, ◌<◌, ◌≤◌, List, [], ◌++◌, length, take, Option, Some, None, IfOk, IfSome, OnErr, true, false};
+ghost use Rattle.std.specs.Prelude.{◌≡◌, ℕ, ◌-◌, ◌<◌, ◌≤◌, List, [], ◌++◌, length, take, Option, Some, None, IfOk, IfSome, IfNone, OnErr, true, false};
 ghost use Rattle.gt_io.specs.Counts.{Rose};
 ghost use Rattle.gt_io.specs.Bytes.{Appended};
 ghost use Rattle.gt_io.specs.Sure.{told};
+ghost use Rattle.std.specs.Io.KnownBytes.{Appends, Keeps};
 
 use crate::{Failed, NoMemory, TRIES};
 use std::alloc::Global;
@@ -17,7 +18,7 @@ pub trait Sink {
     // How many faults there were.
     ghost faults: { Self → ℕ };
 
-    /// Writes a front of the bytes, and answers how many of them it wrote.
+    /// Writes a prefix of the bytes, and answers how many of them it wrote.
     fn write(&mut self, bytes: &[u8]) -> Result<usize, Failed>
         ensures within { IfOk result (λ n. n ≤ length bytes.now) }
         ensures appended { IfOk result (λ n.
@@ -99,18 +100,30 @@ impl Sink for SureSink {
     }
 }
 
-/// A writer, as standard output is one, as a sink. It holds no bytes back and tells nothing of them. A
-/// write that a signal interrupts is tried again, and is a fault after 64 tries.
+/// A writer, as standard output is one, as a sink. It holds no bytes back and tells nothing of them: over it goes
+/// [`BufferedSink`](crate::BufferedSink) where pieces are small. A write that a signal interrupts is tried again, and is a fault after 64 tries.
 #[derive(Drop)]
 pub struct StdSink<W> {
     writer: W,
     faults: u64,
 }
 
+impl<W> Model for StdSink<W> {
+    ghost use Rattle.gt_io.specs.Tried.{Tried, tried_code};
+
+    ghost Value = { Tried W };
+
+    ghost coded = { tried_code W.code };
+
+    ghost view = { λ s. record { writer = s.writer; faults = s.faults } };
+}
+
 impl<W: Write> StdSink<W> {
     /// The sink over this writer, as `io::writer(&rt)`. Each write to it is one write to the writer.
     pub fn new(writer: W) -> StdSink<W>
-        ensures { ⟦<StdSink<W> as Sink>⟧.faults result ≡ 0 }
+        ensures writer { result.writer ≡ writer }
+        ensures no_faults { ⟦<StdSink<W> as Sink>⟧.faults result ≡ 0 }
+        ensures tells_nothing { ⟦<StdSink<W> as Sink>⟧.written result ≡ None }
     {
         StdSink { writer, faults: 0 }
     }
@@ -121,7 +134,22 @@ impl<W: Write> Sink for StdSink<W> {
 
     ghost faults = { λ s. s.faults };
 
-    fn write(&mut self, bytes: &[u8]) -> Result<usize, Failed> {
+    fn write(&mut self, bytes: &[u8]) -> Result<usize, Failed>
+        ensures within { IfOk result (λ n. n ≤ length bytes.now) }
+        ensures stuck { IfOk result (λ n. n ≡ 0 → 0 < length bytes.now →
+            Rose self.old.faults self.new.faults) }
+        ensures failed { OnErr result (Rose self.old.faults self.new.faults) }
+        ensures faults_never_fall { self.old.faults ≤ self.new.faults }
+
+        // Only a write that took nothing is a fault.
+        ensures no_fault { IfOk result (λ n. 0 < n → self.new.faults ≡ self.old.faults) }
+
+        // Where the writer tells its bytes, it has what was taken, and nothing of it after a fault.
+        ensures handed { IfOk result (λ n.
+            Appends (W.contents self.old.writer) (W.contents self.new.writer) (take n bytes.now)) }
+        ensures handed_nothing { OnErr result
+            (Keeps (W.contents self.old.writer) (W.contents self.new.writer)) }
+    {
         let count = write_uninterrupted(&mut self.writer, bytes);
         if let Some(n) = count
             && (n > 0 || bytes.is_empty())
@@ -135,7 +163,10 @@ impl<W: Write> Sink for StdSink<W> {
 
 // One write, tried again where a signal interrupted it, or nothing where it failed.
 fn write_uninterrupted<W: Write>(writer: &mut W, bytes: &[u8]) -> Option<usize>
-    ensures { IfSome result (λ n. n ≤ length bytes.now) }
+    ensures within { IfSome result (λ n. n ≤ length bytes.now) }
+    ensures handed { IfSome result (λ n.
+        Appends (W.contents writer.old) (W.contents writer.new) (take n bytes.now)) }
+    ensures handed_nothing { IfNone result (Keeps (W.contents writer.old) (W.contents writer.new)) }
 {
     for _ in 0..TRIES {
         match writer.write(bytes) {

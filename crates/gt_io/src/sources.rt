@@ -18,7 +18,7 @@ pub trait Source {
     // How many bytes were given.
     ghost given: { Self → ℕ };
 
-    /// Reads into the front of the buffer, and answers how many bytes it read. An answer of 0, for a
+    /// Reads into the buffer from its beginning, and answers how many bytes it read. An answer of 0, for a
     /// buffer that is not empty, is the end.
     fn read(&mut self, into: &mut [u8]) -> Result<usize, Failed>
         ensures within { IfOk result (λ n. n ≤ length into.new) }

@@ -1,10 +1,11 @@
 // What no clause says: that memory suffices, and what real and failing readers and writers do.
-ghost use Rattle.std.specs.Prelude.{◌≤◌, IfOk};
+ghost use Rattle.std.specs.Prelude.{◌≤◌, None, IfOk};
 
 use crate::{
-    Failed, ReadError, Sink, Source, StdSink, StdSource, SureSink, SureSource, read_to_limit,
-    write_all,
+    BufferedSink, Failed, ReadError, Sink, Source, StdSink, StdSource, SureSink, SureSource,
+    read_to_limit, write_all,
 };
+use std::alloc::Global;
 use std::io;
 use std::io::{Error, ErrorKind, Read, Write};
 use std::test::Fail;
@@ -56,9 +57,10 @@ fn read_to_limit_reads_the_whole_or_refuses(rt: HostRuntime) -> Result<(), Fail>
     Ok(())
 }
 
-// A reader and a writer of two bytes a call, whose third call fails.
+// A reader and a writer of two bytes a call. Its first calls are interrupted, and of the others the third fails.
 #[derive(Drop)]
 struct Faulty {
+    interrupts: u8,
     calls: u8,
 }
 
@@ -66,6 +68,10 @@ impl Faulty {
     fn count(&mut self, len: usize) -> io::Result<usize>
         ensures { IfOk result (λ n. n ≤ len) }
     {
+        if self.interrupts > 0 {
+            self.interrupts -= 1;
+            return Err(Error::from(ErrorKind::Interrupted));
+        }
         self.calls = self.calls.saturating_add(1);
         if self.calls == 3 {
             return Err(Error::from(ErrorKind::Other));
@@ -90,15 +96,85 @@ impl Write for Faulty {
     }
 }
 
+// The sink of the command over a faulty writer: the writer takes four bytes, and then fails.
+fn over_faulty(alloc: Global, interrupts: u8) -> Result<BufferedSink<StdSink<Faulty>>, Fail> {
+    let writer = Faulty {
+        interrupts,
+        calls: 0,
+    };
+    Ok(BufferedSink::new(alloc, StdSink::new(writer))?)
+}
+
 #[test]
-fn a_fault_in_mid_stream_is_answered(rt: HostRuntime) {
-    let mut source = StdSource::new(Faulty { calls: 0 });
+fn a_fault_in_mid_stream_is_answered(rt: HostRuntime) -> Result<(), Fail> {
+    let mut source = StdSource::new(Faulty {
+        interrupts: 0,
+        calls: 0,
+    });
     let read = read_to_limit(rt.alloc(), &mut source, 100);
     assert!(rt; matches!(read, Err(ReadError::Failed)));
     for (len, want) in [(0, Ok(())), (4, Ok(())), (5, Err(Failed))] {
-        let mut sink = StdSink::new(Faulty { calls: 0 });
-        assert_eq!(rt; write_all(&mut sink, &[7; 5][..len]), want);
+        let mut sink = over_faulty(rt.alloc(), 0)?;
+        assert_eq!(rt; write_all(&mut sink, &[7; 5][..len]), Ok(()));
+        assert_eq!(rt; sink.flush(), want);
     }
+    let mut sink = over_faulty(rt.alloc(), 0)?;
+    assert_eq!(rt;
+        write_all(&mut sink, vec![in rt.alloc(); 7; 65_540]?.as_slice()),
+        Ok(())
+    );
+    assert_eq!(rt; write_all(&mut sink, b"1"), Err(Failed));
+    Ok(())
+}
+
+#[test]
+fn an_interrupted_call_is_tried_again(rt: HostRuntime) -> Result<(), Fail> {
+    for (interrupts, goes) in [(1, true), (63, true), (64, false)] {
+        let mut source = StdSource::new(Faulty {
+            interrupts,
+            calls: 0,
+        });
+        assert_eq!(rt; source.read(&mut [0; 2]).is_ok(), goes);
+        let mut sink = over_faulty(rt.alloc(), interrupts)?;
+        write_all(&mut sink, b"ab")?;
+        assert_eq!(rt; sink.flush().is_ok(), goes);
+    }
+    Ok(())
+}
+
+// A sink that takes all, and counts its writes and their bytes.
+#[derive(Drop)]
+struct Counting {
+    writes: u64,
+    bytes: u64,
+}
+
+impl Sink for Counting {
+    ghost written = { λ _. None };
+
+    ghost faults = { λ _. 0 };
+
+    fn write(&mut self, bytes: &[u8]) -> Result<usize, Failed> {
+        self.writes = self.writes.saturating_add(1);
+        self.bytes = self.bytes.saturating_add(bytes.len() as u64);
+        Ok(bytes.len())
+    }
+}
+
+#[test]
+fn a_hundred_thousand_long_lines_take_few_writes(rt: HostRuntime) -> Result<(), Fail> {
+    let counting = Counting {
+        writes: 0,
+        bytes: 0,
+    };
+    let mut sink = BufferedSink::new(rt.alloc(), counting)?;
+    for _ in 0..100_000 {
+        write_all(&mut sink, &[7; 99])?;
+    }
+    sink.flush()?;
+    assert_eq!(rt; sink.sink().bytes, 9_900_000);
+    assert!(rt; sink.sink().writes <= 200);
+    Ok(())
 }
 
 #[test]

@@ -11,7 +11,7 @@ pub fn write_all<K: Sink>(sink: &mut K, bytes: &[u8]) -> Result<(), Failed>
     ensures ok { OnOk result (Appended (K.written sink.old) (K.written sink.new) bytes.now) }
     ensures empty { length bytes.now ≡ 0 → IsOk result × (sink.new ≡ sink.old) }
 
-    // It fails only by a fault in this call, and some front of the bytes may be written then.
+    // It fails only by a fault in this call, and some prefix of the bytes may be written then.
     ensures failed { OnErr result (Rose (K.faults sink.old) (K.faults sink.new)) }
     ensures front { OnErr result ((k : ℕ) × (k ≤ length bytes.now)
         × Appended (K.written sink.old) (K.written sink.new) (take k bytes.now)) }

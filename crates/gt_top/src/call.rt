@@ -1,6 +1,6 @@
 //! The top call.
 
-ghost use Rattle.std.specs.Prelude.{◌≡◌, ℕ, IfOk, IfErr, map, string_bytes};
+ghost use Rattle.std.specs.Prelude.{◌≡◌, ◌≤◌, ℕ, IfOk, IfErr, map, string_bytes};
 ghost use Rattle.gt_model.specs.Good.{IsGood, AreLimits};
 ghost use Rattle.gt_grammar.specs.Grammar.{Spells};
 ghost use Rattle.gt_top.specs.Call.{call_of, source_state, sink_state, ReadsAll};
@@ -35,6 +35,8 @@ pub fn calm<S: Source, K: Sink>(
     ensures complete { IsAccepted (map string_bytes words.now)
         (call_of S.left S.faults S.given K.written K.faults source.old source.new sink.old sink.new)
         → IsDoneOrNoMemory result }
+
+    ensures faults_never_fall { K.faults sink.old ≤ K.faults sink.new }
 {
     match read_words(words) {
         Ok(Order::Sim { limit }) => simulate(alloc, Limits { entries: limit }, source, sink),
@@ -50,8 +52,9 @@ fn simulate<S: Source, K: Sink>(
     sink: &mut K,
 ) -> Status
     requires { AreLimits limits }
-    ensures { Simulates limits
+    ensures answer { Simulates limits
         (call_of S.left S.faults S.given K.written K.faults source.old source.new sink.old sink.new) result }
+    ensures faults_never_fall { K.faults sink.old ≤ K.faults sink.new }
 {
     let bytes = match read_input(alloc, source) {
         Ok(bytes) => bytes,
@@ -98,8 +101,9 @@ fn spelled_script(alloc: Global, bytes: Vec<u8>) -> Result<Script, Status>
 fn print_run<K: Sink>(alloc: Global, script: Script, limits: Limits, sink: &mut K) -> Status
     requires good { IsGood script }
     requires limits { AreLimits limits }
-    ensures { Prints script limits
+    ensures prints { Prints script limits
         (sink_state K.written K.faults sink.old) (sink_state K.written K.faults sink.new) result }
+    ensures faults_never_fall { K.faults sink.old ≤ K.faults sink.new }
 {
     let Ok(book) = run_script(alloc, script, limits) else {
         return Status::NoMemory;
