@@ -2,7 +2,7 @@
 use Rattle.std.specs.Prelude.{ℕ, List, [], ◌++◌, codes, decimal}
 use Rattle.std.specs.declared.option.Option.{Option}
 use Rattle.std.specs.declared.option.Option.TheVariants.{None, Some}
-use Rattle.gt_script.specs.declared.fault.Why.{Why}
+use Rattle.gt_grammar.specs.declared.fault.Why.{Why}
 use Rattle.gt_top.specs.declared.status.Status.{Status}
 use Rattle.gt_top.specs.declared.words.WordFault.{WordFault}
 use Rattle.gt_command.specs.declared.end.End.{End}
@@ -35,7 +35,6 @@ cause_word Why.Number = codes "number"
 cause_word Why.Nest = codes "nest"
 cause_word Why.Many = codes "many"
 cause_word Why.NoMain = codes "nomain"
-cause_word Why.NoMemory = codes "nomemory"
 
 -- what a line says after the name of the program
 abbrev pub reason_of : FaultLine → List ℕ

@@ -132,6 +132,5 @@ fn cause_word(why: Why) -> &'static str
         Why::Nest => "nest",
         Why::Many => "many",
         Why::NoMain => "nomain",
-        Why::NoMemory => "nomemory",
     }
 }
