@@ -3,6 +3,8 @@
 ghost use Rattle.std.specs.Prelude.{◌≡◌};
 ghost use Rattle.gt_heap_bench.specs.Exit.{exit_of};
 
+use std::alloc::AllocError;
+
 /// Why nothing was counted.
 #[derive(Clone, Copy)]
 pub enum Fault {
@@ -12,6 +14,16 @@ pub enum Fault {
     NoMemory,
     /// The length was not printed.
     Write,
+}
+
+impl From<AllocError> for Fault {
+    ghost use Rattle.gt_heap_bench.specs.declared.fault.Fault.TheVariants.{NoMemory};
+
+    ghost from_gives = { λ _ e. e ≡ NoMemory };
+
+    fn from(_: AllocError) -> Fault {
+        Fault::NoMemory
+    }
 }
 
 /// The exit status of a fault.

@@ -9,7 +9,6 @@ mod task;
 mod work;
 
 use fault::{Fault, exit_status};
-use gt_heap::NoMemory;
 use std::marker::Brand;
 use std::process::ExitCode;
 use std::sync::ledger::Blank;
@@ -29,10 +28,8 @@ fn run(rt: &HostRuntime) -> Result<(), Fault> {
     let Some(task) = read_task(words.as_slice()) else {
         return Err(Fault::Usage);
     };
-    match final_length::<Brand>(rt.alloc(), Blank::new(1), task) {
-        Ok(length) => print_length(rt, length),
-        Err(NoMemory) => Err(Fault::NoMemory),
-    }
+    let length = final_length::<Brand>(rt.alloc(), Blank::new(1), task)?;
+    print_length(rt, length)
 }
 
 /// The words behind the program's name.

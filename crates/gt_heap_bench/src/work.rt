@@ -5,8 +5,8 @@ ghost use Rattle.gt_heap_bench.specs.Task.{entry_count, count_after};
 
 use crate::draws::Draws;
 use crate::task::{Calls, Task};
-use gt_heap::{NoMemory, Quad, Steps};
-use std::alloc::Global;
+use gt_heap::{Quad, Steps};
+use std::alloc::{AllocError, Global};
 use std::sync::ledger::{Blank, Ledger};
 
 // How many calls are made.
@@ -16,7 +16,7 @@ const CALLS: u32 = 1000;
 ///
 /// # Errors
 /// No memory for the entries and a thousand more.
-pub fn final_length<L: Ledger>(alloc: Global, blank: Blank, task: Task) -> Result<usize, NoMemory>
+pub fn final_length<L: Ledger>(alloc: Global, blank: Blank, task: Task) -> Result<usize, AllocError>
     requires { (blank.name ≡ L.name) × (blank.parts ≡ L.parts) × (0 < L.parts) }
     ensures { IfOk result (λ n. n ≡ count_after task.calls (entry_count task.size)) }
 {

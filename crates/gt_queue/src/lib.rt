@@ -7,7 +7,5 @@
 
 mod links;
 mod queues;
-#[cfg(test)]
-mod tests;
 
-pub use queues::{NoMemory, Queues};
+pub use queues::Queues;

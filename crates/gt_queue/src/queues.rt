@@ -6,16 +6,6 @@ use crate::links::{alone, splice};
 use std::alloc::{AllocError, Global};
 use std::marker::Model;
 
-/// No memory was left.
-#[derive(Clone, Copy, Debug, PartialEq, Eq)]
-pub struct NoMemory;
-
-impl From<AllocError> for NoMemory {
-    fn from(_: AllocError) -> NoMemory {
-        NoMemory
-    }
-}
-
 /// Queues of members, both numbered from 0. It is seen as the list of its queues, each the list of its members with the
 /// longest waiting first, and the number `members` below which each member's number lies.
 ///
@@ -47,7 +37,7 @@ impl Model for Queues {
 
 impl Queues {
     /// So many empty queues, for so many members: together fewer than 2^32. It alone takes memory.
-    pub fn with_room(alloc: Global, queues: usize, members: usize) -> Result<Queues, NoMemory>
+    pub fn with_room(alloc: Global, queues: usize, members: usize) -> Result<Queues, AllocError>
         requires { queues + members < 2 ^ 32 }
         ensures queues { IfOk result (λ made. made.queues ≡ replicate queues []) }
         ensures members { IfOk result (λ made. made.members ≡ members) }

@@ -4,15 +4,8 @@
 ghost use Rattle.std.specs.Prelude.{◌≡◌, ℕ, ◌+◌, ◌<◌, ◌↔◌, [], ◌∷◌, ◌++◌, length, slice_get, slice_index_or, slice_set, replicate, IsTrue, IsOk, IfOk};
 ghost use Rattle.std.specs.Borrow.{sem};
 
-use std::alloc::Global;
+use std::alloc::{AllocError, Global};
 use std::marker::Model;
-
-#[cfg(test)]
-mod tests;
-
-/// Memory ran out.
-#[derive(Clone, Copy, Debug, PartialEq, Eq)]
-pub struct NoMemory;
 
 /// A list with room for a number of items that was fixed when it was made. It is seen as its `items`, in order, and the
 /// number `spare` of items that still fit.
@@ -39,15 +32,13 @@ impl<T> Room<T> {
     ghost use Rattle.gt_room.specs.Lending.{LendsItem};
 
     /// An empty room for `n` items. It takes their memory here, or fails for want of it; no later call takes any.
-    pub fn with_room(alloc: Global, n: usize) -> Result<Room<T>, NoMemory>
+    pub fn with_room(alloc: Global, n: usize) -> Result<Room<T>, AllocError>
         ensures empty { IfOk result (λ room. room.items ≡ []) }
         ensures spare { IfOk result (λ room. room.spare ≡ n) }
         ensures needs_none { n ≡ 0 → IsOk result }
     {
-        match Vec::with_capacity(alloc, n) {
-            Ok(items) => Ok(Room { items }),
-            Err(_) => Err(NoMemory),
-        }
+        let items = Vec::with_capacity(alloc, n)?;
+        Ok(Room { items })
     }
 
     /// Adds an item at the end.
@@ -113,7 +104,7 @@ impl<T> Room<T> {
 
 impl<T: Copy> Room<T> {
     /// A room that holds `n` copies of `x`, with room for no more. It takes its memory here, or fails for want of it.
-    pub fn fill(alloc: Global, n: usize, x: T) -> Result<Room<T>, NoMemory>
+    pub fn fill(alloc: Global, n: usize, x: T) -> Result<Room<T>, AllocError>
         ensures items { IfOk result (λ room. room.items ≡ replicate n x) }
         ensures spare { IfOk result (λ room. room.spare ≡ 0) }
         ensures needs_none { n ≡ 0 → IsOk result }

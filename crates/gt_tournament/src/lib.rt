@@ -10,9 +10,7 @@
 #![tactic(auto)]
 
 mod matches;
-#[cfg(test)]
-mod tests;
 mod tournament;
 
 pub use matches::Winner;
-pub use tournament::{NoMemory, Tournament};
+pub use tournament::Tournament;

@@ -7,10 +7,6 @@ use crate::matches::{Winner, replay};
 use std::alloc::{AllocError, Global};
 use std::marker::Model;
 
-/// No memory was left.
-#[derive(Clone, Copy, Debug, PartialEq, Eq)]
-pub struct NoMemory;
-
 /// A table of keys by slot, from slot 0; each slot has a key or none. It is seen as the list of these.
 #[derive(Drop)]
 pub struct Tournament {
@@ -43,19 +39,17 @@ fn all_empty(alloc: Global, n: usize) -> Result<Vec<Option<Winner>>, AllocError>
 
 impl Tournament {
     /// A table with at least `n` slots, none of which has a key. It alone takes memory.
-    pub fn with_room(alloc: Global, n: u32) -> Result<Tournament, NoMemory>
+    pub fn with_room(alloc: Global, n: u32) -> Result<Tournament, AllocError>
         ensures empty { IfOk result (λ made. (slot : ℕ) → key_of made slot ≡ None) }
         ensures room { IfOk result (λ made. n ≤ length made) }
     {
         let slots = (n as usize).next_power_of_two();
-        match all_empty(alloc, 2 * slots) {
-            Ok(nodes) => Ok(Tournament {
-                slots,
-                top: slots,
-                nodes,
-            }),
-            Err(_) => Err(NoMemory),
-        }
+        let nodes = all_empty(alloc, 2 * slots)?;
+        Ok(Tournament {
+            slots,
+            top: slots,
+            nodes,
+        })
     }
 
     /// Gives a slot another key, or none.

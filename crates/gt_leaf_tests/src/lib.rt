@@ -1,0 +1,16 @@
+//! Tests of the crates that stand on no other: that memory is given where there is plenty, rows that were worked out by
+//! hand, and what no clause says.
+#![tactic(auto)]
+
+#[cfg(test)]
+mod heap;
+#[cfg(test)]
+mod lazy;
+#[cfg(test)]
+mod queue;
+#[cfg(test)]
+mod rec;
+#[cfg(test)]
+mod room;
+#[cfg(test)]
+mod tournament;
