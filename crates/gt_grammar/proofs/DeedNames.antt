@@ -1,22 +1,20 @@
 -- Where the names are declared that deeds declare: no two have one place, and functions stand in the order of their declarations.
-use Rattle.std.proofs.Common.{◌≡◌, ◌≢◌, ◌⊎◌, inl, inr, ℕ, zero, suc, ◌+◌, ◌<◌, ◌≤◌, Bool, true, false, not, cond, List, [], ◌∷◌, ◌++◌, length, map, slice_get, Option, Some, None, IsTrue, refl, sym, ap, subst, ◌∙◌, arith, codes, ltb}
+use Rattle.std.proofs.Common.{◌≡◌, ◌≢◌, ◌⊎◌, inl, inr, ℕ, zero, suc, ◌+◌, ◌<◌, Bool, true, false, not, cond, List, [], ◌∷◌, map, slice_get, Option, Some, None, IsTrue, refl, sym, ap, subst, ◌∙◌, arith, codes}
 use Rattle.std.specs.List.{All}
-use Rattle.std.specs.Option.{option_map, option_and_then}
 use Rattle.std.specs.Str.{bytes_eq}
 use Rattle.std.proofs.lemmas.Slice.Eq.{bytes_eq-Decides}
 use Rattle.std.proofs.lemmas.List.Elements.{All-cons}
 use Rattle.std.proofs.lemmas.Bool.{lt-ltb, both_ways, and_parts}
-use Rattle.gt_model.specs.declared.script.Script.{Script}
 use Rattle.gt_model.specs.declared.script.Func.{Func}
 use Rattle.gt_model.specs.declared.script.Decl.{Decl}
 use Rattle.gt_model.specs.declared.script.What.{What}
-use Rattle.gt_model.specs.Good.{HasNames, is_name, function_name, function_places}
+use Rattle.gt_model.specs.Good.{HasNames, is_name, function_places}
 use Rattle.gt_table.specs.declared.form.Kind.{Kind}
 use Rattle.gt_table.specs.Forms.{is_kind_function}
 use Rattle.gt_names.specs.declared.names.Declared.{Declared}
-use Rattle.gt_names.specs.Names.{Names, is_free_name, declaration, find}
+use Rattle.gt_names.specs.Names.{Names, is_free_name, find}
 use Rattle.gt_grammar.specs.Deeds.{Deed, declares, opens, does, closes, decl_of, func_of, decls_in, code_in, funcs_in}
-use Rattle.gt_grammar.proofs.Rightly.{kind_in, place_of, is_declared_before, naming_as, names_in, Starts, IsNew, Right}
+use Rattle.gt_grammar.proofs.Rightly.{kind_in, place_of, is_declared_before, names_in, Starts, Right}
 
 abbrev pub declared : Kind → ℕ → ℕ → Declared
 declared kind n f = record { kind = kind; place = n; func = f }
@@ -49,14 +47,17 @@ Placed names n f (closes ∷ rest) = Placed names n f rest
 placed-from : (names : Names) (deeds : List Deed) (inside : Bool) (n f k : ℕ) → Right names inside n f k deeds → FoundFrom names n f deeds → Placed names n f deeds
 placed-from names [] inside n f k r w = tt
 placed-from names (declares name what ∷ rest) inside n f k r w =
-    let x : Declared = declared (kind_in what) n f in
-    (here-by (names name) x (find (names_in (n + 1) f rest) name) (bytes_eq name name) n (same-name name) r.2.first (w name),
-    placed-from names rest false (n + 1) f k r.4 (λ q. further names q (bytes_eq q name) x (find (names_in (n + 1) f rest) q) n refl (w q)))
+    let x : Declared = declared (kind_in what) n f in (
+      here-by (names name) x (find (names_in (n + 1) f rest) name) (bytes_eq name name) n (same-name name) r.2.first (w name),
+      placed-from names rest false (n + 1) f k r.4 (λ q. further names q (bytes_eq q name) x (find (names_in (n + 1) f rest) q) n refl (w q)),
+    )
 placed-from names (opens name decl ∷ rest) inside n f k r w =
     let x : Declared = declared Kind.Function n f in
-    let here : names name ≡ Some x = here-by (names name) x (find (names_in (n + 1) (f + 1) rest) name) (bytes_eq name name) n (same-name name) r.3.first (w name) in
-    (here, r.4 ∙ ap place_of here,
-    placed-from names rest true (n + 1) (f + 1) k r.5 (λ q. further names q (bytes_eq q name) x (find (names_in (n + 1) (f + 1) rest) q) n refl (w q)))
+    let here : names name ≡ Some x = here-by (names name) x (find (names_in (n + 1) (f + 1) rest) name) (bytes_eq name name) n (same-name name) r.3.first (w name) in (
+      here,
+      r.4 ∙ ap place_of here,
+      placed-from names rest true (n + 1) (f + 1) k r.5 (λ q. further names q (bytes_eq q name) x (find (names_in (n + 1) (f + 1) rest) q) n refl (w q)),
+    )
 placed-from names (does i ∷ rest) inside n f k r w = placed-from names rest true n f (k + 1) r.3 w
 placed-from names (closes ∷ rest) inside n f k r w = placed-from names rest false n f k r.1 w
 

@@ -1,10 +1,9 @@
 -- What a line does fits where it stands, and refers to what is declared.
-use Rattle.std.proofs.Common.{◌≡◌, ℕ, ◌≤◌, Bool, true, false, not, cond, List, Option, Some, None, IfSome, Result, Ok, Err, refl, sym, ap, subst, ◌∙◌, arith, codes, leb, eqb, length}
+use Rattle.std.proofs.Common.{◌≡◌, ℕ, ◌≤◌, Bool, true, false, cond, List, Option, Some, None, IfSome, Result, Ok, Err, refl, subst, arith, codes, leb, eqb, length}
 use Rattle.std.specs.Option.{option_map, option_and_then}
 use Rattle.std.specs.Result.{result_ok}
 use Rattle.std.specs.Str.{bytes_eq, is_utf8}
 use Rattle.std.proofs.lemmas.Bool.{leb-true, cond_both}
-use Rattle.gt_model.specs.declared.script.What.{What}
 use Rattle.gt_model.specs.Times.{greatest_time}
 use Rattle.gt_dur.specs.declared.fault.DurFault.{DurFault}
 use Rattle.gt_dur.specs.Duration.{read_of, capped, outcome_of, begins_with_digit, unmet_place, nanoseconds_of}

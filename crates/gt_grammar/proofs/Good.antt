@@ -20,9 +20,9 @@ use Rattle.gt_names.specs.declared.names.Declared.{Declared}
 use Rattle.gt_names.specs.Names.{Names, Naming, naming, is_free_name, kind_of, named, naming_of, functions_with, Declaration, declaration, declarations_from, find, names_of}
 use Rattle.gt_grammar.specs.declared.fault.Why.{Why}
 use Rattle.gt_grammar.specs.declared.progress.Progress.{Progress}
-use Rattle.gt_grammar.specs.Statements.{Command, command, command_by, command_with, command_of, statement_of, value_of, is_head}
+use Rattle.gt_grammar.specs.Statements.{Command, command, command_by, command_with, command_of, value_of, is_head}
 use Rattle.gt_grammar.specs.Deeds.{Deed, declares, opens, does, closes, deed_of, deed_with, deed_at, deeds_of, func_place, script_in, script_with, script_of}
-use Rattle.gt_grammar.specs.Faults.{Test, test, stands, is_before, is_function, progress_after, progress_with, brings_too_many, lacks_main, fault_from, fault_in_lines, head_cause, no_progress}
+use Rattle.gt_grammar.specs.Faults.{test, stands, is_before, is_function, progress_after, progress_with, brings_too_many, lacks_main, fault_from, fault_in_lines, head_cause, no_progress}
 use Rattle.gt_grammar.proofs.Rightly.{kind_in, place_of, is_declared_before, naming_as, names_in, Refers, Starts, IsNew, Right}
 use Rattle.gt_grammar.proofs.DeedsGood.{deeds-good}
 use Rattle.gt_grammar.proofs.Fits.{FitsRole, IsFree, new-value}

@@ -2,7 +2,6 @@
 use Rattle.std.proofs.Common.{◌≡◌, ℕ, Bool, true, false, not, ◌&&◌, ◌||◌, List, [], ◌∷◌, Option, None, Some, refl, ◌∙◌}
 use Rattle.std.specs.Option.{option_map, is_some}
 use Rattle.gt_lines.specs.Words.{NumberedLine, is_end}
-use Rattle.gt_table.specs.declared.form.Arg.{Arg}
 use Rattle.gt_table.specs.declared.form.Step.{Step}
 use Rattle.gt_table.specs.Forms.{is_amount}
 use Rattle.gt_table.specs.Table.{form_of, step_of}

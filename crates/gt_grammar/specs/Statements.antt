@@ -4,7 +4,7 @@ use Rattle.std.specs.Option.{option_map, option_and_then}
 use Rattle.std.specs.Str.{bytes_eq}
 use Rattle.std.specs.declared.option.Option.{Option}
 use Rattle.std.specs.declared.option.Option.TheVariants.{None, Some}
-use Rattle.gt_lines.specs.Words.{Words, NumberedLine}
+use Rattle.gt_lines.specs.Words.{Words}
 use Rattle.gt_lines.specs.Number.{number_of}
 use Rattle.gt_table.specs.declared.form.Arg.{Arg}
 use Rattle.gt_table.specs.declared.form.Step.{Step}

@@ -1,13 +1,11 @@
 -- How lines are read one by one.
-use Rattle.std.proofs.Common.{◌≡◌, ℕ, Bool, true, false, not, cond, ◌&&◌, ◌||◌, List, [], ◌∷◌, ◌++◌, Option, Some, None, IfSome, IsSome, Result, Ok, Err, OnOk, IfOk, IfErr, refl, sym, ap, subst, ◌∙◌, append_assoc, codes}
+use Rattle.std.proofs.Common.{◌≡◌, ℕ, Bool, true, false, not, ◌&&◌, ◌||◌, List, [], ◌∷◌, ◌++◌, Option, Some, None, IfSome, IsSome, Result, Ok, Err, OnOk, IfOk, IfErr, refl, sym, ap, subst, ◌∙◌, append_assoc, codes}
 use Rattle.std.specs.Option.{option_map, option_and_then, option_to_list}
 use Rattle.std.specs.Str.{bytes_eq}
 use Rattle.gt_model.specs.declared.script.What.{What}
 use Rattle.gt_model.specs.declared.script.Instr.{Instr}
-use Rattle.gt_model.specs.declared.script.Script.{Script}
 use Rattle.gt_lines.specs.Words.{Words, NumberedLine, is_end}
 use Rattle.gt_table.specs.declared.form.Arg.{Arg}
-use Rattle.gt_table.specs.declared.form.Kind.{Kind}
 use Rattle.gt_table.specs.declared.form.Role.{Role}
 use Rattle.gt_table.specs.declared.form.Step.{Step}
 use Rattle.gt_table.specs.Forms.{is_kind_function, closes as closes_role}
@@ -18,7 +16,7 @@ use Rattle.gt_grammar.specs.declared.fault.ScriptFault.{ScriptFault}
 use Rattle.gt_grammar.specs.declared.progress.Progress.{Progress}
 use Rattle.gt_grammar.specs.declared.statement.Statement.{Statement}
 use Rattle.gt_grammar.specs.Statements.{Command, command_of, statement_of, step_with, is_head}
-use Rattle.gt_grammar.specs.Deeds.{Deed, declares, opens, does, closes, deed_of, deed_with, deed_at, deeds_of, decl_of, func_of, decls_in, code_in, funcs_in, func_place, script_of, script_with}
+use Rattle.gt_grammar.specs.Deeds.{Deed, declares, opens, does, closes, deed_of, deed_with, deeds_of, decl_of, func_of, decls_in, code_in, funcs_in, func_place, script_of, script_with}
 use Rattle.gt_grammar.specs.Faults.{role_of, stands, inside_after, progress_after, cause_at, fault_or, fault_from, fault_in_lines, head_cause, no_progress}
 use Rattle.gt_grammar.proofs.Fits.{FitsRole}
 use Rattle.gt_grammar.proofs.Rightly.{kind_in, Starts}

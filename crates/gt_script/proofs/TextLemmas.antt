@@ -1,11 +1,11 @@
 -- A text that is not UTF-8.
-use Rattle.std.proofs.Common.{◌≡◌, ◌≢◌, ◌⊎◌, inl, inr, ℕ, ◌<◌, Bool, true, false, cond, List, [], ◌∷◌, length, take, fold, Option, Some, None, Result, Ok, Err, OnOk, IfOk, IfErr, MatchResult, refl, sym, ap, subst, ◌∙◌, arith, ltb, eqb}
+use Rattle.std.proofs.Common.{◌≡◌, ℕ, ◌<◌, Bool, true, false, cond, List, length, take, Option, Some, None, Result, Ok, Err, OnOk, IfOk, IfErr, MatchResult, refl, sym, ap, subst, ◌∙◌, arith, ltb}
 use Rattle.std.specs.Str.{IsUtf8}
 use Rattle.std.specs.Str.Lossy.{utf8_valid_len}
 use Rattle.std.proofs.lemmas.Str.{utf8_valid_len-IsUtf8}
 use Rattle.std.proofs.lemmas.Bool.{lt-ltb, le-ltb}
 use Rattle.gt_model.specs.declared.script.Script.{Script}
-use Rattle.gt_lines.specs.Words.{numbered_lines, next}
+use Rattle.gt_lines.specs.Words.{numbered_lines}
 use Rattle.gt_grammar.specs.declared.fault.Why.{Why}
 use Rattle.gt_grammar.specs.declared.fault.ScriptFault.{ScriptFault}
 use Rattle.gt_grammar.specs.Deeds.{script_of}

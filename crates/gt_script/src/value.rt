@@ -62,6 +62,8 @@ fn new_place<'a>(names: &NameTable<'a>, word: &'a [u8]) -> Option<u32>
 }
 
 /// What a word of this kind stands for, with these names; `None` where the word is wrong.
+// Each line comes here twice, mostly for a word that is not wanted.
+#[inline(always)]
 pub(crate) fn read_value<'a>(names: &NameTable<'a>, arg: Arg, word: &'a [u8]) -> Option<u64>
     ensures value { result ≡ value_of (known names.now) arg word.now }
     ensures most { IfSome result (λ v. v ≤ most_of arg) }

@@ -54,8 +54,12 @@ impl Keyword {
         ensures { result ≡ form_of self }
     {
         let object = Role::Declares { kind: Kind::Timer };
-        let timer = Role::Declares { kind: Kind::AfterFunc };
-        let function = Role::Declares { kind: Kind::Function };
+        let timer = Role::Declares {
+            kind: Kind::AfterFunc,
+        };
+        let function = Role::Declares {
+            kind: Kind::Function,
+        };
         match self {
             Keyword::Timer => Form::new(object, Arg::NewName, Arg::Nothing),
             Keyword::AfterFunc => Form::new(timer, Arg::NewName, Arg::Function),

@@ -1,6 +1,6 @@
-// Worked texts: durations, and texts for each fault.
+//! Durations, and texts for each fault.
 
-use super::*;
+use gt_dur::{DurFault, read_dur};
 use std::test::Fail;
 
 #[test]

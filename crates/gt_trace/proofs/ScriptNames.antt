@@ -8,7 +8,6 @@ use Rattle.gt_model.specs.declared.script.Decl.{Decl}
 use Rattle.gt_model.specs.declared.script.Func.{Func}
 use Rattle.gt_model.specs.declared.script.What.{What}
 use Rattle.gt_model.specs.declared.entry.Entry.{Entry}
-use Rattle.gt_model.specs.Script.{what_at}
 use Rattle.gt_model.specs.Good.{IsGood, is_name, is_name_byte, is_letter}
 use Rattle.gt_model.specs.Named.{IsNamed, AllNamed}
 use Rattle.gt_model.proofs.GoodCode.{all_at, function_declared}

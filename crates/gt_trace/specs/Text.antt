@@ -1,5 +1,5 @@
 -- The text of a history: a line for each entry.
-use Rattle.std.specs.Prelude.{ℕ, ◌==◌, if◌then◌else◌, true, false, Bool, List, [], ◌∷◌, ◌++◌, codes, decimal, map, slice_get}
+use Rattle.std.specs.Prelude.{ℕ, ◌==◌, if◌then◌else◌, true, false, Bool, List, [], ◌++◌, codes, decimal, map, slice_get}
 use Rattle.std.specs.List.{flat_map, join_with_byte}
 use Rattle.std.specs.declared.option.Option.{Option}
 use Rattle.std.specs.declared.option.Option.TheVariants.{None, Some}

@@ -1,4 +1,4 @@
-use Rattle.std.proofs.Common.{◌≡◌, ◌∷◌, Some, refl, sym, ap, subst, ◌∙◌}
+use Rattle.std.proofs.Common.{◌≡◌, ◌∷◌, Some, refl, sym, subst, ◌∙◌}
 use Rattle.gt_model.specs.declared.script.Script.{Script}
 use Rattle.gt_lines.specs.Words.{numbered_lines}
 use Rattle.gt_lines.specs.Lines.{line_at, lines_at}
@@ -8,7 +8,7 @@ use Rattle.gt_grammar.specs.declared.fault.ScriptFault.{ScriptFault}
 use Rattle.gt_grammar.specs.Faults.{fault_from, fault_in_lines, no_progress}
 use Rattle.gt_grammar.proofs.Good.{good-read}
 use Rattle.gt_script.specs.declared.unread.Unread.{Unread}
-use Rattle.gt_script.specs.Unread.{fault_of, IfRefused}
+use Rattle.gt_script.specs.Unread.{IfRefused}
 use Rattle.gt_script.proofs.ReadingLemmas.{head-fault, head-right, script-is, on-ok, if-ok, if-err_refused}
 use Rattle.gt_script.proofs.read.read_lines.Goals as goal
 

@@ -1,0 +1,7 @@
+//! Worked texts for the readers: durations, scripts, and what is refused.
+#![tactic(auto)]
+
+#[cfg(test)]
+mod durations;
+#[cfg(test)]
+mod scripts;
