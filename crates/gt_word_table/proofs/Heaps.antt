@@ -55,6 +55,7 @@ others_stay words words' d id h g place other own count risen covers k (Rest r) 
   here = f.here;
   made = f.made;
   counts = λ q le. let far : q ≢ h.heap = λ e. absurd (let a = own.made in let b = f.made in omega arith) in other.counts q far ∙ f.counts q le;
+  held = λ q le inside. let far : q ≢ h.heap = λ e. absurd (let a = own.made in let b = f.made in omega arith) in other.heaps q far ∙ f.held q le inside;
   bumped = λ q le. let far : q ≢ g.heap = λ e. absurd (let a = own.made in let b = f.made in omega arith) in moved-other d.bumped g.heap (is_bumped g.phase) q far ∙ f.bumped q le;
 }
 others_stay words words' d id h g place other own count risen covers k (Worker w) ne f = record {
@@ -96,30 +97,33 @@ others_stay words words' d id h g place other own count risen covers k (Heap o) 
       here = f.here;
       made = f.made;
       count = other.counts o.heap far ∙ f.count;
+      word = other.heaps o.heap far ∙ f.word;
       bumped = moved-other d.bumped g.heap (is_bumped g.phase) o.heap far_g ∙ f.bumped;
       low = λ v e. let l = f.low v e in let same = other.heaps o.heap far in omega arith;
     }
 
 -- the step of a heap's seat on one of its words
-heap_step : (n : ℕ) (s : State Unit View) (j i x id : ℕ) (c : List (ℕ × Unit)) (h : HeapView) (p : Phase) (count : ℕ) (r : Holds n s) → j < 3 → i ≡ 3 * h.heap + j
+heap_step : (n : ℕ) (s : State Unit View) (j i x id : ℕ) (c : List (ℕ × Unit)) (h : HeapView) (p : Phase) (y count : ℕ) (r : Holds n s) → j < 3 → i ≡ 3 * h.heap + j
     → FitsHeap s.words r.deal id h
+    → heap_at (set s.words i x) h.heap ≡ y
     → count_at (set s.words i x) h.heap ≡ count → h.count ≤ count
     → ((v : ℕ) → p ≡ Phase.Low v → heap_at (set s.words i x) h.heap ≤ v)
     → ((m : Note) → Covers (is_bumped h.phase) (mod_at s.words h.heap) (heap_at s.words h.heap) h.count m
     → Covers (is_bumped p) (mod_at (set s.words i x) h.heap) (heap_at (set s.words i x) h.heap) count m)
-    → Holds n (stepped s i x id c (Heap (record { heap = h.heap; phase = p; count = count })) keeps)
-heap_step n s j i x id c h p count r small word own is risen low covers =
-    let g : HeapView = record { heap = h.heap; phase = p; count = count } in
+    → Holds n (stepped s i x id c (Heap (record { heap = h.heap; phase = p; word = y; count = count })) keeps)
+heap_step n s j i x id c h p y count r small place own held is risen low covers =
+    let g : HeapView = record { heap = h.heap; phase = p; word = y; count = count } in
     let words : List ℕ = set s.words i x in
     let mine : FitsHeap words (after r.deal g) id g = record {
       here = own.here;
       made = own.made;
       count = is;
+      word = held;
       bumped = moved-same r.deal.bumped h.heap (is_bumped p);
       low = low;
     } in
     step_holds n s (after r.deal g) i x id c (Heap g) r.words mine
-    (λ k u ne e. others_stay s.words words r.deal id h g refl (apart s.words h.heap j i x small word) own is risen covers k u ne (r.each k u e))
+    (λ k u ne e. others_stay s.words words r.deal id h g refl (apart s.words h.heap j i x small place) own is risen covers k u ne (r.each k u e))
 
 pub looks : (n id slots : ℕ) (h : HeapView) (c : List (ℕ × Unit))
     → Allows (Holds n) slots id (Heap h, c) (3 * h.heap) (λ x. x) (Looks (step slots (3 * h.heap) 0 0 none) (Heap h, c))
@@ -130,7 +134,7 @@ looks n id slots h c s r _ at _ =
       Heap (record h { phase = Phase.Seen found }),
       keeps,
       tt,
-      heap_step n s 0 (3 * h.heap) found id c h (Phase.Seen found) h.count r (omega arith) (omega arith) own (ap (λ ws. count_at ws h.heap) same ∙ own.count) (omega arith)
+      heap_step n s 0 (3 * h.heap) found id c h (Phase.Seen found) h.word h.count r (omega arith) (omega arith) own (ap (λ ws. heap_at ws h.heap) same ∙ own.word) (ap (λ ws. count_at ws h.heap) same ∙ own.count) (omega arith)
           (λ v e. cc)
           (λ m v. subst (λ ws. Covers false (mod_at ws h.heap) (heap_at ws h.heap) h.count m) (sym same) (Covers-seen (is_bumped h.phase) (mod_at s.words h.heap) (heap_at s.words h.heap) h.count m v)),
       refl,
@@ -158,10 +162,10 @@ lowers n id slots v h c inside s r _ at _ =
     let heap_is : heap_at words q ≡ x = get_or-set_same s.words (3 * q + 1) x 0 (omega arith) in
     let mod_is : mod_at words q ≡ mod_at s.words q = get_or-set_other s.words (3 * q + 1) (3 * q) x 0 (λ e. absurd (omega arith)) in
     let count_is : count_at words q ≡ count_at s.words q = get_or-set_other s.words (3 * q + 1) (3 * q + 2) x 0 (λ e. absurd (omega arith)) in (
-      Heap (record h { phase = lowered h.phase v }),
+      Heap (record h { phase = lowered h.phase v; word = min h.word v }),
       keeps,
       tt,
-      heap_step n s 1 (3 * q + 1) x id c h (lowered h.phase v) h.count r (omega arith) refl own (count_is ∙ own.count) (omega arith)
+      heap_step n s 1 (3 * q + 1) x id c h (lowered h.phase v) (min h.word v) h.count r (omega arith) refl own (heap_is ∙ ap (λ k. min k v) own.word) (count_is ∙ own.count) (omega arith)
           (λ u e. let l = low-lowered h.phase v (heap_at s.words q) u own.low e in omega arith)
           (λ m w. subst (λ (y : Bool × (ℕ × ℕ)). Covers y.0 y.1.0 y.1.1 h.count m)
           (λ j. (sym (is_bumped-lowered h.phase v) j, (sym mod_is j, sym heap_is j)))
@@ -185,7 +189,7 @@ clears n id slots seen new h c inside phase s r _ at _ =
       Heap (record h { phase = Phase.Cleared }),
       keeps,
       tt,
-      heap_step n s 0 (3 * q) x id c h Phase.Cleared h.count r (omega arith) (omega arith) own (count_is ∙ own.count) (omega arith)
+      heap_step n s 0 (3 * q) x id c h Phase.Cleared h.word h.count r (omega arith) (omega arith) own (heap_is ∙ own.word) (count_is ∙ own.count) (omega arith)
           (λ u e. cc)
           (λ m w.
           let was : Covers false found (heap_at s.words q) h.count m = subst (λ b. Covers b found (heap_at s.words q) h.count m) (ap is_bumped phase) w in
@@ -211,7 +215,7 @@ bumps n id slots h c inside phase small s r _ at _ =
       Heap (record h { phase = Phase.Bumped; count = h.count + 1 }),
       keeps,
       tt,
-      heap_step n s 2 (3 * q + 2) x id c h Phase.Bumped (h.count + 1) r (omega arith) refl own count_is (omega arith)
+      heap_step n s 2 (3 * q + 2) x id c h Phase.Bumped h.word (h.count + 1) r (omega arith) refl own (heap_is ∙ own.word) count_is (omega arith)
           (λ u e. cc)
           (λ m w.
           let was : Covers false (mod_at s.words q) (heap_at s.words q) h.count m = subst (λ b. Covers b (mod_at s.words q) (heap_at s.words q) h.count m) (ap is_bumped phase) w in
@@ -229,10 +233,10 @@ raises n id slots v h c inside phase s r _ at _ =
     let heap_is : heap_at words q ≡ v = get_or-set_same s.words (3 * q + 1) v 0 (omega arith) in
     let mod_is : mod_at words q ≡ mod_at s.words q = get_or-set_other s.words (3 * q + 1) (3 * q) v 0 (λ e. absurd (omega arith)) in
     let count_is : count_at words q ≡ count_at s.words q = get_or-set_other s.words (3 * q + 1) (3 * q + 2) v 0 (λ e. absurd (omega arith)) in (
-      Heap (record h { phase = Phase.Free }),
+      Heap (record h { phase = Phase.Free; word = v }),
       keeps,
       tt,
-      heap_step n s 1 (3 * q + 1) v id c h Phase.Free h.count r (omega arith) refl own (count_is ∙ own.count) (omega arith)
+      heap_step n s 1 (3 * q + 1) v id c h Phase.Free v h.count r (omega arith) refl own heap_is (count_is ∙ own.count) (omega arith)
           (λ u e. cc)
           (λ m w.
           let was : Covers true (mod_at s.words q) (heap_at s.words q) h.count m = subst (λ b. Covers b (mod_at s.words q) (heap_at s.words q) h.count m) (ap is_bumped phase) w in

@@ -1,5 +1,5 @@
 -- Seats taken off the rest keep the rule.
-use Rattle.std.proofs.Common.{◌≡◌, ◌≢◌, ◌+◌, ◌⊎◌, ℕ, zero, suc, false, List, [], ◌∷◌, ◌++◌, length, set, Some, refl, sym, ap, ◌∙◌, subst, inl, inr, ⊎_elim, arith, replicate}
+use Rattle.std.proofs.Common.{◌≡◌, ◌<◌, ◌≢◌, ◌+◌, ◌⊎◌, ℕ, zero, suc, false, List, [], ◌∷◌, ◌++◌, length, set, Some, refl, sym, ap, ◌∙◌, subst, inl, inr, ⊎_elim, arith, replicate}
 use mathlib.Core.Option.{some, some-injective, some-ne-none}
 use lib.ListN.{get_elem?}
 use Rattle.atomic_table.specs.Table.{State, Splits, opening}
@@ -62,15 +62,15 @@ pub worker_splits : (n id made : ℕ) → Splits (Holds n) id (rest n made) (res
 worker_splits n id made s h at =
     split_holds n id s h.deal (rest n made) (Worker (new_worker n)) h (h.each id (rest n made) at) (new_worker-fits s.words h.deal n) (λ k u ne e. h.each k u e)
 
-pub heap_splits : (n id made : ℕ) → Splits (Holds n) id (rest n made) (rest n (made + 1)) (Heap (new_heap made))
-heap_splits n id made s h at =
+pub heap_splits : (n id made : ℕ) → made < n → Splits (Holds n) id (rest n made) (rest n (made + 1)) (Heap (new_heap made))
+heap_splits n id made below s h at =
     let own : FitsRest s.words h.deal id (record { heaps = n; made = made }) = h.each id (rest n made) at in
     let place : ℕ = length (set s.views id (rest n (made + 1))) in
     let made_is = own.made in
     let d : Deal = record h.deal { made = made + 1; seat_of = moved h.deal.seat_of made place } in
     split_holds n id s d (rest n (made + 1)) (Heap (new_heap made)) h
-    (record { here = own.here; made = refl; counts = λ q le. own.counts q (omega arith); bumped = λ q le. own.bumped q (omega arith) })
-    (record { here = sym (moved-same h.deal.seat_of made place); made = omega arith; count = own.counts made (omega arith); bumped = own.bumped made (omega arith); low = λ v e. cc })
+    (record { here = own.here; made = refl; counts = λ q le. own.counts q (omega arith); held = λ q le inside. own.held q (omega arith) inside; bumped = λ q le. own.bumped q (omega arith) })
+    (record { here = sym (moved-same h.deal.seat_of made place); made = omega arith; count = own.counts made (omega arith); word = own.held made (omega arith) below; bumped = own.bumped made (omega arith); low = λ v e. cc })
     (λ k u ne e. stays k u ne (h.each k u e))
   where
     stays : (k : ℕ) (u : View) → k ≢ id → Fits s.words h.deal k u
@@ -79,11 +79,12 @@ heap_splits n id made s h at =
     stays k (Worker w) ne f = record { counts = f.counts; note = f.note }
     stays k (Heap g) ne f =
         let made_is = (h.each id (rest n made) at).made in
-        let below = f.made in
+        let under = f.made in
         record {
           here = f.here ∙ sym (moved-other h.deal.seat_of made (length (set s.views id (rest n (made + 1)))) g.heap (λ e. omega arith));
           made = omega arith;
           count = f.count;
+          word = f.word;
           bumped = f.bumped;
           low = f.low;
         }
@@ -98,7 +99,7 @@ opening_holds n words empty = record {
   where
     fits : (k : ℕ) (v : View) → get_elem? (rest n 0 ∷ []) k ≡ some v → Fits words (record { rest_seat = 0; made = 0; seat_of = λ _. 0; bumped = λ _. false }) k v
     fits zero v e = subst (Fits words (record { rest_seat = 0; made = 0; seat_of = λ _. 0; bumped = λ _. false }) 0) (some-injective (rest n 0) v e)
-        (record { here = refl; made = refl; counts = λ q _. empty.counts q; bumped = λ _ _. refl })
+        (record { here = refl; made = refl; counts = λ q _. empty.counts q; held = λ q _ inside. empty.heaps q inside; bumped = λ _ _. refl })
     fits (suc k) v e = absurd (some-ne-none v (sym e))
 
 -- a list of heaps' seats with one more
@@ -109,5 +110,5 @@ AreFreshHeaps-append t hs n h len fresh one = λ q g e. ⊎_elim (λ (was : slic
 pub worker_splits_as : (n id : ℕ) (v : View) (made : ℕ) → v ≡ rest n made → Splits (Holds n) id v v (fresh_worker v)
 worker_splits_as n id v made e = subst (λ (u : View). Splits (Holds n) id u u (fresh_worker u)) (sym e) (worker_splits n id made)
 
-pub heap_splits_as : (n id : ℕ) (v : View) (made : ℕ) → v ≡ rest n made → Splits (Holds n) id v (one_made v) (fresh_heap v)
-heap_splits_as n id v made e = subst (λ (u : View). Splits (Holds n) id u (one_made u) (fresh_heap u)) (sym e) (heap_splits n id made)
+pub heap_splits_as : (n id : ℕ) (v : View) (made : ℕ) → v ≡ rest n made → made < n → Splits (Holds n) id v (one_made v) (fresh_heap v)
+heap_splits_as n id v made e below = subst (λ (u : View). Splits (Holds n) id u (one_made u) (fresh_heap u)) (sym e) (heap_splits n id made below)

@@ -160,7 +160,7 @@ record Less (words words' : List ℕ) : Type 0 where
   pub counts : (q : ℕ) → count_at words' q ≡ count_at words q
 
 fits-less : (words words' : List ℕ) (d : Deal) (k : ℕ) (v : View) → Less words words' → Fits words d k v → Fits words' d k v
-fits-less words words' d k (Rest r) less f = record { here = f.here; made = f.made; counts = λ q h. less.counts q ∙ f.counts q h; bumped = f.bumped }
+fits-less words words' d k (Rest r) less f = record { here = f.here; made = f.made; counts = λ q h. less.counts q ∙ f.counts q h; held = λ q h g. less.heaps q ∙ f.held q h g; bumped = f.bumped }
 fits-less words words' d k (Worker w) less f = record {
   counts = λ q. let l = f.counts q in let e = less.counts q in omega arith;
   note = λ m e. Covers-less (d.bumped m.heap) (mod_at words m.heap) (heap_at words m.heap) (count_at words m.heap) (mod_at words' m.heap) (heap_at words' m.heap) (count_at words' m.heap) m (less.mods m.heap) (less.heaps m.heap) (less.counts m.heap) (f.note m e);
@@ -169,6 +169,7 @@ fits-less words words' d k (Heap h) less f = record {
   here = f.here;
   made = f.made;
   count = less.counts h.heap ∙ f.count;
+  word = less.heaps h.heap ∙ f.word;
   bumped = f.bumped;
   low = λ v e. let l = f.low v e in let same = less.heaps h.heap in omega arith;
 }

@@ -1,5 +1,5 @@
 -- The rule of the words. Heap q has the words 3q, 3q + 1 and 3q + 2: modified, heap and count.
-use Rattle.std.specs.Prelude.{◌≡◌, ℕ, ◌+◌, ◌*◌, ◌<◌, ◌≤◌, min, Bool, true, false, IsTrue, List, length, slice_index, replicate, None, Some}
+use Rattle.std.specs.Prelude.{◌≡◌, ℕ, ◌+◌, ◌-◌, ◌*◌, ◌^◌, ◌<◌, ◌≤◌, min, Bool, true, false, IsTrue, List, length, slice_index, replicate, None, Some}
 use mathlib.Core.Option.{some}
 use lib.ListN.{get_elem?}
 use Rattle.atomic_table.specs.Table.{State}
@@ -44,11 +44,12 @@ pub record Deal : Type 0 where
   pub seat_of : ℕ → ℕ
   pub bumped : ℕ → Bool
 
--- the heaps that have no seat yet have a count of 0, and are not bumped
+-- the heaps that have no seat yet have a count of 0 and no due time in their heap words, and are not bumped
 pub record FitsRest (words : List ℕ) (d : Deal) (k : ℕ) (r : RestView) : Type 0 where
   pub here : k ≡ d.rest_seat
   pub made : r.made ≡ d.made
   pub counts : (q : ℕ) → r.made ≤ q → count_at words q ≡ 0
+  pub held : (q : ℕ) → r.made ≤ q → q < r.heaps → heap_at words q ≡ 2 ^ 64 - 1
   pub bumped : (q : ℕ) → r.made ≤ q → d.bumped q ≡ false
 
 pub record FitsWorker (words : List ℕ) (d : Deal) (w : WorkerView) : Type 0 where
@@ -59,6 +60,7 @@ pub record FitsHeap (words : List ℕ) (d : Deal) (k : ℕ) (h : HeapView) : Typ
   pub here : k ≡ d.seat_of h.heap
   pub made : h.heap < d.made
   pub count : count_at words h.heap ≡ h.count
+  pub word : heap_at words h.heap ≡ h.word
   pub bumped : d.bumped h.heap ≡ is_bumped h.phase
   pub low : (v : ℕ) → h.phase ≡ Phase.Low v → heap_at words h.heap ≤ v
 
@@ -82,7 +84,7 @@ abbrev pub new_worker : ℕ → WorkerView
 new_worker n = record { note = None; counts = replicate n no_load; mods = replicate n no_load; heaps = replicate n no_load }
 
 abbrev pub new_heap : ℕ → HeapView
-new_heap q = record { heap = q; phase = Phase.Free; count = 0 }
+new_heap q = record { heap = q; phase = Phase.Free; word = 2 ^ 64 - 1; count = 0 }
 
 -- a worker's seat off the rest
 abbrev pub fresh_worker : View → View

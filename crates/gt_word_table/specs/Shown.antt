@@ -19,6 +19,7 @@ pub record ShownHeap : Type 0 where
   pub table : TableId
   pub heap : ℕ
   pub phase : Phase
+  pub word : ℕ
   pub count : ℕ
 
 -- what a worker's seat knows
@@ -30,5 +31,5 @@ worker_of (Heap h) = record { note = None; counts = []; mods = []; heaps = [] }
 -- what a heap's seat knows
 abbrev pub heap_of : View → HeapView
 heap_of (Heap h) = h
-heap_of (Rest r) = record { heap = 0; phase = Phase.Free; count = 0 }
-heap_of (Worker w) = record { heap = 0; phase = Phase.Free; count = 0 }
+heap_of (Rest r) = record { heap = 0; phase = Phase.Free; word = 0; count = 0 }
+heap_of (Worker w) = record { heap = 0; phase = Phase.Free; word = 0; count = 0 }

@@ -1,5 +1,5 @@
 -- The kinds of step: which word, and the view afterwards.
-use Rattle.std.specs.Prelude.{◌≡◌, ℕ, ◌+◌, ◌*◌, ◌<◌, IsTrue, Some}
+use Rattle.std.specs.Prelude.{◌≡◌, ℕ, ◌+◌, ◌*◌, ◌<◌, min, IsTrue, Some}
 use Rattle.atomic_table.specs.Table.{Step, Me}
 use Rattle.gt_word_table.specs.declared.view.View.{View}
 use Rattle.gt_word_table.specs.declared.view.View.TheVariants.{Rest, Worker, Heap}
@@ -43,7 +43,7 @@ Looks s v found w = w ≡ (heap_then (λ h. record h { phase = Phase.Seen found 
 
 -- a lowering of the heap word
 abbrev pub Lowers : Step Unit → Me Unit View → ℕ → Me Unit View → Type 0
-Lowers s v found w = w ≡ (heap_then (λ h. record h { phase = lowered h.phase s.first }) v.0, v.1)
+Lowers s v found w = w ≡ (heap_then (λ h. record h { phase = lowered h.phase s.first; word = min h.word s.first }) v.0, v.1)
 
 -- a clearing of the modified word, done or not
 abbrev pub Clears : Step Unit → Me Unit View → ℕ → Me Unit View → Type 0
@@ -55,4 +55,4 @@ Bumps s v found w = w ≡ (heap_then (λ h. record h { phase = Phase.Bumped; cou
 
 -- a new heap word
 abbrev pub Raises : Step Unit → Me Unit View → ℕ → Me Unit View → Type 0
-Raises s v found w = w ≡ (heap_then (λ h. record h { phase = Phase.Free }) v.0, v.1)
+Raises s v found w = w ≡ (heap_then (λ h. record h { phase = Phase.Free; word = s.first }) v.0, v.1)

@@ -1,6 +1,6 @@
 //! The calls of a heap.
 
-ghost use Rattle.std.specs.Prelude.{◌≡◌, ◌≢◌, ◌+◌, ◌-◌, ◌^◌, ◌<◌, ◌↔◌, IsTrue, MatchBool};
+ghost use Rattle.std.specs.Prelude.{◌≡◌, ◌≢◌, ◌+◌, ◌-◌, ◌^◌, ◌<◌, ◌↔◌, min, IsTrue, MatchBool};
 ghost use Rattle.gt_word_table.specs.declared.view.Phase.TheVariants.{Free, Seen, Low, Cleared, Bumped};
 ghost use Rattle.gt_word_table.specs.Views.{lowered};
 
@@ -11,7 +11,7 @@ use gt_words::NONE;
 use std::marker::Model;
 
 /// The right of one heap to change its words. It is seen as which table it is of, the heap's number, how far the heap is
-/// looked through, and its count.
+/// looked through, its heap word and its count, which no other seat changes.
 #[derive(Drop)]
 pub struct HeapSeat {
     pub(crate) seat: Seat<(), View>,
@@ -30,11 +30,12 @@ impl Model for HeapSeat {
       table = h.seat.table_id;
       heap = h.heap;
       phase = (heap_of h.seat.me.0).phase;
+      word = (heap_of h.seat.me.0).word;
       count = h.count;
     } };
 
     ghost invariant = { λ h. (3 * h.heap + 2 < h.seat.table_id.words)
-        × (h.seat.me ≡ (Heap (record { heap = h.heap; phase = (heap_of h.seat.me.0).phase; count = h.count }), [])) };
+        × (h.seat.me ≡ (Heap (record { heap = h.heap; phase = (heap_of h.seat.me.0).phase; word = (heap_of h.seat.me.0).word; count = h.count }), [])) };
 }
 
 impl HeapSeat {
@@ -51,7 +52,7 @@ impl HeapSeat {
     /// Makes the heap word the least of itself and `v`.
     pub fn lower(&mut self, t: &TableWords, v: u64)
         requires { self.old.table ≡ t.now.table }
-        ensures { self.new ≡ record self.old { phase = lowered self.old.phase v } }
+        ensures { self.new ≡ record self.old { phase = lowered self.old.phase v; word = min self.old.word v } }
     {
         t.words
             .shared
@@ -93,7 +94,7 @@ impl HeapSeat {
     pub fn raise(&mut self, t: &TableWords, v: u64)
         requires table { self.old.table ≡ t.now.table }
         requires bumped { self.old.phase ≡ Bumped }
-        ensures { self.new ≡ record self.old { phase = Free } }
+        ensures { self.new ≡ record self.old { phase = Free; word = v } }
     {
         t.words
             .shared

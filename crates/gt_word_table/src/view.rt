@@ -52,6 +52,8 @@ pub struct Note {
 pub struct Heap {
     pub heap: u32,
     pub phase: Phase,
+    /// Its heap word and its count, which no other seat changes.
+    pub word: u64,
     pub count: u64,
 }
 

@@ -13,7 +13,7 @@ fetch_add-requires c =
     let words = c.t.invariant.1 in
     let here = c.self.invariant.0 in
     let inside : c.self.inside.heap < c.t.inside.words.shared.key = omega arith in
-    let h : HeapView = record { heap = c.self.inside.heap; phase = (heap_of c.self.inside.seat.me.0).phase; count = c.self.inside.count } in
+    let h : HeapView = record { heap = c.self.inside.heap; phase = (heap_of c.self.inside.seat.me.0).phase; word = (heap_of c.self.inside.seat.me.0).word; count = c.self.inside.count } in
     let phase = ap (λ h. h.phase) c.self.view_is ∙ c.requires.cleared in
     let tested = c.if-self.false in
     let small : c.self.inside.count + 1 < 2 ^ 64 = search rules in

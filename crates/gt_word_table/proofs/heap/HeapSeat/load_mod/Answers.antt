@@ -13,5 +13,5 @@ load-requires c =
     let words = c.t.invariant.1 in
     let here = c.self.invariant.0 in
     let inside : c.self.inside.heap < c.t.inside.words.shared.key = omega arith in
-    let h : HeapView = record { heap = c.self.inside.heap; phase = (heap_of c.self.inside.seat.me.0).phase; count = c.self.inside.count } in
+    let h : HeapView = record { heap = c.self.inside.heap; phase = (heap_of c.self.inside.seat.me.0).phase; word = (heap_of c.self.inside.seat.me.0).word; count = c.self.inside.count } in
     (table, omega arith, looks_as c.t.inside.words.shared.key c.self.inside.seat.id c.t.inside.words.shared.table_id.slots c.self.inside.seat.me h c.self.invariant.1)

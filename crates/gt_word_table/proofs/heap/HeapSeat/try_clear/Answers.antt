@@ -13,6 +13,6 @@ compare_exchange-requires c =
     let words = c.t.invariant.1 in
     let here = c.self.invariant.0 in
     let inside : c.self.inside.heap < c.t.inside.words.shared.key = omega arith in
-    let h : HeapView = record { heap = c.self.inside.heap; phase = (heap_of c.self.inside.seat.me.0).phase; count = c.self.inside.count } in
+    let h : HeapView = record { heap = c.self.inside.heap; phase = (heap_of c.self.inside.seat.me.0).phase; word = (heap_of c.self.inside.seat.me.0).word; count = c.self.inside.count } in
     let phase = ap (λ h. h.phase) c.self.view_is ∙ c.requires.low in
     (table, omega arith, clears_as c.t.inside.words.shared.key c.self.inside.seat.id c.t.inside.words.shared.table_id.slots c.args.seen (2 ^ 64 - 1) c.self.inside.seat.me h c.self.invariant.1 inside phase)
