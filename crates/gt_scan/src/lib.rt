@@ -1,0 +1,10 @@
+//! The tokens of a text: its words, each with the number of its line and its place.
+#![tactic(auto)]
+
+mod scan;
+#[cfg(test)]
+mod tests;
+mod token;
+
+pub use scan::tokens;
+pub use token::{ScanFault, Token};

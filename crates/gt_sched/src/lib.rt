@@ -1,0 +1,11 @@
+//! Schedules: which worker takes the next turn, as a text lists it or as a generator draws it.
+#![tactic(auto)]
+
+mod fault;
+mod item;
+mod schedule;
+#[cfg(test)]
+mod tests;
+
+pub use fault::SchedFault;
+pub use schedule::Schedule;
