@@ -9,7 +9,7 @@ use Rattle.gt_command.specs.declared.help.Info.{Info}
 abbrev pub info_named : List ℕ → Option Info
 info_named option = if bytes_eq option (codes "--help") then Some Info.Help else (if bytes_eq option (codes "--version") then Some Info.Version else None)
 
--- `--help` or `--version`, alone or behind a command that is built
+-- `--help` or `--version`, alone or after a command that is built
 abbrev pub info_of : List (List ℕ) → Option Info
 info_of (option ∷ []) = info_named option
 info_of (command ∷ option ∷ []) = if bytes_eq command (codes "sim") then info_named option else None

@@ -12,7 +12,7 @@ pub enum Info {
     Version,
 }
 
-/// What the words ask to be told: `--help` or `--version`, alone or behind a command that is built. Other words ask for no such thing.
+/// What the words ask to be told: `--help` or `--version`, alone or after a command that is built. Other words ask for no such thing.
 pub fn asked_info(words: &[String]) -> Option<Info>
     ensures { result ≡ info_of (map string_bytes words.now) }
 {

@@ -2,7 +2,7 @@
 -- where it tells nothing.
 use Rattle.std.specs.Prelude.{◌≡◌, ℕ, List, ◌++◌, Option, Some, None}
 
--- The piece went from the front of what was left. A source tells its bytes always or never.
+-- The piece is a prefix of what was left, and went from it. A source tells its bytes always or never.
 abbrev pub Taken : Option (List ℕ) → Option (List ℕ) → List ℕ → Type 0
 Taken None None piece = Unit {0}
 Taken None (Some rest) piece = ⊥

@@ -1,5 +1,5 @@
--- Counts that rise. A count is kept as a u64, and at the greatest u64, 2 ^ 64 - 1, it stands still. One that
--- stands there counts as having risen, by any amount.
+-- Counts that rise. A count is kept as a u64, and at the greatest u64, 2 ^ 64 - 1, it stops. One that
+-- stopped there counts as having risen, by any amount.
 use Rattle.std.specs.Prelude.{◌≡◌, ℕ, ◌+◌, ◌-◌, ◌^◌, ◌<◌, ◌≤◌}
 
 -- the count rose, by 1 at the least
