@@ -106,10 +106,16 @@ impl Machine {
     }
 
     /// What becomes of a timer, by who makes the entry.
-    fn retime(&mut self, script: &Script, mover: Option<(u32, Move)>, change: Option<(u32, Setting)>)
+    fn retime(
+        &mut self,
+        script: &Script,
+        mover: Option<(u32, Move)>,
+        change: Option<(u32, Setting)>,
+    )
         requires { IfSome change (λ x. x.0 < length self.old.timers.items) }
         ensures state { state_of self.new ≡ record (state_of self.old) {
-            timers = after.with_retimed script.now (state_of self.old) mover (state_of self.old).timers change } }
+          timers = after.with_retimed script.now (state_of self.old) mover (state_of self.old).timers change;
+        } }
         ensures room { self.new.goroutines ≡ self.old.goroutines }
     {
         let Some((t, setting)) = change else {
@@ -123,7 +129,8 @@ impl Machine {
     fn move_on(&mut self, script: &Script, mover: Option<(u32, Move)>)
         requires { IfSome mover (λ x. IsInside self.old.goroutines.items x.0) }
         ensures state { state_of self.new ≡ record (state_of self.old) {
-            goroutines = after.with_mover script.now (state_of self.old).goroutines mover } }
+          goroutines = after.with_mover script.now (state_of self.old).goroutines mover;
+        } }
         ensures many { length self.new.goroutines.items ≡ length self.old.goroutines.items }
         ensures spare { self.new.goroutines.spare ≡ self.old.goroutines.spare }
     {
@@ -138,7 +145,8 @@ impl Machine {
     fn start(&mut self, begins: Option<Goroutine>)
         requires { 0 < self.old.goroutines.spare }
         ensures state { state_of self.new ≡ record (state_of self.old) {
-            goroutines = with_new (state_of self.old).goroutines begins } }
+          goroutines = with_new (state_of self.old).goroutines begins;
+        } }
         ensures room { length self.new.goroutines.items + self.new.goroutines.spare
             ≡ length self.old.goroutines.items + self.old.goroutines.spare }
     {

@@ -56,10 +56,8 @@ pub fn mover_of(entry: &Entry) -> Option<(u32, Move)>
             until: Some(until),
         } => Some((g, Move::FallsAsleep { until })),
         Entry::End { g } => Some((g, Move::Ends)),
-        Entry::FireFunc { .. }
-        | Entry::Clock { .. }
-        | Entry::Panic { .. }
-        | Entry::Finish { .. } => None,
+        Entry::FireFunc { .. } | Entry::Clock { .. } | Entry::Panic { .. } | Entry::Finish { .. } =>
+            None,
     }
 }
 

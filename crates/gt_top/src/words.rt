@@ -3,8 +3,8 @@
 ghost use Rattle.std.specs.Prelude.{◌≡◌, map, string_bytes};
 ghost use Rattle.gt_top.specs.Words.{is_option, limit_after, limit_of, order_of};
 
-use gt_model::MOST_ENTRIES;
 use gt_lines::read_number;
+use gt_model::MOST_ENTRIES;
 
 /// How many entries a run may have where no word says it.
 pub const DEFAULT_LIMIT: u64 = 10_000;
