@@ -1,5 +1,5 @@
-//! Tests of the crates that stand on no other: that memory is given where there is plenty, rows that were worked out by
-//! hand, and what no clause says.
+//! Tests of the lowest crates: that memory is given where there is plenty, rows that were worked out by hand, and what no
+//! clause says.
 #![tactic(auto)]
 
 #[cfg(test)]
