@@ -1,0 +1,5 @@
+pub mod Moves
+pub mod Stores
+pub mod Known
+pub mod Puts
+pub mod Splits
