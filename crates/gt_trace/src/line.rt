@@ -30,13 +30,28 @@ pub fn push_word(line: &mut Line, word: &[u8])
     push_bytes(line, word);
 }
 
+/// Appends the digits of a number.
+#[tactic(auto, using(std::proofs::lemmas::Fmt::decimal_digit))]
+fn push_decimal(line: &mut Line, number: u64)
+    requires { array_vec_len line.old + length (decimal number) ≤ LINE_ROOM }
+    ensures { line.new.items ≡ line.old.items ++ decimal number }
+{
+    // most numbers of goroutines and small scripts have one digit
+    if number < 10 {
+        line.push(b'0' + number as u8);
+    } else {
+        push_bytes(line, Buffer::new().format(number).as_bytes());
+    }
+}
+
 /// Appends a space and a number.
 pub fn push_number(line: &mut Line, number: u64)
     requires { array_vec_len line.old + 21 ≤ LINE_ROOM }
     ensures appended { line.new.items ≡ line.old.items ++ space ∷ decimal number }
     ensures short { array_vec_len line.new ≤ array_vec_len line.old + 21 }
 {
-    push_word(line, Buffer::new().format(number).as_bytes());
+    line.push(b' ');
+    push_decimal(line, number);
 }
 
 /// Appends a space and a goroutine.
@@ -45,8 +60,9 @@ pub fn push_goroutine(line: &mut Line, g: u32)
     ensures appended { line.new.items ≡ line.old.items ++ space ∷ goroutine_word g }
     ensures short { array_vec_len line.new ≤ array_vec_len line.old + 12 }
 {
-    push_word(line, b"g");
-    push_bytes(line, Buffer::new().format(g).as_bytes());
+    line.push(b' ');
+    line.push(b'g');
+    push_decimal(line, u64::from(g));
 }
 
 /// Appends a space and a party: its goroutine, and behind it the case of its select where it stands at one.
