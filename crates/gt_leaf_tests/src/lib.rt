@@ -13,4 +13,14 @@ mod rec;
 #[cfg(test)]
 mod room;
 #[cfg(test)]
+mod scan;
+#[cfg(test)]
+mod sched;
+#[cfg(test)]
+mod tie;
+#[cfg(test)]
 mod tournament;
+#[cfg(test)]
+mod word_table;
+#[cfg(test)]
+mod words;

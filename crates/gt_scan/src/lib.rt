@@ -2,8 +2,6 @@
 #![tactic(auto)]
 
 mod scan;
-#[cfg(test)]
-mod tests;
 mod token;
 
 pub use scan::tokens;

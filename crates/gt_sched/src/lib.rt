@@ -4,8 +4,6 @@
 mod fault;
 mod item;
 mod schedule;
-#[cfg(test)]
-mod tests;
 
 pub use fault::SchedFault;
 pub use schedule::Schedule;

@@ -7,8 +7,6 @@ mod places;
 mod seats;
 mod settings;
 mod table;
-#[cfg(test)]
-mod tests;
 mod ties;
 mod view;
 

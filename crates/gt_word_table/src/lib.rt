@@ -5,8 +5,6 @@
 mod heap;
 mod open;
 mod table;
-#[cfg(test)]
-mod tests;
 mod view;
 mod worker;
 

@@ -2,8 +2,6 @@
 #![tactic(auto)]
 
 mod plain;
-#[cfg(test)]
-mod tests;
 mod words;
 
 pub use plain::PlainWords;

@@ -1,6 +1,6 @@
-// What no clause says: that memory is given, and that the table may be shared by threads.
+//! Notes are found, memory is given, and the table may be shared by threads.
 
-use super::*;
+use gt_word_table::{Wake, open_words, wake_seen};
 use gt_words::NONE;
 use std::test::Fail;
 

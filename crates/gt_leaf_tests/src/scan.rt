@@ -1,6 +1,6 @@
-// What no clause says: that memory is given.
+//! Words have their places, at texts that were worked out by hand.
 
-use super::*;
+use gt_scan::{ScanFault, Token, tokens};
 use std::test::Fail;
 
 #[test]

@@ -1,6 +1,6 @@
-// What no clause says: that memory is given.
+//! Words are kept, and memory is given.
 
-use super::*;
+use gt_words::{NONE, PlainWords, Words, wake};
 use std::test::Fail;
 
 #[test]

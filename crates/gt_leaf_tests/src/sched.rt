@@ -1,6 +1,6 @@
-// What no clause says: that memory is given, and drawn words from a generator outside of this repository.
+//! Turns are read and drawn; drawn words are those of a generator outside of this repository.
 
-use super::*;
+use gt_sched::{SchedFault, Schedule};
 use std::test::Fail;
 
 // The first words of PCG32 seeded by 7, modulo 16, worked out apart.
