@@ -1,5 +1,5 @@
 -- A book that began, and a book that took an entry, keep what a book keeps.
-use Rattle.std.proofs.Common.{◌≡◌, ℕ, ◌+◌, ◌<◌, ◌≤◌, List, [], ◌∷◌, ◌++◌, refl, sym, ap, subst, ◌∙◌, arith, append_assoc, Option, None, Some, length, length-append, is_some}
+use Rattle.std.proofs.Common.{◌≡◌, ℕ, zero, suc, ◌+◌, ◌<◌, ◌≤◌, List, [], ◌∷◌, ◌++◌, refl, sym, ap, subst, ◌∙◌, arith, append_assoc, Option, None, Some, length, length-append, is_some}
 use Rattle.gt_model.specs.declared.script.Script.{Script}
 use Rattle.gt_model.specs.declared.entry.Entry.{Entry}
 use Rattle.gt_model.specs.declared.entry.Limits.{Limits}
@@ -14,22 +14,27 @@ use Rattle.gt_facts.proofs.Formed.{formed-first}
 use Rattle.gt_room.specs.Contents.{Contents}
 use Rattle.gt_book.specs.declared.book.Book.TheInside.{Inside}
 use Rattle.gt_machine.specs.declared.machine.Machine.{Machine}
-use Rattle.gt_book.specs.declared.scheduler.Scheduler.{Scheduler}
+use Rattle.gt_schedule.specs.declared.scheduler.Scheduler.{Scheduler}
 use Rattle.gt_machine.specs.Machine.{state_of}
-use Rattle.gt_book.specs.Queues.{as_number}
-use Rattle.gt_book.specs.Schedule.{Schedule, scheduled}
+use Rattle.gt_rules.specs.Change.{change_of}
+use Rattle.gt_schedule.specs.Counts.{as_number}
+use Rattle.gt_schedule.specs.Schedule.{Schedule, first_schedule, most_goroutines, scheduled, Served}
 use Rattle.gt_book.specs.declared.due_times.DueTimes.{DueTimes}
 use Rattle.gt_book.specs.DueTimes.{followed, CanFollow, AreTimes}
 use Rattle.gt_tournament.specs.Keys.{key_of}
 use Rattle.gt_book.proofs.EntryTimes.{Reaches, reaches-May, can_follow-reaches, times-entered, times-finished, times-first}
-use Rattle.gt_book.specs.Scheduler.{schedule_of, IsScheduler, CanApply}
-use Rattle.gt_book.specs.Steps.{Served}
-use Rattle.gt_book.specs.View.{BookView, IsLawful, Fits, Enters, first_view, first_schedule, with_entries, outcome_of}
+use Rattle.gt_schedule.specs.Scheduler.{schedule_of, capacity, IsScheduler, CanApply}
+use Rattle.gt_book.specs.View.{BookView, IsLawful, Fits, Enters, first_view, with_entries, outcome_of}
 use Rattle.gt_machine.specs.Outcomes.{outcome_in, due_outcome}
 use Rattle.gt_book.specs.Book.{seen, HasRooms, IsKept}
-use Rattle.gt_book.proofs.Entering.{IsEntered, entered_by, running-none, lawful-goes_on, lawful-finishes, enters-finishes, IsCounted, counted-May}
-use Rattle.gt_book.proofs.Fitting.{fits-first, fits-entered, receives-parked}
-use Rattle.gt_book.proofs.SchedulerNeeds.{HasMaker, can_apply-May}
+use Rattle.gt_book.proofs.Entering.{IsEntered, entered_by, running-none, lawful-goes_on, lawful-finishes, enters-finishes, enters-goes_on, IsCounted, counted-May}
+use Rattle.gt_book.proofs.Fitting.{fits-first, fits-entered, orderly-fits}
+use Rattle.gt_book.proofs.Calm.{IsCalm, calm-changed}
+
+none-parked : (script : Script) → IsCalm script (first_state script) (first_schedule script)
+none-parked script zero waits = cc
+none-parked script (suc zero) waits = cc
+none-parked script (suc (suc g)) waits = cc
 
 pub lawful-first : (script : Script) (limits : Limits) → IsGood script → AreLimits limits → IsLawful (first_view script limits)
 lawful-first script limits good are = record {
@@ -40,6 +45,7 @@ lawful-first script limits good are = record {
   goes = record { ending = refl; room = are.some };
   formed = formed-first script good;
   fits = fits-first script;
+  calm = λ running. none-parked script;
 }
 
 -- what a book is seen as, by its parts
@@ -55,9 +61,9 @@ seen-is b v script limits history state schedule =
 -- a book as it begins
 pub begun-kept : (b : Inside) → IsGood b.script → AreLimits b.limits → b.history.items ≡ [] → b.history.spare ≡ b.limits.entries + 1
     → state_of b.machine ≡ first_state b.script → b.machine.goroutines.spare ≡ b.limits.entries → schedule_of b.scheduler ≡ first_schedule b.script
-    → IsScheduler b.limits.entries b.scheduler → b.due_times.declarations ≡ length b.script.decls → length b.script.decls + b.limits.entries + 2 ≤ length b.due_times.times
+    → capacity b.scheduler ≡ most_goroutines b.limits → IsScheduler b.scheduler → b.due_times.declarations ≡ length b.script.decls → length b.script.decls + b.limits.entries + 2 ≤ length b.due_times.times
     → ((slot : ℕ) → key_of b.due_times.times slot ≡ None) → IsKept b
-begun-kept b good are empty spare state room schedule kept slots long none_due =
+begun-kept b good are empty spare state room schedule places kept slots long none_due =
     let is : seen b ≡ first_view b.script b.limits = seen-is b (first_view b.script b.limits) refl refl empty state schedule in
     let none : length b.history.items ≡ 0 = ap length empty in
     let one : length b.machine.goroutines.items ≡ 1 = ap (λ (s : State). length s.goroutines) state in
@@ -65,34 +71,27 @@ begun-kept b good are empty spare state room schedule kept slots long none_due =
     let running : as_number (is_some (outcome_in b.machine.ending)) ≡ 0 = ap (λ (s : State). as_number (is_some (outcome_in s.ending))) state in
     record {
       lawful = subst IsLawful (sym is) (lawful-first b.script b.limits good are);
-      rooms = record { history = omega arith; goroutines = omega arith; scheduler = kept; entries = omega arith };
+      rooms = record { history = omega arith; goroutines = omega arith; schedule = places; scheduler = kept; entries = omega arith };
       times = subst (λ (s : State). AreTimes b.limits.entries b.script s (schedule_of b.scheduler) b.due_times) (sym state)
           (subst (λ m. AreTimes b.limits.entries b.script (first_state b.script) m b.due_times) (sym schedule)
           (times-first b.limits.entries b.script b.due_times slots long none_due));
     }
-
--- who makes an entry is where the scheduler needs it
-maker-Served : (b : BookView) (e : Entry) → IsLawful b → May b.script b.state e → Served b.script b.state b.schedule e → HasMaker b.script b.state b.schedule e
-maker-Served b (Entry.End g) lawful may served = served
-maker-Served b (Entry.Sleep g until) lawful may served = served
-maker-Served b (Entry.TRecv p t due next) lawful may served = receives-parked b.script b.state b.schedule p t due next may served
-maker-Served b _ lawful may served = tt
 
 -- a book in which an entry may come
 pub record CanEnter (b : Inside) (e : Entry) : Type 0 where
   pub kept : IsKept b
   pub running : outcome_of (seen b) ≡ None
   pub may : May b.script (state_of b.machine) e
-  pub served : Served b.script (state_of b.machine) (schedule_of b.scheduler) e
+  pub served : Served (schedule_of b.scheduler) e
 
 -- the same by what is seen of the book
 pub can_enter-seen : (b : Inside) (v : BookView) (e : Entry) → seen b ≡ v → IsKept b → outcome_of v ≡ None → May v.script v.state e
-    → Served v.script v.state v.schedule e → CanEnter b e
+    → Served v.schedule e → CanEnter b e
 can_enter-seen b v e is kept running may served = record {
   kept = kept;
   running = subst (λ (v : BookView). outcome_of v ≡ None) (sym is) running;
   may = subst (λ (v : BookView). May v.script v.state e) (sym is) may;
-  served = subst (λ (v : BookView). Served v.script v.state v.schedule e) (sym is) served;
+  served = subst (λ (v : BookView). Served v.schedule e) (sym is) served;
 }
 
 pub can_enter-runs : (b : Inside) (e : Entry) → CanEnter b e → IsRunning b.limits (state_of b.machine)
@@ -104,8 +103,14 @@ can_enter-applies b e can =
     let runs : IsRunning b.limits (state_of b.machine) = can_enter-runs b e can in
     let room : b.machine.entries < b.limits.entries = runs.room in
     let few : length b.machine.goroutines.items ≤ b.machine.entries + 1 = can.kept.lawful.formed.few in
-    can_apply-May b.script (state_of b.machine) b.limits.entries b.scheduler e can.kept.lawful.good can.kept.lawful.fits can.kept.rooms.scheduler (omega arith) can.may
-    (maker-Served (seen b) e can.kept.lawful can.may can.served)
+    let as_many : length b.scheduler.statuses.items ≡ length b.machine.goroutines.items = can.kept.lawful.fits.as_many in
+    let places : capacity b.scheduler ≡ b.limits.entries + 1 = can.kept.rooms.schedule in
+    record {
+      kept = can.kept.rooms.scheduler;
+      orderly = orderly-fits b.script (state_of b.machine) (schedule_of b.scheduler) can.kept.lawful.fits;
+      served = can.served;
+      spare = omega arith;
+    }
 
 -- there is room for the entry and for a finish
 pub can_enter-room : (b : Inside) (e : Entry) → CanEnter b e → 1 < b.history.spare
@@ -122,7 +127,8 @@ pub record Applied (b : Inside) (e : Entry) (machine : Machine) (scheduler : Sch
   pub state : state_of machine ≡ after b.script (state_of b.machine) e
   pub goroutines : length machine.goroutines.items + machine.goroutines.spare ≡ length b.machine.goroutines.items + b.machine.goroutines.spare
   pub schedule : schedule_of scheduler ≡ scheduled (schedule_of b.scheduler) e
-  pub kept : (most : ℕ) → IsScheduler most b.scheduler → IsScheduler most scheduler
+  pub places : capacity scheduler ≡ capacity b.scheduler
+  pub kept : IsScheduler scheduler
   pub declarations : due.declarations ≡ b.due_times.declarations
   pub times : due.times ≡ followed b.due_times.declarations b.script (state_of machine) (schedule_of scheduler) e b.due_times.times
   pub items : history.items ≡ b.history.items ++ e ∷ []
@@ -141,7 +147,8 @@ with_parts b machine scheduler times history = record { script = b.script; limit
 entered : (b : Inside) (e : Entry) → CanEnter b e → IsEntered (seen b) e
 entered b e can =
     entered_by (seen b) e can.kept.lawful (can_enter-runs b e can) can.may
-    (fits-entered b.script (state_of b.machine) (schedule_of b.scheduler) e can.kept.lawful.fits can.may can.served)
+    (fits-entered b.script (state_of b.machine) (schedule_of b.scheduler) e can.kept.lawful.fits can.served)
+    (calm-changed b.script (state_of b.machine) (schedule_of b.scheduler) (change_of e) can.kept.lawful.fits can.served (can.kept.lawful.calm can.running))
 
 -- what the times need, and what they are then
 pub few-goroutines : (b : Inside) → IsKept b → length b.machine.goroutines.items ≤ b.limits.entries + 1
@@ -152,13 +159,13 @@ reaches-entry : (b : Inside) (e : Entry) → CanEnter b e → Reaches b.limits.e
 reaches-entry b e can =
     reaches-May b.limits.entries b.script (state_of b.machine) e can.kept.lawful.good can.kept.lawful.formed (few-goroutines b can.kept) can.may
 
-pub can_enter-follows : (b : Inside) (e : Entry) (scheduler : Scheduler) → CanEnter b e → schedule_of scheduler ≡ scheduled (schedule_of b.scheduler) e
+pub can_enter-follows : (b : Inside) (e : Entry) (scheduler : Scheduler) → CanEnter b e → schedule_of scheduler ≡ scheduled (schedule_of b.scheduler) e → IsScheduler scheduler
     → CanFollow b.due_times scheduler e
-can_enter-follows b e scheduler can is =
+can_enter-follows b e scheduler can is kept =
     let fits : Fits b.script (after b.script (state_of b.machine) e) (scheduled (schedule_of b.scheduler) e) =
-    fits-entered b.script (state_of b.machine) (schedule_of b.scheduler) e can.kept.lawful.fits can.may can.served in
-    let queues : length scheduler.queues.queues ≡ length b.script.decls + 1 = ap (λ (m : Schedule). length m.queues) is ∙ fits.queues in
-    can_follow-reaches b.limits.entries b.script b.due_times scheduler e can.kept.times.declarations can.kept.times.room can.kept.lawful.limits.most can.kept.lawful.good.few_names queues
+    fits-entered b.script (state_of b.machine) (schedule_of b.scheduler) e can.kept.lawful.fits can.served in
+    let receivers : length (schedule_of scheduler).receivers ≡ length b.script.decls = ap (λ (m : Schedule). length m.receivers) is ∙ fits.receivers in
+    can_follow-reaches b.limits.entries b.script b.due_times scheduler e can.kept.times.declarations can.kept.times.room can.kept.lawful.limits.most can.kept.lawful.good.few_names receivers kept
     (reaches-entry b e can)
 
 times-applied : (b : Inside) (e : Entry) (machine : Machine) (scheduler : Scheduler) (times : DueTimes) (history : Contents Entry) → CanEnter b e
@@ -170,7 +177,7 @@ times-applied b e machine scheduler times history can done =
     ∙ ap (λ (m : Schedule). followed b.due_times.declarations b.script (after b.script (state_of b.machine) e) m e b.due_times.times) done.schedule) in
     subst (λ (s : State). AreTimes b.limits.entries b.script s (schedule_of scheduler) times) (sym done.state)
     (subst (λ (m : Schedule). AreTimes b.limits.entries b.script (after b.script (state_of b.machine) e) m times) (sym done.schedule)
-    (times-entered b.limits.entries b.script (state_of b.machine) (schedule_of b.scheduler) e b.due_times times can.kept.times can.may (reaches-entry b e can) later done.declarations))
+    (times-entered b.limits.entries b.script (state_of b.machine) (schedule_of b.scheduler) e b.due_times times can.kept.times can.kept.lawful.fits can.may (reaches-entry b e can) later done.declarations))
 
 -- where the run goes on
 seen-applied : (b : Inside) (e : Entry) (machine : Machine) (scheduler : Scheduler) (times : DueTimes) (history : Contents Entry) → Applied b e machine scheduler times history
@@ -222,7 +229,8 @@ rooms-applied b e machine scheduler times history can done =
     record {
       history = omega arith;
       goroutines = done.goroutines ∙ can.kept.rooms.goroutines;
-      scheduler = done.kept b.limits.entries can.kept.rooms.scheduler;
+      schedule = done.places ∙ can.kept.rooms.schedule;
+      scheduler = done.kept;
       entries = omega arith;
     }
 
@@ -234,6 +242,12 @@ kept-applied b e machine scheduler times history can done none = record {
   rooms = rooms-applied b e machine scheduler times history can done;
   times = times-applied b e machine scheduler times history can done;
 }
+
+pub enters-applied : (b : Inside) (e : Entry) (machine : Machine) (scheduler : Scheduler) (times : DueTimes) (history : Contents Entry) → CanEnter b e
+    → Applied b e machine scheduler times history → due_outcome b.limits (state_of machine) ≡ None → Enters (seen b) e (seen (with_parts b machine scheduler times history))
+enters-applied b e machine scheduler times history can done none =
+    subst (Enters (seen b) e) (sym (seen-applied b e machine scheduler times history done))
+    (enters-goes_on (seen b) e (entered b e can) (due-applied b e machine scheduler times history None done none))
 
 -- where the run has its outcome then
 seen-finished : (b : Inside) (e : Entry) (outcome : Outcome) (m : Machine) (scheduler : Scheduler) (times : DueTimes) (h : Contents Entry) (machine : Machine) (history : Contents Entry)
@@ -267,7 +281,7 @@ finished-rooms b scheduler times m h outcome machine history before none ends =
     let grows : length history.items ≡ length h.items + 1 = ap length ends.items ∙ length-append h.items (Entry.Finish outcome ∷ []) in
     let goroutines : length machine.goroutines.items + machine.goroutines.spare ≡ b.limits.entries + 1 =
     ap (λ (r : Contents _). length r.items + r.spare) ends.goroutines ∙ before.goroutines in
-    record { history = omega arith; goroutines = goroutines; scheduler = before.scheduler; entries = omega arith }
+    record { history = omega arith; goroutines = goroutines; schedule = before.schedule; scheduler = before.scheduler; entries = omega arith }
 
 pub kept-finished : (b : Inside) (e : Entry) (outcome : Outcome) (m : Machine) (scheduler : Scheduler) (times : DueTimes) (h : Contents Entry) (machine : Machine) (history : Contents Entry)
     → CanEnter b e → Applied b e m scheduler times h → due_outcome b.limits (state_of m) ≡ Some outcome → Finished b.script outcome m h machine history

@@ -1,31 +1,30 @@
 -- What an operation needs that is committed while the run goes on.
-use Rattle.std.proofs.Common.{◌≡◌, ℕ, zero, suc, ◌+◌, ◌<◌, ◌≤◌, min, length, refl, sym, ap, subst, ◌∙◌, arith, slice_get, Option, None, Some, Bool, true, false, not, ◌&&◌, ◌||◌, IsTrue, is_some, is_none, drop, inl, inr, ◌⊎◌}
+use Rattle.std.proofs.lemmas.Bool.{eqb-true}
+use Rattle.std.proofs.Common.{◌≡◌, eqb, IsSomeAnd, ℕ, zero, suc, ◌+◌, ◌<◌, ◌≤◌, min, length, refl, sym, ap, subst, ◌∙◌, slice_get, Option, None, Some, Bool, true, false, not, ◌&&◌, ◌||◌, IsTrue, is_some, is_none}
 use Rattle.gt_model.specs.Times.{greatest_time}
 use Rattle.gt_model.specs.declared.script.Script.{Script}
 use Rattle.gt_model.specs.declared.script.Instr.{Instr}
 use Rattle.gt_model.specs.declared.entry.Outcome.{Outcome}
 use Rattle.gt_model.specs.declared.entry.Reason.{Reason}
-use Rattle.gt_rules.specs.State.{State, goroutine_at, timer_at, stands, stands_at, clock, clock_of, due_of}
+use Rattle.gt_rules.specs.State.{State, goroutine_at, timer_at, stands, stands_at, clock, clock_of, due_of, sleeps_until}
 use Rattle.gt_model.specs.Script.{is_timer}
 use Rattle.gt_rules.specs.Panics.{fault, fault_at, panic_of, panic_at, when}
-use Rattle.gt_rules.specs.Legal.{Does, Receives, operation, due_at, sleep_end}
-use Rattle.gt_rules.specs.Counted.{receives}
-use Rattle.gt_queue.specs.Contents.{waiting_in}
-use Rattle.gt_book.specs.declared.status.RunStatus.{RunStatus}
+use Rattle.gt_rules.specs.Legal.{Does, Receives, operation, operation_at, due_at, sleep_end}
+use Rattle.gt_model.specs.declared.entry.Party.{Party}
+use Rattle.gt_schedule.specs.declared.status.RunStatus.{RunStatus}
 use Rattle.gt_book.specs.declared.step.Step.{Step}
 use Rattle.gt_book.specs.declared.answers.Op.{Op}
 use Rattle.gt_book.specs.declared.answers.TimerOp.{TimerOp}
 use Rattle.gt_book.specs.declared.answers.Whose.{Whose}
-use Rattle.gt_book.specs.Schedule.{Schedule, status_of, queue_at}
-use Rattle.gt_book.specs.Steps.{step_of, step_or_panic, step_of_instr, plainly, is_late, is_gone, MayCommit}
+use Rattle.gt_schedule.specs.Schedule.{Schedule, status_of, is_in_hand, is_parked, parties_at}
+use Rattle.gt_book.specs.Steps.{step_of, step_or_panic, step_of_instr, is_receiving, is_late, is_gone, MayCommit}
 use Rattle.gt_book.specs.Least.{IsTimeOf}
-use Rattle.gt_book.specs.View.{BookView, IsLawful, Fits, outcome_of, is_parked, is_parked_at, is_at_receive}
-use Rattle.gt_book.specs.Queues.{as_number, times}
+use Rattle.gt_book.specs.View.{BookView, IsLawful, outcome_of, is_parked_at, is_at_receive}
 use Rattle.gt_facts.proofs.Within.{timer_within}
-use Rattle.gt_facts.proofs.Lookups.{receives-recv}
+use Rattle.gt_facts.proofs.Lookups.{Asleep, sleeper, AtOperation, at_operation}
 use Rattle.gt_facts.proofs.Formed.{world_of-zero}
-use Rattle.gt_book.proofs.Lists.{times-first_same}
-use Rattle.gt_book.proofs.Going.{IsStep, step-is}
+use Rattle.gt_book.proofs.Fitting.{first-waiting, asleep-parked}
+use Rattle.gt_book.proofs.Going.{IsStep, step-is, in_hand-goes}
 
 -- an operation that is not late for its goroutine is not gone while the run goes on
 not_gone : (b : BookView) (op : Op) → outcome_of b ≡ None → is_late b op ≡ false → is_gone b op ≡ false
@@ -55,12 +54,18 @@ set-made s t at e =
       | Some r ↦ λ h. refl
     ] e
 
-at_receive-stands : (script : Script) (s : State) (g t : ℕ) → is_at_receive script s g t ≡ true → stands_at script s g ≡ Some (Instr.Recv t)
-at_receive-stands script s g t h =
-    elim (stands_at script s g) as (λ o. (elim o [ None ↦ false | Some i ↦ receives t i ]) ≡ true → o ≡ Some (Instr.Recv t)) [
+-- who stands at a receive from t
+at_receive-operation : (script : Script) (s : State) (p : Party) (t : ℕ) → is_at_receive script s p t ≡ true → operation_at script s p ≡ Some t
+at_receive-operation script s p t h =
+    elim (operation_at script s p) as (λ o. (elim o [ None ↦ false | Some o ↦ eqb o t ]) ≡ true → o ≡ Some t) [
       | None ↦ λ k. cc
-      | Some i ↦ λ k. ap Some (receives-recv i t k)
+      | Some o ↦ λ k. ap Some (eqb-true o t k)
     ] h
+
+operation-faultless : (script : Script) (s : State) (i : Instr) (n t : ℕ) → operation i n ≡ Some t → is_none (timer_at s t) ≡ false → fault script s i ≡ None
+operation-faultless script s (Instr.Recv o) zero t e made = let is : o ≡ t = cc in ap (λ b. when b Reason.Unmade) (ap (λ o. is_none (timer_at s o)) is ∙ made)
+operation-faultless script s (Instr.Recv o) (suc n) t e made = cc
+operation-faultless script s _ n t e made = cc
 
 left-true : (a b : Bool) → (a && b) ≡ true → a ≡ true
 left-true true b h = refl
@@ -70,36 +75,43 @@ right-true : (a b : Bool) → (a && b) ≡ true → b ≡ true
 right-true true b h = h
 right-true false b h = cc
 
-some-true : (b : Bool) (n : ℕ) → n + 1 ≡ as_number b → b ≡ true
-some-true true n e = refl
-some-true false n e = absurd (omega arith)
+parked-goes : (o : Option RunStatus) → is_parked o ≡ true → IsTrue (is_in_hand o || is_parked o)
+parked-goes o h = either (is_in_hand o) (is_parked o) h
+  where
+    either : (a b : Bool) → b ≡ true → (a || b) ≡ true
+    either true b h = refl
+    either false b h = h
 
--- who waits first at t is parked there
-first-parked : (script : Script) (s : State) (m : Schedule) (g t : ℕ) → Fits script s m → t < length script.decls
-    → slice_get (waiting_in m.queues (queue_at t)) 0 ≡ Some g → is_parked_at script s m g t ≡ true
-first-parked script s m g t fits declared e =
-    some-true (is_parked_at script s m g t) (times g (drop 1 (waiting_in m.queues (queue_at t))))
-    (sym (times-first_same g (waiting_in m.queues (queue_at t)) e) ∙ fits.waiting t g declared)
-
-pub may-receive : (b : BookView) (t at g : ℕ) → IsLawful b → outcome_of b ≡ None → IsTimeOf b at (Whose.Timer t) → at ≤ clock b.state 0
-    → slice_get (waiting_in b.schedule.queues (queue_at t)) 0 ≡ Some g
-    → MayCommit b (Op.TRecv (plainly g) t at None) × (is_gone b (Op.TRecv (plainly g) t at None) ≡ false)
-may-receive b t at g lawful running time due first =
+pub may-receive : (b : BookView) (t at : ℕ) (p : Party) → IsLawful b → outcome_of b ≡ None → IsTimeOf b at (Whose.Timer t) → at ≤ clock b.state 0
+    → slice_get (parties_at b.schedule.receivers t) 0 ≡ Some p
+    → MayCommit b (Op.TRecv p t at None) × (is_gone b (Op.TRecv p t at None) ≡ false)
+may-receive b t at p lawful running time due first =
     let timer : IsTrue (is_timer b.script t) = time.0 in
     let set : due_of b.state t ≡ Some at = time.1 in
     let below : t < length b.state.timers = timer_within b.script b.state t lawful.formed timer in
     let declared : t < length b.script.decls = subst (λ (n : ℕ). t < n) lawful.formed.timers below in
-    let parked : is_parked_at b.script b.state b.schedule g t ≡ true = first-parked b.script b.state b.schedule g t lawful.fits declared first in
-    let waits : is_parked (status_of b.schedule g) ≡ true = left-true (is_parked (status_of b.schedule g)) (is_at_receive b.script b.state g t) parked in
-    let there : is_at_receive b.script b.state g t ≡ true = right-true (is_parked (status_of b.schedule g)) (is_at_receive b.script b.state g t) parked in
-    let stands : stands_at b.script b.state g ≡ Some (Instr.Recv t) = at_receive-stands b.script b.state g t there in
-    let faultless : fault b.script b.state (Instr.Recv t) ≡ None = ap (λ o. when o Reason.Unmade) (set-made b.state t at set) in
-    let receives : Receives b.script b.state (plainly g) t = record {
-      stands = ap (λ (o : Option Instr). elim o [ None ↦ None | Some i ↦ operation i 0 ]) stands;
-      calm = calm-standing b.script b.state g (Instr.Recv t) stands faultless;
+    let parked : is_parked_at b.script b.state b.schedule p t ≡ true = first-waiting b.script b.state b.schedule p t lawful.fits declared first in
+    let waits : is_parked (status_of b.schedule p.g) ≡ true = left-true (is_parked (status_of b.schedule p.g)) (is_at_receive b.script b.state p t) parked in
+    let there : is_at_receive b.script b.state p t ≡ true = right-true (is_parked (status_of b.schedule p.g)) (is_at_receive b.script b.state p t) parked in
+    let stands : operation_at b.script b.state p ≡ Some t = at_receive-operation b.script b.state p t there in
+    let on : AtOperation b.script b.state p t = at_operation b.script b.state p t stands in
+    let goes : IsTrue (is_in_hand (status_of b.schedule p.g) || is_parked (status_of b.schedule p.g)) = parked-goes (status_of b.schedule p.g) waits in
+    let receiving : is_receiving b.script b.state b.schedule p t ≡ true = rw (goes, there) refl in
+    let receives : Receives b.script b.state p t = record {
+      stands = stands;
+      calm = calm-standing b.script b.state p.g on.instr on.stands (operation-faultless b.script b.state on.instr p.case_no t on.has (set-made b.state t at set));
     } in
+    let come : at ≤ clock_of b.state p.g = subst (λ now. at ≤ now) (sym (one_clock b p.g lawful)) due in
+    (((receives, timer, set, come, refl), goes, tt), not_gone b (Op.TRecv p t at None) running (ap not receiving))
+
+-- who sleeps is parked, and wakes when its time has come
+pub may-wake : (b : BookView) (g at : ℕ) → IsLawful b → outcome_of b ≡ None → IsTimeOf b at (Whose.Sleep g) → at ≤ clock b.state 0
+    → MayCommit b (Op.Wake g) × (is_gone b (Op.Wake g) ≡ false)
+may-wake b g at lawful running time due =
     let come : at ≤ clock_of b.state g = subst (λ now. at ≤ now) (sym (one_clock b g lawful)) due in
-    (((receives, timer, set, come, refl), waits, tt), not_gone b (Op.TRecv (plainly g) t at None) running (ap not parked))
+    let may : IsSomeAnd (sleeps_until b.state g) (λ until. until ≤ clock_of b.state g) = subst (λ o. IsSomeAnd o (λ until. until ≤ clock_of b.state g)) (sym time) come in
+    let a : Asleep b.state g = sleeper b.state g (λ until. until ≤ clock_of b.state g) may in
+    ((may, parked-goes (status_of b.schedule g) (asleep-parked b.script b.state b.schedule g lawful.fits a), tt), not_gone b (Op.Wake g) running (ap (λ o. not (is_some o)) time))
 
 -- ---- what a goroutine asks for
 
@@ -109,9 +121,9 @@ record Asks (script : Script) (s : State) (g : ℕ) (op : TimerOp) : Type 0 wher
   does : Does script s g instr
   is : step_of_instr s g instr ≡ Step.Needs op
 
-needs-asks : (script : Script) (s : State) (g : ℕ) (op : TimerOp) → step_of script s g ≡ Some (Step.Needs op) → Asks script s g op
-needs-asks script s g op h =
-    let step : IsStep script s g (Step.Needs op) = step-is script s g (Step.Needs op) h in
+needs-asks : (script : Script) (s : State) (m : Schedule) (g : ℕ) (op : TimerOp) → step_of script s m g ≡ Some (Step.Needs op) → Asks script s g op
+needs-asks script s m g op h =
+    let step : IsStep script s g (Step.Needs op) = step-is script s m g (Step.Needs op) h in
     elim (fault script s step.instr) as (λ o. fault script s step.instr ≡ o → step_or_panic s g step.instr o ≡ Step.Needs op → Asks script s g op) [
       | None ↦ λ q k. record {
         instr = step.instr;
@@ -133,11 +145,11 @@ instr-sleeps s g d (Instr.Sleep (suc e)) h =
     record { is = ap Instr.Sleep same; ends = λ now. subst (λ d. sleep_end now d ≡ Some (due_at now d)) same refl }
 instr-sleeps s g d _ h = cc
 
-pub may-sleep : (b : BookView) (g d until : ℕ) → IsLawful b → outcome_of b ≡ None → step_of b.script b.state g ≡ Some (Step.Needs (TimerOp.Sleep d))
+pub may-sleep : (b : BookView) (g d until : ℕ) → IsLawful b → outcome_of b ≡ None → step_of b.script b.state b.schedule g ≡ Some (Step.Needs (TimerOp.Sleep d))
     → status_of b.schedule g ≡ Some RunStatus.InHand → until ≡ min (clock b.state 0 + d) greatest_time
     → MayCommit b (Op.Sleep g until) × (is_gone b (Op.Sleep g until) ≡ false)
 may-sleep b g d until lawful running step in_hand e =
-    let asks : Asks b.script b.state g (TimerOp.Sleep d) = needs-asks b.script b.state g (TimerOp.Sleep d) step in
+    let asks : Asks b.script b.state g (TimerOp.Sleep d) = needs-asks b.script b.state b.schedule g (TimerOp.Sleep d) step in
     let sleeps : Sleeps d asks.instr = instr-sleeps b.state g d asks.instr asks.is in
     let does : Does b.script b.state g (Instr.Sleep d) = subst (Does b.script b.state g) sleeps.is asks.does in
     let is : until ≡ due_at (clock_of b.state g) d = e ∙ ap (λ now. due_at now d) (sym (one_clock b g lawful)) in
@@ -159,21 +171,21 @@ instr-reset s g t d (Instr.Reset u e) h =
 instr-reset s g t d (Instr.Sleep zero) h = cc
 instr-reset s g t d _ h = cc
 
-pub may-new : (b : BookView) (g t d due : ℕ) → IsLawful b → outcome_of b ≡ None → step_of b.script b.state g ≡ Some (Step.Needs (TimerOp.New t d))
+pub may-new : (b : BookView) (g t d due : ℕ) → IsLawful b → outcome_of b ≡ None → step_of b.script b.state b.schedule g ≡ Some (Step.Needs (TimerOp.New t d))
     → status_of b.schedule g ≡ Some RunStatus.InHand → due ≡ min (clock b.state 0 + d) greatest_time
     → MayCommit b (Op.New g t due 0) × (is_gone b (Op.New g t due 0) ≡ false)
 may-new b g t d due lawful running step in_hand e =
-    let asks : Asks b.script b.state g (TimerOp.New t d) = needs-asks b.script b.state g (TimerOp.New t d) step in
+    let asks : Asks b.script b.state g (TimerOp.New t d) = needs-asks b.script b.state b.schedule g (TimerOp.New t d) step in
     let does : Does b.script b.state g (Instr.New t d) = subst (Does b.script b.state g) (instr-new b.state g t d asks.instr asks.is) asks.does in
     let is : due ≡ due_at (clock_of b.state g) d = e ∙ ap (λ now. due_at now d) (sym (one_clock b g lawful)) in
-    (((d, does, is), in_hand, refl), not_gone b (Op.New g t due 0) running refl)
+    (((d, does, is), in_hand-goes (status_of b.schedule g) in_hand, refl), not_gone b (Op.New g t due 0) running refl)
 
-pub may-reset : (b : BookView) (g t d due : ℕ) (was : Bool) → IsLawful b → outcome_of b ≡ None → step_of b.script b.state g ≡ Some (Step.Needs (TimerOp.Reset t d))
+pub may-reset : (b : BookView) (g t d due : ℕ) (was : Bool) → IsLawful b → outcome_of b ≡ None → step_of b.script b.state b.schedule g ≡ Some (Step.Needs (TimerOp.Reset t d))
     → status_of b.schedule g ≡ Some RunStatus.InHand
     → was ≡ is_some (due_of b.state t) → due ≡ min (clock b.state 0 + d) greatest_time
     → MayCommit b (Op.Reset g t was due 0) × (is_gone b (Op.Reset g t was due 0) ≡ false)
 may-reset b g t d due was lawful running step in_hand was_set e =
-    let asks : Asks b.script b.state g (TimerOp.Reset t d) = needs-asks b.script b.state g (TimerOp.Reset t d) step in
+    let asks : Asks b.script b.state g (TimerOp.Reset t d) = needs-asks b.script b.state b.schedule g (TimerOp.Reset t d) step in
     let does : Does b.script b.state g (Instr.Reset t d) = subst (Does b.script b.state g) (instr-reset b.state g t d asks.instr asks.is) asks.does in
     let is : due ≡ due_at (clock_of b.state g) d = e ∙ ap (λ now. due_at now d) (sym (one_clock b g lawful)) in
-    (((d, does, ap Some was_set, is), in_hand, refl), not_gone b (Op.Reset g t was due 0) running refl)
+    (((d, does, ap Some was_set, is), in_hand-goes (status_of b.schedule g) in_hand, refl), not_gone b (Op.Reset g t was due 0) running refl)

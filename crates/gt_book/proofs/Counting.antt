@@ -1,5 +1,5 @@
 -- The least of the times by slot is the least of the counted ones.
-use Rattle.std.proofs.Common.{◌≡◌, ◌≢◌, ◌⊎◌, ℕ, zero, suc, ◌+◌, ◌<◌, ◌-◌, ◌≤◌, add-one, nat_lt, if◌then◌else◌, List, [], ◌∷◌, ◌++◌, length, refl, sym, ap, subst, ◌∙◌, arith, slice_get, Option, None, Some, Bool, true, false, ◌&&◌, ◌||◌, cond, min, is_some, inl, inr, MatchOption, IsNone, IfSome, ◌↔◌, eq-eqb}
+use Rattle.std.proofs.Common.{◌≡◌, eqb, ◌≢◌, ◌⊎◌, ℕ, zero, suc, ◌+◌, ◌<◌, ◌-◌, ◌≤◌, add-one, nat_lt, if◌then◌else◌, List, [], ◌∷◌, ◌++◌, length, refl, sym, ap, subst, ◌∙◌, arith, slice_get, Option, None, Some, Bool, true, false, ◌&&◌, ◌||◌, cond, min, is_some, inl, inr, MatchOption, IsNone, IfSome, ◌↔◌, eq-eqb}
 use Rattle.std.specs.List.{list_any, filter_map, cons_option, enumerate_from}
 use Rattle.std.specs.Option.{option_map}
 use Rattle.std.proofs.lemmas.Bool.{and_parts}
@@ -15,13 +15,13 @@ use Rattle.gt_rules.specs.Counted.{sleep_of, receives, awaits, is_awaited, count
 use Rattle.gt_facts.specs.Quiet.{IsOneWorld}
 use Rattle.gt_facts.proofs.Named.{names-instr_at}
 use Rattle.gt_facts.proofs.Lookups.{any-numbered, receives-recv, Standing, standing}
-use Rattle.gt_queue.specs.Contents.{waiting_in}
+use Rattle.gt_model.specs.declared.entry.Party.{Party}
+use Rattle.gt_rules.specs.Legal.{operation}
 use Rattle.gt_book.specs.declared.answers.Due.{Due}
 use Rattle.gt_book.specs.declared.answers.Whose.{Whose}
-use Rattle.gt_book.specs.declared.status.RunStatus.{RunStatus}
-use Rattle.gt_book.specs.Schedule.{run_queue, queue_at, status_of}
-use Rattle.gt_book.specs.Scheduler.{in_hand, is_in_hand}
-use Rattle.gt_book.specs.View.{BookView, IsLawful, Agrees, is_parked, is_parked_at, is_at_receive}
+use Rattle.gt_schedule.specs.declared.status.RunStatus.{RunStatus}
+use Rattle.gt_schedule.specs.Schedule.{plainly, parties_at, status_of, is_parked, is_in_hand, in_hand}
+use Rattle.gt_book.specs.View.{BookView, IsLawful, Agrees, is_parked_at, is_at_receive}
 use Rattle.gt_book.specs.Least.{NobodyRuns, IsTimeOf}
 use Rattle.gt_book.specs.DueTimes.{timer_time, slot_time, whose_slot, IsOfSlot, IsLeast, AreTimes}
 use Rattle.gt_book.specs.declared.due_times.DueTimes.{DueTimes}
@@ -29,7 +29,7 @@ use Rattle.gt_book.proofs.Times.{slot-sleep, slot-timer}
 use Rattle.std.proofs.lemmas.Option.{slice_get_within}
 use Rattle.gt_model.proofs.Items.{HasNumber}
 use Rattle.gt_book.proofs.Fitting.{has_status, none-queued, first-waiting, none-waiting}
-use Rattle.gt_book.proofs.SchedulerCounts.{count-numbered}
+use Rattle.gt_schedule.proofs.Counting.{count-numbered}
 
 -- ---- the numbers of a list
 
@@ -174,7 +174,7 @@ enumerated-at n (x ∷ xs) (suc i) e is =
     let place : e.0 ≡ (n + 1) + i = rest.0 in
     (omega arith, rest.1)
 
-nobody-first : (xs : List ℕ) → slice_get xs 0 ≡ None → xs ≡ []
+nobody-first : (xs : List Party) → slice_get xs 0 ≡ None → xs ≡ []
 nobody-first [] e = refl
 nobody-first (x ∷ xs) e = cc
 
@@ -188,14 +188,18 @@ none-any {X} p (x ∷ xs) h =
     later p x xs h zero y e = cc
     later p x xs h (suc i) y e = h (suc (suc i)) y e
 
-awaits-is : (script : Script) (s : State) (g t : ℕ) (r : Goroutine) → IsOneWorld s → goroutine_at s g ≡ Some r → awaits script 0 t r ≡ is_at_receive script s g t
+-- whether a goroutine stands at a receive from t
+abbrev stands_receiving : Script → State → ℕ → ℕ → Bool
+stands_receiving script s g t = elim (stands_at script s g) [ None ↦ false | Some i ↦ receives t i ]
+
+awaits-is : (script : Script) (s : State) (g t : ℕ) (r : Goroutine) → IsOneWorld s → goroutine_at s g ≡ Some r → awaits script 0 t r ≡ stands_receiving script s g t
 awaits-is script s g t r one e =
     let in_world : r.world ≡ 0 = one.goroutines g r e in
     ap (λ (b : Bool). b && elim (stands script r) [ None ↦ false | Some i ↦ receives t i ]) (eq-eqb r.world 0 in_world)
     ∙ sym (ap (λ (o : Option Goroutine). elim (elim o as (λ _. Option Instr) [ None ↦ None | Some r ↦ stands script r ]) as (λ _. Bool) [ None ↦ false | Some i ↦ receives t i ]) e)
 
 -- who stands at a receive
-at_receive : (script : Script) (s : State) (g t : ℕ) → is_at_receive script s g t ≡ true → Standing script s g (Instr.Recv t)
+at_receive : (script : Script) (s : State) (g t : ℕ) → stands_receiving script s g t ≡ true → Standing script s g (Instr.Recv t)
 at_receive script s g t e =
     standing script s g (Instr.Recv t)
     (elim (stands_at script s g) as (λ o. (elim o [ None ↦ false | Some i ↦ receives t i ]) ≡ true → o ≡ Some (Instr.Recv t)) [
@@ -203,34 +207,61 @@ at_receive script s g t e =
       | Some i ↦ λ q. ap Some (receives-recv i t q)
     ] e)
 
+-- which is what its party at the plain instruction does
+plainly-receiving : (script : Script) (s : State) (g t : ℕ) → is_at_receive script s (plainly g) t ≡ stands_receiving script s g t
+plainly-receiving script s g t =
+    elim (stands_at script s g)
+    as (λ o. (elim (elim o as (λ x. Option ℕ) [ None ↦ None | Some i ↦ operation i 0 ]) [ None ↦ false | Some u ↦ eqb u t ]) ≡ (elim o [ None ↦ false | Some i ↦ receives t i ])) [
+      | None ↦ refl
+      | Some i ↦ of_instr i
+    ]
+  where
+    of_instr : (i : Instr) → (elim (operation i 0) [ None ↦ false | Some u ↦ eqb u t ]) ≡ receives t i
+    of_instr (Instr.Recv o) = refl
+    of_instr _ = refl
+
+-- and a party that stands at one has a goroutine that does
+party-receiving : (script : Script) (s : State) (p : Party) (t : ℕ) → is_at_receive script s p t ≡ true → stands_receiving script s p.g t ≡ true
+party-receiving script s p t h =
+    elim (stands_at script s p.g)
+    as (λ o. (elim (elim o as (λ x. Option ℕ) [ None ↦ None | Some i ↦ operation i p.case_no ]) [ None ↦ false | Some u ↦ eqb u t ]) ≡ true → (elim o [ None ↦ false | Some i ↦ receives t i ]) ≡ true) [
+      | None ↦ λ k. cc
+      | Some i ↦ λ k. of_instr i p.case_no k
+    ] h
+  where
+    of_instr : (i : Instr) (n : ℕ) → (elim (operation i n) [ None ↦ false | Some u ↦ eqb u t ]) ≡ true → receives t i ≡ true
+    of_instr (Instr.Recv o) zero k = k
+    of_instr (Instr.Recv o) (suc n) k = cc
+    of_instr _ n k = cc
+
 -- nobody runs where the run queue is empty and nobody is counted in a worker's hand
-pub nobody-runs : (v : BookView) → waiting_in v.schedule.queues run_queue ≡ [] → in_hand v.schedule ≡ 0 → NobodyRuns v
+pub nobody-runs : (v : BookView) → v.schedule.run_queue ≡ [] → in_hand v.schedule ≡ 0 → NobodyRuns v
 nobody-runs v queue none = record {
   queue = queue;
   hands = λ g e.
-      let some : 0 < in_hand v.schedule = count-numbered is_in_hand v.schedule.statuses g RunStatus.InHand RunStatus.Ended e refl refl in
+      let some : 0 < in_hand v.schedule = count-numbered (λ (status : RunStatus). is_in_hand (Some status)) v.schedule.statuses g RunStatus.InHand RunStatus.Ended e refl refl in
       absurd (omega arith);
 }
 
 -- where nobody runs, who stands at an instruction is parked
-parked-status : (script : Script) (s : State) (r : Goroutine) (mode : Mode) (x : RunStatus) → mode ≡ Mode.At → Agrees script s r mode x
+parked-status : (mode : Mode) (x : RunStatus) → mode ≡ Mode.At → Agrees mode x
     → x ≢ RunStatus.Queued → x ≢ RunStatus.InHand → is_parked (Some x) ≡ true
-parked-status script s r mode RunStatus.Queued is h queued in_hand = absurd (queued refl)
-parked-status script s r mode RunStatus.InHand is h queued in_hand = absurd (in_hand refl)
-parked-status script s r mode (RunStatus.Parked since) is h queued in_hand = refl
-parked-status script s r mode RunStatus.Ended is h queued in_hand =
-    absurd (subst (λ (mode : Mode). Agrees script s r mode RunStatus.Ended) is h)
+parked-status mode RunStatus.Queued is h queued in_hand = absurd (queued refl)
+parked-status mode RunStatus.InHand is h queued in_hand = absurd (in_hand refl)
+parked-status mode (RunStatus.Parked since) is h queued in_hand = refl
+parked-status mode RunStatus.Ended is h queued in_hand =
+    absurd (subst (λ (mode : Mode). Agrees mode RunStatus.Ended) is h)
 
-parked-there : (v : BookView) (g t : ℕ) → IsLawful v → NobodyRuns v → is_at_receive v.script v.state g t ≡ true → is_parked_at v.script v.state v.schedule g t ≡ true
+parked-there : (v : BookView) (g t : ℕ) → IsLawful v → NobodyRuns v → stands_receiving v.script v.state g t ≡ true → is_parked_at v.script v.state v.schedule (plainly g) t ≡ true
 parked-there v g t lawful nobody e =
     let st : Standing v.script v.state g (Instr.Recv t) = at_receive v.script v.state g t e in
     let status : HasNumber v.schedule.statuses g = has_status v.script v.state v.schedule g st.who lawful.fits st.there in
     let parked : is_parked (Some status.item) ≡ true =
-    parked-status v.script v.state st.who st.who.mode status.item st.at (lawful.fits.agree g st.who status.item st.there status.there)
+    parked-status st.who.mode status.item st.at (lawful.fits.agree g st.who status.item st.there status.there)
     (λ is. none-queued v.script v.state v.schedule lawful.fits nobody.queue g (status.there ∙ ap Some is))
     (λ is. nobody.hands g (status.there ∙ ap Some is)) in
     let known : is_parked (status_of v.schedule g) ≡ true = ap is_parked status.there ∙ parked in
-    rw (known, e) refl
+    rw (known, plainly-receiving v.script v.state g t, e) refl
 
 not_true : (b : Bool) → (b ≡ true → ⊥) → b ≡ false
 not_true true h = absurd (h refl)
@@ -238,21 +269,22 @@ not_true false h = refl
 
 -- where nobody runs, a timer is awaited exactly where somebody stands in its queue
 awaited-first : (v : BookView) (t : ℕ) → IsLawful v → NobodyRuns v → t < length v.script.decls
-    → is_awaited v.script v.state 0 t ≡ is_some (slice_get (waiting_in v.schedule.queues (queue_at t)) 0)
+    → is_awaited v.script v.state 0 t ≡ is_some (slice_get (parties_at v.schedule.receivers t) 0)
 awaited-first v t lawful nobody within =
-    elim (slice_get (waiting_in v.schedule.queues (queue_at t)) 0) as (λ o. slice_get (waiting_in v.schedule.queues (queue_at t)) 0 ≡ o → is_awaited v.script v.state 0 t ≡ is_some o) [
+    elim (slice_get (parties_at v.schedule.receivers t) 0) as (λ o. slice_get (parties_at v.schedule.receivers t) 0 ≡ o → is_awaited v.script v.state 0 t ≡ is_some o) [
       | None ↦ λ e. none-any (awaits v.script 0 t) v.state.goroutines (λ g r there.
-          let none : is_parked_at v.script v.state v.schedule g t ≡ false =
-          none-waiting v.script v.state v.schedule t lawful.fits within (nobody-first (waiting_in v.schedule.queues (queue_at t)) e) g in
+          let none : is_parked_at v.script v.state v.schedule (plainly g) t ≡ false =
+          none-waiting v.script v.state v.schedule t lawful.fits within (nobody-first (parties_at v.schedule.receivers t) e) (plainly g) in
           awaits-is v.script v.state g t r lawful.formed.world there
-          ∙ not_true (is_at_receive v.script v.state g t) (λ at.
-          let parked : is_parked_at v.script v.state v.schedule g t ≡ true = parked-there v g t lawful nobody at in
+          ∙ not_true (stands_receiving v.script v.state g t) (λ at.
+          let parked : is_parked_at v.script v.state v.schedule (plainly g) t ≡ true = parked-there v g t lawful nobody at in
           cc))
-      | Some g ↦ λ e.
-          let parked : is_parked_at v.script v.state v.schedule g t ≡ true = first-waiting v.script v.state v.schedule g t lawful.fits within e in
-          let at : is_at_receive v.script v.state g t ≡ true = (and_parts (is_parked (status_of v.schedule g)) (is_at_receive v.script v.state g t) parked).1 in
-          let st : Standing v.script v.state g (Instr.Recv t) = at_receive v.script v.state g t at in
-          any-numbered (awaits v.script 0 t) v.state.goroutines g st.who st.there (awaits-is v.script v.state g t st.who lawful.formed.world st.there ∙ at)
+      | Some p ↦ λ e.
+          let parked : is_parked_at v.script v.state v.schedule p t ≡ true = first-waiting v.script v.state v.schedule p t lawful.fits within e in
+          let at : stands_receiving v.script v.state p.g t ≡ true =
+          party-receiving v.script v.state p t (and_parts (is_parked (status_of v.schedule p.g)) (is_at_receive v.script v.state p t) parked).1 in
+          let st : Standing v.script v.state p.g (Instr.Recv t) = at_receive v.script v.state p.g t at in
+          any-numbered (awaits v.script 0 t) v.state.goroutines p.g st.who st.there (awaits-is v.script v.state p.g t st.who lawful.formed.world st.there ∙ at)
     ] refl
 
 counted-is : (script : Script) (s : State) (t : ℕ) (o : Option Timer) → IsOneWorld s → timer_at s t ≡ o
@@ -288,27 +320,27 @@ due-counted false o n e = cc
 timer-inside : (v : BookView) (t n : ℕ) → timer_time v.script v.state v.schedule t ≡ Some n → t < length v.state.timers
 timer-inside v t n e =
     due-inside v.state.timers t n
-    (due-counted (is_func v.script t || is_some (slice_get (waiting_in v.schedule.queues (queue_at t)) 0)) (due_of v.state t) n e)
+    (due-counted (is_func v.script t || is_some (slice_get (parties_at v.schedule.receivers t) 0)) (due_of v.state t) n e)
 
 -- ---- whose the time of a slot is
 
-is_first : (xs : List ℕ) → is_some (slice_get xs 0) ≡ true → (g : ℕ) × (slice_get xs 0 ≡ Some g)
+is_first : (xs : List Party) → is_some (slice_get xs 0) ≡ true → (p : Party) × (slice_get xs 0 ≡ Some p)
 is_first [] e = cc
 is_first (x ∷ xs) e = (x, refl)
 
-awaited-of : (v : BookView) (t at : ℕ) → IsLawful v → t < length v.script.decls → is_some (slice_get (waiting_in v.schedule.queues (queue_at t)) 0) ≡ true → due_of v.state t ≡ Some at
+awaited-of : (v : BookView) (t at : ℕ) → IsLawful v → t < length v.script.decls → is_some (slice_get (parties_at v.schedule.receivers t) 0) ≡ true → due_of v.state t ≡ Some at
     → IsTimeOf v at (Whose.Timer t)
 awaited-of v t at lawful within some is =
-    let first : (g : ℕ) × (slice_get (waiting_in v.schedule.queues (queue_at t)) 0 ≡ Some g) = is_first (waiting_in v.schedule.queues (queue_at t)) some in
+    let first : (p : Party) × (slice_get (parties_at v.schedule.receivers t) 0 ≡ Some p) = is_first (parties_at v.schedule.receivers t) some in
     let parked : is_parked_at v.script v.state v.schedule first.0 t ≡ true = first-waiting v.script v.state v.schedule first.0 t lawful.fits within first.1 in
-    let receives : is_at_receive v.script v.state first.0 t ≡ true =
-    (and_parts (is_parked (status_of v.schedule first.0)) (is_at_receive v.script v.state first.0 t) parked).1 in
-    let st : Standing v.script v.state first.0 (Instr.Recv t) = at_receive v.script v.state first.0 t receives in
+    let receives : stands_receiving v.script v.state first.0.g t ≡ true =
+    party-receiving v.script v.state first.0 t (and_parts (is_parked (status_of v.schedule first.0.g)) (is_at_receive v.script v.state first.0 t) parked).1 in
+    let st : Standing v.script v.state first.0.g (Instr.Recv t) = at_receive v.script v.state first.0.g t receives in
     (names-instr_at v.script st.who.place (Instr.Recv t) lawful.good st.on, is, first)
 
 -- of an AfterFunc timer, or of one at which somebody waits
 timer-of : (v : BookView) (t at : ℕ) (func some : Bool) → IsLawful v → t < length v.script.decls → is_func v.script t ≡ func
-    → is_some (slice_get (waiting_in v.schedule.queues (queue_at t)) 0) ≡ some → (if func || some then due_of v.state t else None) ≡ Some at
+    → is_some (slice_get (parties_at v.schedule.receivers t) 0) ≡ some → (if func || some then due_of v.state t else None) ≡ Some at
     → IsTimeOf v at (if func then Whose.Func t else Whose.Timer t)
 timer-of v t at true some lawful within is_it waits e = (is_it, e)
 timer-of v t at false true lawful within is_it waits e = awaited-of v t at lawful within waits e
@@ -321,10 +353,10 @@ slot-of n v slot at false lawful e = e
 slot-of n v slot at true lawful e =
     let inside : slot < length v.state.timers = timer-inside v slot at e in
     let within : slot < length v.script.decls = subst (λ k. slot < k) lawful.formed.timers inside in
-    elim (is_func v.script slot) as (λ (q : Bool). is_func v.script slot ≡ q → (if q || is_some (slice_get (waiting_in v.schedule.queues (queue_at slot)) 0) then due_of v.state slot else None) ≡ Some at
+    elim (is_func v.script slot) as (λ (q : Bool). is_func v.script slot ≡ q → (if q || is_some (slice_get (parties_at v.schedule.receivers slot) 0) then due_of v.state slot else None) ≡ Some at
     → IsTimeOf v at (if q then Whose.Func slot else Whose.Timer slot)) [
-      | true ↦ λ q k. timer-of v slot at true (is_some (slice_get (waiting_in v.schedule.queues (queue_at slot)) 0)) lawful within q refl k
-      | false ↦ λ q k. timer-of v slot at false (is_some (slice_get (waiting_in v.schedule.queues (queue_at slot)) 0)) lawful within q refl k
+      | true ↦ λ q k. timer-of v slot at true (is_some (slice_get (parties_at v.schedule.receivers slot) 0)) lawful within q refl k
+      | false ↦ λ q k. timer-of v slot at false (is_some (slice_get (parties_at v.schedule.receivers slot) 0)) lawful within q refl k
     ] refl e
 
 -- ---- the slots have the counted times

@@ -15,10 +15,12 @@ use Rattle.gt_model.specs.Good.{IsGood, AreLimits}
 use Rattle.gt_facts.specs.Formed.{IsFormed}
 use Rattle.gt_facts.proofs.Histories.{AllLegal-append, state_after-append}
 use Rattle.gt_facts.proofs.Formed.{formed-after, formed-finish}
-use Rattle.gt_book.specs.Schedule.{scheduled}
-use Rattle.gt_book.specs.View.{BookView, IsLawful, Fits, Enters, with_entries, finish_by, outcome_of}
+use Rattle.gt_schedule.specs.Schedule.{scheduled}
+use Rattle.gt_book.specs.View.{BookView, IsLawful, Fits, NoneFirm, Enters, with_entries, finish_by, outcome_of}
 use Rattle.gt_machine.specs.Outcomes.{due_outcome, outcome_in}
-use Rattle.gt_book.proofs.Fitting.{fits-finish}
+use Rattle.gt_rules.specs.Change.{change_of}
+use Rattle.gt_book.proofs.Fitting.{fits-changed}
+use Rattle.gt_book.proofs.Calm.{IsCalm}
 
 -- an entry that may come while the run goes on is legal
 pub legal-May : (script : Script) (limits : Limits) (s : State) (e : Entry) → IsRunning limits s → May script s e → Legal script limits s e
@@ -39,7 +41,7 @@ counted-May script s (Entry.End g) may = record { more = refl; unfinished = λ o
 counted-May script s (Entry.Finish outcome) may = absurd may
 counted-May script s _ may = record { more = refl; unfinished = λ outcome is e. cc }
 
--- all that a lawful book keeps, but that the run goes on or has its outcome
+-- all that a lawful book keeps, but that the run goes on or has its outcome, and that nobody parked is firmly ready while it goes on
 pub record IsSound (b : BookView) : Type 0 where
   pub good : IsGood b.script
   pub limits : AreLimits b.limits
@@ -48,8 +50,8 @@ pub record IsSound (b : BookView) : Type 0 where
   pub formed : IsFormed b.script b.state
   pub fits : Fits b.script b.state b.schedule
 
-pub lawful-sound : (b : BookView) → IsSound b → MatchOption (outcome_of b) (IsRunning b.limits b.state) (λ outcome. Unit {0}) → IsLawful b
-lawful-sound b sound goes = record {
+pub lawful-sound : (b : BookView) → IsSound b → MatchOption (outcome_of b) (IsRunning b.limits b.state) (λ outcome. Unit {0}) → (outcome_of b ≡ None → NoneFirm b) → IsLawful b
+lawful-sound b sound goes calm = record {
   good = sound.good;
   limits = sound.limits;
   legal = sound.legal;
@@ -57,6 +59,7 @@ lawful-sound b sound goes = record {
   goes = goes;
   formed = sound.formed;
   fits = sound.fits;
+  calm = calm;
 }
 
 -- one more entry
@@ -131,6 +134,7 @@ pub record IsEntered (b : BookView) (e : Entry) : Type 0 where
   pub few : (after b.script b.state e).entries ≤ b.limits.entries
   pub unfinished : (outcome : Outcome) → (after b.script b.state e).ending ≡ Ending.Finished outcome → ⊥
   pub legal : Legal b.script b.limits b.state e
+  pub calm : NoneFirm (with_entries b (e ∷ []))
 
 pub sound-lawful : (b : BookView) → IsLawful b → IsSound b
 sound-lawful b lawful = record {
@@ -147,8 +151,8 @@ running-none b lawful none =
     subst (λ (o : Option Outcome). MatchOption o (IsRunning b.limits b.state) (λ outcome. Unit {0})) none lawful.goes
 
 pub entered_by : (b : BookView) (e : Entry) → IsLawful b → IsRunning b.limits b.state → May b.script b.state e
-    → Fits b.script (after b.script b.state e) (scheduled b.schedule e) → IsEntered b e
-entered_by b e lawful running may fits =
+    → Fits b.script (after b.script b.state e) (scheduled b.schedule e) → IsCalm b.script (after b.script b.state e) (scheduled b.schedule e) → IsEntered b e
+entered_by b e lawful running may fits calm =
     let counted : IsCounted b.script b.state e = counted-May b.script b.state e may in
     let legal : Legal b.script b.limits b.state e = legal-May b.script b.limits b.state e running may in
     let more : (after b.script b.state e).entries ≡ b.state.entries + 1 = counted.more in
@@ -158,6 +162,7 @@ entered_by b e lawful running may fits =
       few = omega arith;
       unfinished = λ outcome. counted.unfinished outcome running.ending;
       legal = legal;
+      calm = calm;
     }
 
 -- where no outcome is due, the book is lawful and the run goes on
@@ -167,6 +172,7 @@ lawful-goes_on b e entered none =
     let running : IsRunning b.limits s = goes_on b.limits s entered.few entered.unfinished none in
     lawful-sound (with_entries b (e ∷ [])) entered.sound
     (subst (λ (ending : Ending). MatchOption (outcome_in ending) (IsRunning b.limits s) (λ outcome. Unit {0})) (sym running.ending) running)
+    (λ none. entered.calm)
 
 -- where an outcome is due, the book that ends with it is lawful
 pub lawful-finishes : (b : BookView) (e : Entry) (outcome : Outcome) → IsEntered b e → due_outcome b.limits (after b.script b.state e) ≡ Some outcome
@@ -176,8 +182,8 @@ lawful-finishes b e outcome entered due =
     let one : BookView = with_entries b (e ∷ []) in
     let finished : IsSound (with_entries one (Entry.Finish outcome ∷ [])) =
     sound-more one (Entry.Finish outcome) entered.sound (due-Finishes b.script b.limits s outcome due)
-    (formed-finish b.script s outcome entered.sound.formed) (fits-finish b.script s (scheduled b.schedule e) outcome entered.sound.fits) in
-    subst IsLawful (with_entries-finish b e outcome) (lawful-sound (with_entries one (Entry.Finish outcome ∷ [])) finished tt)
+    (formed-finish b.script s outcome entered.sound.formed) (fits-changed b.script s (scheduled b.schedule e) (change_of (Entry.Finish outcome)) entered.sound.fits tt) in
+    subst IsLawful (with_entries-finish b e outcome) (lawful-sound (with_entries one (Entry.Finish outcome ∷ [])) finished tt (λ none. cc))
 
 pub enters-finishes : (b : BookView) (e : Entry) (outcome : Outcome) → IsEntered b e → due_outcome b.limits (after b.script b.state e) ≡ Some outcome
     → Enters b e (with_entries b (e ∷ Entry.Finish outcome ∷ []))
@@ -186,4 +192,12 @@ enters-finishes b e outcome entered due = record {
   legal = (entered.legal, tt);
   each_woken = tt;
   is = ap (λ (o : Option Outcome). with_entries b (e ∷ finish_by o)) (sym due);
+}
+
+pub enters-goes_on : (b : BookView) (e : Entry) → IsEntered b e → due_outcome b.limits (after b.script b.state e) ≡ None → Enters b e (with_entries b (e ∷ []))
+enters-goes_on b e entered none = record {
+  woken = [];
+  legal = (entered.legal, tt);
+  each_woken = tt;
+  is = ap (λ (o : Option Outcome). with_entries b (e ∷ finish_by o)) (sym none);
 }

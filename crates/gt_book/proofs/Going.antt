@@ -1,5 +1,5 @@
 -- A book whose schedule changes, and one that ends, keep what a book keeps; what a goroutine in hand does may come.
-use Rattle.std.proofs.Common.{◌≡◌, ℕ, ◌+◌, ◌<◌, List, [], ◌∷◌, refl, sym, ap, subst, ◌∙◌, arith, Option, None, Some, IfSome, IfNone, length, is_some, is_none, IsSome, slice_get, Bool, true, false, zero, suc}
+use Rattle.std.proofs.Common.{◌≡◌, ℕ, ◌+◌, ◌<◌, List, [], ◌∷◌, refl, sym, ap, subst, ◌∙◌, arith, Option, None, Some, IfSome, IfNone, length, is_some, is_none, IsSome, slice_get, Bool, true, false, ◌||◌, IsTrue, zero, suc}
 use Rattle.gt_model.specs.declared.script.Script.{Script}
 use Rattle.gt_model.specs.declared.script.Instr.{Instr}
 use Rattle.gt_model.specs.declared.entry.Entry.{Entry}
@@ -17,23 +17,24 @@ use Rattle.gt_model.specs.Good.{IsGood, NamesRightly}
 use Rattle.gt_facts.specs.Formed.{IsFormed, IsPlacedIn}
 use Rattle.gt_facts.proofs.Formed.{formed-finish}
 use Rattle.gt_facts.proofs.Named.{names-Does}
-use Rattle.gt_queue.specs.Contents.{waiting_in}
 use Rattle.gt_book.specs.declared.book.Book.TheInside.{Inside}
 use Rattle.gt_machine.specs.declared.machine.Machine.{Machine}
-use Rattle.gt_book.specs.declared.scheduler.Scheduler.{Scheduler}
-use Rattle.gt_book.specs.declared.status.RunStatus.{RunStatus}
+use Rattle.gt_schedule.specs.declared.scheduler.Scheduler.{Scheduler}
+use Rattle.gt_schedule.specs.declared.status.RunStatus.{RunStatus}
 use Rattle.gt_book.specs.declared.step.Step.{Step}
 use Rattle.gt_machine.specs.Machine.{state_of}
-use Rattle.gt_book.specs.Schedule.{Schedule, run_queue, status_of, taken}
-use Rattle.gt_book.specs.Scheduler.{schedule_of, IsScheduler}
-use Rattle.gt_book.specs.Steps.{step_of, step_or_panic, step_of_instr, plainly}
-use Rattle.gt_book.specs.View.{BookView, IsLawful, Fits, Agrees, with_entries, with_schedule, outcome_of}
+use Rattle.gt_schedule.specs.Schedule.{Schedule, plainly, status_of, is_in_hand, is_parked, taken, Served}
+use Rattle.gt_schedule.specs.Scheduler.{schedule_of, capacity, IsScheduler}
+use Rattle.gt_schedule.proofs.Moving.{first-queued}
+use Rattle.gt_rules.specs.Change.{change_of}
+use Rattle.gt_book.specs.Steps.{step_of, step_or_panic, step_of_instr}
+use Rattle.gt_book.specs.View.{BookView, IsLawful, Fits, NoneFirm, Agrees, with_entries, with_schedule, outcome_of}
 use Rattle.gt_book.specs.Book.{seen, IsKept}
-use Rattle.gt_book.proofs.Fitting.{fits-finish}
+use Rattle.gt_book.proofs.Calm.{IsCalm, calm-taken}
 use Rattle.gt_book.proofs.Entering.{running-none, sound-more, sound-lawful, lawful-sound}
 use Rattle.gt_room.specs.Contents.{Contents}
 use Rattle.gt_book.proofs.Books.{Finished, seen-is, finished-rooms}
-use Rattle.gt_book.proofs.Fitting.{Known, known, fits-taken}
+use Rattle.gt_book.proofs.Fitting.{Known, known, fits-taken, fits-changed}
 use Rattle.gt_facts.proofs.Within.{timer_within}
 use Rattle.gt_book.specs.declared.due_times.DueTimes.{DueTimes}
 use Rattle.gt_book.specs.DueTimes.{AreTimes}
@@ -41,8 +42,8 @@ use Rattle.gt_book.proofs.EntryTimes.{times-taken, times-finished}
 
 -- ---- another schedule
 
-lawful-scheduled : (v : BookView) (m : Schedule) → IsLawful v → Fits v.script v.state m → IsLawful (with_schedule v m)
-lawful-scheduled v m lawful fits = record {
+lawful-scheduled : (v : BookView) (m : Schedule) → IsLawful v → Fits v.script v.state m → (outcome_of v ≡ None → NoneFirm (with_schedule v m)) → IsLawful (with_schedule v m)
+lawful-scheduled v m lawful fits calm = record {
   good = lawful.good;
   limits = lawful.limits;
   legal = lawful.legal;
@@ -50,27 +51,31 @@ lawful-scheduled v m lawful fits = record {
   goes = lawful.goes;
   formed = lawful.formed;
   fits = fits;
+  calm = calm;
 }
 
 abbrev pub with_scheduler : Inside → Scheduler → DueTimes → Inside
 with_scheduler b m times = record { script = b.script; limits = b.limits; history = b.history; machine = b.machine; scheduler = m; due_times = times }
 
 pub kept-scheduled : (b : Inside) (m : Scheduler) (times : DueTimes) (schedule : Schedule) → IsKept b → schedule_of m ≡ schedule → Fits b.script (state_of b.machine) schedule
-    → IsScheduler b.limits.entries m → AreTimes b.limits.entries b.script (state_of b.machine) schedule times → IsKept (with_scheduler b m times)
-kept-scheduled b m times schedule kept is fits scheduler are = record {
-  lawful = lawful-scheduled (seen b) (schedule_of m) kept.lawful (subst (Fits b.script (state_of b.machine)) (sym is) fits);
-  rooms = record { history = kept.rooms.history; goroutines = kept.rooms.goroutines; scheduler = scheduler; entries = kept.rooms.entries };
+    → (outcome_of (seen b) ≡ None → IsCalm b.script (state_of b.machine) schedule) → capacity m ≡ capacity b.scheduler → IsScheduler m → AreTimes b.limits.entries b.script (state_of b.machine) schedule times → IsKept (with_scheduler b m times)
+kept-scheduled b m times schedule kept is fits calm places scheduler are = record {
+  lawful = lawful-scheduled (seen b) (schedule_of m) kept.lawful (subst (Fits b.script (state_of b.machine)) (sym is) fits)
+      (λ running. subst (IsCalm b.script (state_of b.machine)) (sym is) (calm running));
+  rooms = record { history = kept.rooms.history; goroutines = kept.rooms.goroutines; schedule = places ∙ kept.rooms.schedule; scheduler = scheduler; entries = kept.rooms.entries };
   times = subst (λ (m : Schedule). AreTimes b.limits.entries b.script (state_of b.machine) m times) (sym is) are;
 }
 
 -- a goroutine was taken, or none was
-pub kept-taken : (b : Inside) (m : Scheduler) (result : Option ℕ) → IsKept b → result ≡ slice_get (waiting_in b.scheduler.queues.queues run_queue) 0
+pub kept-taken : (b : Inside) (m : Scheduler) (result : Option ℕ) → IsKept b → result ≡ slice_get (schedule_of b.scheduler).run_queue 0
     → IfNone result (m ≡ b.scheduler) → IfSome result (λ g. schedule_of m ≡ taken (schedule_of b.scheduler) g)
-    → ((most : ℕ) → IsScheduler most b.scheduler → IsScheduler most m) → IsKept (with_scheduler b m b.due_times)
-kept-taken b m None kept first unchanged schedule scheduler = subst (λ (m : Scheduler). IsKept (with_scheduler b m b.due_times)) (sym unchanged) kept
-kept-taken b m (Some g) kept first unchanged schedule scheduler =
+    → capacity m ≡ capacity b.scheduler → IsScheduler m → IsKept (with_scheduler b m b.due_times)
+kept-taken b m None kept first unchanged schedule places scheduler = subst (λ (m : Scheduler). IsKept (with_scheduler b m b.due_times)) (sym unchanged) kept
+kept-taken b m (Some g) kept first unchanged schedule places scheduler =
     kept-scheduled b m b.due_times (taken (schedule_of b.scheduler) g) kept schedule
-    (fits-taken b.script (state_of b.machine) (schedule_of b.scheduler) g kept.lawful.fits (sym first)) (scheduler b.limits.entries kept.rooms.scheduler)
+    (fits-taken b.script (state_of b.machine) (schedule_of b.scheduler) g kept.lawful.fits (sym first))
+    (λ running. calm-taken b.script (state_of b.machine) (schedule_of b.scheduler) g (first-queued (schedule_of b.scheduler) g kept.lawful.fits.queued (sym first)) (kept.lawful.calm running))
+    places scheduler
     (times-taken b.limits.entries b.script (state_of b.machine) (schedule_of b.scheduler) g b.due_times kept.times)
 
 -- ---- the end in a deadlock
@@ -80,8 +85,8 @@ pub lawful-deadlock : (v : BookView) → IsLawful v → outcome_of v ≡ None �
 lawful-deadlock v lawful none idle uncounted =
     lawful-sound (with_entries v (Entry.Finish Outcome.Deadlock ∷ []))
     (sound-more v (Entry.Finish Outcome.Deadlock) (sound-lawful v lawful) (running-none v lawful none, idle, uncounted)
-    (formed-finish v.script v.state Outcome.Deadlock lawful.formed) (fits-finish v.script v.state v.schedule Outcome.Deadlock lawful.fits))
-    tt
+    (formed-finish v.script v.state Outcome.Deadlock lawful.formed) (fits-changed v.script v.state v.schedule (change_of (Entry.Finish Outcome.Deadlock)) lawful.fits tt))
+    tt (λ none. cc)
 
 abbrev pub ended : Inside → Machine → Contents Entry → Inside
 ended b machine history = record { script = b.script; limits = b.limits; history = history; machine = machine; scheduler = b.scheduler; due_times = b.due_times }
@@ -109,7 +114,7 @@ placed-some (x ∷ xs) zero h = (x, refl)
 placed-some (x ∷ xs) (suc i) h = placed-some xs i (omega arith)
 
 -- who is in hand stands at its instruction
-agrees-stands : (script : Script) (s : State) (r : Goroutine) (mode : Mode) → r.mode ≡ mode → Agrees script s r mode RunStatus.InHand
+agrees-stands : (script : Script) (s : State) (r : Goroutine) (mode : Mode) → r.mode ≡ mode → Agrees mode RunStatus.InHand
     → IsPlacedIn (length (code_of script r.place.func)) r.place.at mode → (i : Instr) × (stands script r ≡ Some i)
 agrees-stands script s r Mode.At is h placed =
     let found : (i : Instr) × (instr_at script r.place ≡ Some i) = placed-some (code_of script r.place.func) r.place.at placed in
@@ -123,7 +128,7 @@ in_hand-stands v g lawful e =
     let found = agrees-stands v.script v.state k.who k.who.mode refl k.agrees (lawful.formed.placed g k.who k.there) in
     (found.0, ap (λ (o : Option Goroutine). elim o [ None ↦ None | Some r ↦ stands v.script r ]) k.there ∙ found.1)
 
-pub in_hand-steps : (v : BookView) (g : ℕ) → IsLawful v → status_of v.schedule g ≡ Some RunStatus.InHand → IsSome (step_of v.script v.state g)
+pub in_hand-steps : (v : BookView) (g : ℕ) → IsLawful v → status_of v.schedule g ≡ Some RunStatus.InHand → IsSome (step_of v.script v.state v.schedule g)
 in_hand-steps v g lawful e =
     let found = in_hand-stands v g lawful e in
     ap (λ (o : Option Instr). is_some (elim o [ None ↦ None | Some i ↦ Some (step_or_panic v.state g i (fault v.script v.state i)) ])) found.1
@@ -143,8 +148,8 @@ pub record IsStep (script : Script) (s : State) (g : ℕ) (step : Step) : Type 0
   pub stands : stands_at script s g ≡ Some instr
   pub is : step_or_panic s g instr (fault script s instr) ≡ step
 
-pub step-is : (script : Script) (s : State) (g : ℕ) (step : Step) → step_of script s g ≡ Some step → IsStep script s g step
-step-is script s g step e =
+pub step-is : (script : Script) (s : State) (m : Schedule) (g : ℕ) (step : Step) → step_of script s m g ≡ Some step → IsStep script s g step
+step-is script s m g step e =
     elim (stands_at script s g) as (λ o. stands_at script s g ≡ o
     → (elim o [ None ↦ None | Some i ↦ Some (step_or_panic s g i (fault script s i)) ]) ≡ Some step → IsStep script s g step) [
       | None ↦ λ q h. cc
@@ -164,9 +169,9 @@ calm-may script s g (Instr.Reset t d) e does h = cc
 calm-may script s g (Instr.Recv o) e does h = cc
 calm-may script s g Instr.Finish e does h = let is : Entry.End g ≡ e = cc in subst (May script s) is does
 
-pub makes-may : (script : Script) (s : State) (g : ℕ) (e : Entry) → step_of script s g ≡ Some (Step.Makes e) → May script s e
-makes-may script s g e h =
-    let step : IsStep script s g (Step.Makes e) = step-is script s g (Step.Makes e) h in
+pub makes-may : (script : Script) (s : State) (m : Schedule) (g : ℕ) (e : Entry) → step_of script s m g ≡ Some (Step.Makes e) → May script s e
+makes-may script s m g e h =
+    let step : IsStep script s g (Step.Makes e) = step-is script s m g (Step.Makes e) h in
     let panics : panic_at script s g ≡ fault_at script s step.instr = panic-fault script s g step.instr step.stands in
     elim (fault script s step.instr) as (λ o. fault script s step.instr ≡ o → step_or_panic s g step.instr o ≡ Step.Makes e → May script s e) [
       | None ↦ λ q k.
@@ -177,6 +182,26 @@ makes-may script s g e h =
           let is : Entry.Panic (plainly g) reason ≡ e = cc in
           subst (May script s) is panics_so
     ] refl step.is
+
+-- who has its goroutine in hand may make its entry
+pub in_hand-goes : (o : Option RunStatus) → o ≡ Some RunStatus.InHand → IsTrue (is_in_hand o || is_parked o)
+in_hand-goes o e = ap (λ o. is_in_hand o || is_parked o) e
+
+calm-served : (s : State) (m : Schedule) (g : ℕ) (i : Instr) (e : Entry) → step_of_instr s g i ≡ Step.Makes e → status_of m g ≡ Some RunStatus.InHand → Served m e
+calm-served s m g (Instr.Say n) e h in_hand = let is : Entry.Say g n ≡ e = cc in subst (Served m) is (in_hand-goes (status_of m g) in_hand)
+calm-served s m g Instr.Now e h in_hand = let is : Entry.Now g (clock_of s g) ≡ e = cc in subst (Served m) is (in_hand-goes (status_of m g) in_hand)
+calm-served s m g (Instr.Sleep zero) e h in_hand = let is : Entry.Sleep g None ≡ e = cc in subst (Served m) is (in_hand-goes (status_of m g) in_hand)
+calm-served s m g (Instr.Go f) e h in_hand = let is : Entry.Go g (length s.goroutines + 1) f ≡ e = cc in subst (Served m) is (in_hand-goes (status_of m g) in_hand)
+calm-served s m g Instr.Finish e h in_hand = let is : Entry.End g ≡ e = cc in subst (Served m) is in_hand
+calm-served s m g _ e h in_hand = cc
+
+pub makes-served : (script : Script) (s : State) (m : Schedule) (g : ℕ) (e : Entry) → step_of script s m g ≡ Some (Step.Makes e) → status_of m g ≡ Some RunStatus.InHand → Served m e
+makes-served script s m g e h in_hand =
+    let step : IsStep script s g (Step.Makes e) = step-is script s m g (Step.Makes e) h in
+    elim (fault script s step.instr) as (λ o. step_or_panic s g step.instr o ≡ Step.Makes e → Served m e) [
+      | None ↦ λ k. calm-served s m g step.instr e k in_hand
+      | Some reason ↦ λ k. let is : Entry.Panic (plainly g) reason ≡ e = cc in subst (Served m) is tt
+    ] step.is
 
 -- who waits at a receive stands there, and its timer was made
 pub record WaitsRightly (script : Script) (s : State) (g t : ℕ) : Type 0 where
@@ -196,9 +221,9 @@ instr-waits : (s : State) (g t : ℕ) (i : Instr) → step_of_instr s g i ≡ St
 instr-waits s g t (Instr.Sleep zero) h = cc
 instr-waits s g t _ h = cc
 
-pub waits-rightly : (script : Script) (s : State) (g t : ℕ) → IsGood script → IsFormed script s → step_of script s g ≡ Some (Step.Waits t) → WaitsRightly script s g t
-waits-rightly script s g t good formed h =
-    let step : IsStep script s g (Step.Waits t) = step-is script s g (Step.Waits t) h in
+pub waits-rightly : (script : Script) (s : State) (m : Schedule) (g t : ℕ) → IsGood script → IsFormed script s → step_of script s m g ≡ Some (Step.Waits t) → WaitsRightly script s g t
+waits-rightly script s m g t good formed h =
+    let step : IsStep script s g (Step.Waits t) = step-is script s m g (Step.Waits t) h in
     let panics : panic_at script s g ≡ fault_at script s step.instr = panic-fault script s g step.instr step.stands in
     elim (fault script s step.instr) as (λ o. fault script s step.instr ≡ o → step_or_panic s g step.instr o ≡ Step.Waits t → WaitsRightly script s g t) [
       | None ↦ λ q k.
@@ -217,6 +242,6 @@ waits-rightly script s g t good formed h =
     ] refl step.is
 
 -- the same by what is seen of the book
-pub waits-seen : (b : Inside) (v : BookView) (g t : ℕ) → seen b ≡ v → IsKept b → step_of v.script v.state g ≡ Some (Step.Waits t) → WaitsRightly b.script (state_of b.machine) g t
+pub waits-seen : (b : Inside) (v : BookView) (g t : ℕ) → seen b ≡ v → IsKept b → step_of v.script v.state v.schedule g ≡ Some (Step.Waits t) → WaitsRightly b.script (state_of b.machine) g t
 waits-seen b v g t is kept step =
-    waits-rightly b.script (state_of b.machine) g t kept.lawful.good kept.lawful.formed (subst (λ (v : BookView). step_of v.script v.state g ≡ Some (Step.Waits t)) (sym is) step)
+    waits-rightly b.script (state_of b.machine) (schedule_of b.scheduler) g t kept.lawful.good kept.lawful.formed (subst (λ (v : BookView). step_of v.script v.state v.schedule g ≡ Some (Step.Waits t)) (sym is) step)

@@ -13,15 +13,16 @@ use Rattle.gt_rules.specs.Counted.{counted}
 use Rattle.gt_rules.specs.Finish.{IsIdle, IsJump}
 use Rattle.gt_facts.specs.Quiet.{none_due}
 use Rattle.gt_facts.proofs.Quiet.{quiet-IsIdle}
-use Rattle.gt_book.specs.View.{BookView, IsLawful}
+use Rattle.gt_book.specs.View.{BookView, IsLawful, outcome_of}
 use Rattle.gt_book.specs.Least.{NobodyRuns, IsTimeOf}
-use Rattle.gt_book.proofs.Fitting.{none-queued, quiet-from_fits}
+use Rattle.gt_book.proofs.Fitting.{none-queued}
+use Rattle.gt_book.proofs.Calm.{quiet-calm}
 
-pub idle-nobody : (b : BookView) → IsLawful b → NobodyRuns b → none_due b.script b.state ≡ true → IsIdle b.script b.state
-idle-nobody b lawful nobody due =
+pub idle-nobody : (b : BookView) → IsLawful b → outcome_of b ≡ None → NobodyRuns b → none_due b.script b.state ≡ true → IsIdle b.script b.state
+idle-nobody b lawful running nobody due =
     quiet-IsIdle b.script b.state (record {
       world = lawful.formed.world;
-      none_firm = quiet-from_fits b.script b.state b.schedule lawful.fits (none-queued b.script b.state b.schedule lawful.fits nobody.queue) nobody.hands;
+      none_firm = quiet-calm b.script b.state b.schedule lawful.fits (lawful.calm running) (none-queued b.script b.state b.schedule lawful.fits nobody.queue) nobody.hands;
       none_due = due;
     })
 
@@ -48,15 +49,15 @@ pub later-least : (c t : ℕ) (xs : List ℕ) → least xs ≡ Some t → c < t 
 later-least c t [] e h = cc
 later-least c t (x ∷ xs) e h = later-from c t x xs e h
 
-pub idle-least : (b : BookView) (t : ℕ) → IsLawful b → NobodyRuns b → least (counted b.script b.state 0) ≡ Some t → clock b.state 0 < t → IsIdle b.script b.state
-idle-least b t lawful nobody is later = idle-nobody b lawful nobody (later-least (clock b.state 0) t (counted b.script b.state 0) is later)
+pub idle-least : (b : BookView) (t : ℕ) → IsLawful b → outcome_of b ≡ None → NobodyRuns b → least (counted b.script b.state 0) ≡ Some t → clock b.state 0 < t → IsIdle b.script b.state
+idle-least b t lawful running nobody is later = idle-nobody b lawful running nobody (later-least (clock b.state 0) t (counted b.script b.state 0) is later)
 
-pub idle-none : (b : BookView) → IsLawful b → NobodyRuns b → counted b.script b.state 0 ≡ [] → IsIdle b.script b.state
-idle-none b lawful nobody none = idle-nobody b lawful nobody (ap (list_all (nat_lt (clock b.state 0))) none)
+pub idle-none : (b : BookView) → IsLawful b → outcome_of b ≡ None → NobodyRuns b → counted b.script b.state 0 ≡ [] → IsIdle b.script b.state
+idle-none b lawful running nobody none = idle-nobody b lawful running nobody (ap (list_all (nat_lt (clock b.state 0))) none)
 
-pub jumps-least : (b : BookView) (t : ℕ) → IsLawful b → NobodyRuns b → least (counted b.script b.state 0) ≡ Some t → clock b.state 0 < t → t ≤ greatest_time → IsJump b.script b.state 0 t
-jumps-least b t lawful nobody is later time = record {
-  idle = idle-least b t lawful nobody is later;
+pub jumps-least : (b : BookView) (t : ℕ) → IsLawful b → outcome_of b ≡ None → NobodyRuns b → least (counted b.script b.state 0) ≡ Some t → clock b.state 0 < t → t ≤ greatest_time → IsJump b.script b.state 0 t
+jumps-least b t lawful running nobody is later time = record {
+  idle = idle-least b t lawful running nobody is later;
   to_least = subst (λ o. IsSomeAnd o (λ u. t ≡ min (u + 0) greatest_time)) (sym is) (omega arith);
 }
 

@@ -1,9 +1,6 @@
 pub mod Entering
-pub mod SchedulerQueues
-pub mod SchedulerCounts
-pub mod SchedulerNeeds
-pub mod Lists
 pub mod Fitting
+pub mod Calm
 pub mod Books
 pub mod Going
 pub mod Counting

@@ -1,5 +1,5 @@
 -- What a change by an entry leaves as it was: the clock's moves stay idle jumps, nobody comes into a worker's hand, and those that are to run are counted.
-use Rattle.std.proofs.Common.{◌≡◌, ◌≢◌, ℕ, zero, suc, ◌+◌, ◌<◌, ◌≤◌, List, [], ◌∷◌, ◌++◌, length, length-append, slice_get, Option, None, Some, sym, ap, subst, ◌∙◌, arith}
+use Rattle.std.proofs.Common.{◌≡◌, ◌≢◌, Bool, true, false, ℕ, zero, suc, ◌+◌, ◌<◌, ◌≤◌, List, [], ◌∷◌, ◌++◌, length, length-append, slice_get, Option, None, Some, sym, ap, subst, ◌∙◌, arith}
 use Rattle.std.proofs.lemmas.List.Sums.{count_by-le-length}
 use Rattle.gt_model.specs.declared.script.Script.{Script}
 use Rattle.gt_model.specs.declared.entry.Entry.{Entry}
@@ -8,12 +8,16 @@ use Rattle.gt_rules.specs.State.{State}
 use Rattle.gt_rules.specs.After.{after, first_state}
 use Rattle.gt_rules.specs.History.{AllJump, ClockJumps, state_after}
 use Rattle.gt_model.specs.Tables.{numbered, change, change_numbered}
-use Rattle.gt_book.specs.declared.status.RunStatus.{RunStatus}
-use Rattle.gt_book.specs.Schedule.{Schedule, Turn, unmoved, begins, finishes, parks_in, wakes_up, gets, turn_of, turned, status_of, scheduled, schedule_after, parked, parked_at, taken}
-use Rattle.gt_book.specs.View.{BookView, Enters, AreWoken, finish_by, finish_due, is_queued, queued_count}
+use Rattle.gt_model.specs.declared.entry.Party.{Party}
+use Rattle.gt_rules.specs.Change.{change_of}
+use Rattle.gt_rules.specs.declared.change.Move.{Move}
+use Rattle.gt_rules.specs.declared.change.Start.{Start}
+use Rattle.gt_schedule.specs.declared.status.RunStatus.{RunStatus}
+use Rattle.gt_schedule.specs.Schedule.{Schedule, status_of, is_queued, is_parked, queued_count, gone_on, turned, moved_by, begun_by, with_new, scheduled, schedule_after, parked, parked_at, taken}
+use Rattle.gt_book.specs.View.{BookView, Enters, AreWoken, finish_by, finish_due}
 use Rattle.gt_machine.specs.Outcomes.{due_outcome}
 use Rattle.gt_model.proofs.Items.{numbered-change_same, numbered-change_other}
-use Rattle.gt_book.proofs.SchedulerCounts.{count-change_numbered}
+use Rattle.gt_schedule.proofs.Counting.{count-change_numbered}
 
 -- ---- the moves of the program's clock
 
@@ -24,9 +28,8 @@ jumps-append script slip s (e ∷ h) k all next = (all.0, jumps-append script sl
 
 -- an entry of a goroutine that is woken moves no clock
 woken-jump : (script : Script) (s : State) (m : Schedule) (e : Entry) (h : List Entry) → AreWoken script s m (e ∷ h) → ClockJumps script 0 s e
-woken-jump script s m (Entry.Wake g) h woken = tt
-woken-jump script s m (Entry.TRecv p t due next) h woken = tt
-woken-jump script s m _ h woken = absurd woken.0
+woken-jump script s m (Entry.Clock world to) h woken = absurd woken.0
+woken-jump script s m _ h woken = tt
 
 pub woken-jumps : (script : Script) (s : State) (m : Schedule) (h : List Entry) → AreWoken script s m h → AllJump script 0 s h
 woken-jumps script s m [] woken = tt
@@ -106,17 +109,26 @@ queued-hands statuses g h e = change_numbered-from statuses g h RunStatus.Queued
 parked-hands : (m : Schedule) (g h : ℕ) → status_of (parked m g) h ≡ Some RunStatus.InHand → status_of m h ≡ Some RunStatus.InHand
 parked-hands m g h e = change_numbered-from m.statuses g h (RunStatus.Parked m.parks) RunStatus.InHand (λ k. cc) e
 
--- no turn puts anybody into a worker's hand
-turned-hands : (m : Schedule) (turn : Turn) (g : ℕ) → status_of (turned m turn) g ≡ Some RunStatus.InHand → status_of m g ≡ Some RunStatus.InHand
-turned-hands m unmoved g h = h
-turned-hands m (begins child) g h = with_new-hands m.statuses g h
-turned-hands m (finishes x) g h = change_numbered-from m.statuses x g RunStatus.Ended RunStatus.InHand (λ k. cc) h
-turned-hands m (parks_in x) g h = parked-hands m x g h
-turned-hands m (wakes_up x) g h = queued-hands m.statuses x g h
-turned-hands m (gets x t) g h = queued-hands m.statuses x g h
+gone_on-hands : (m : Schedule) (x g : ℕ) (waits : Bool) → status_of (gone_on m x waits) g ≡ Some RunStatus.InHand → status_of m g ≡ Some RunStatus.InHand
+gone_on-hands m x g true h = queued-hands m.statuses x g h
+gone_on-hands m x g false h = h
+
+-- no move puts anybody into a worker's hand, and who begins is in none
+turned-hands : (m : Schedule) (x : ℕ) (move : Move) (g : ℕ) → status_of (turned m x move) g ≡ Some RunStatus.InHand → status_of m g ≡ Some RunStatus.InHand
+turned-hands m x (Move.GoesOn case_no) g h = gone_on-hands m x g (is_parked (status_of m x)) h
+turned-hands m x (Move.FallsAsleep until) g h = parked-hands m x g h
+turned-hands m x Move.Ends g h = change_numbered-from m.statuses x g RunStatus.Ended RunStatus.InHand (λ k. cc) h
+
+moved-hands : (m : Schedule) (o : Option (ℕ × Move)) (g : ℕ) → status_of (moved_by m o) g ≡ Some RunStatus.InHand → status_of m g ≡ Some RunStatus.InHand
+moved-hands m None g h = h
+moved-hands m (Some x) g h = turned-hands m x.0 x.1 g h
+
+begun-hands : (m : Schedule) (starts : List Start) (g : ℕ) → status_of (begun_by m starts) g ≡ Some RunStatus.InHand → status_of m g ≡ Some RunStatus.InHand
+begun-hands m [] g h = h
+begun-hands m (x ∷ xs) g h = with_new-hands m.statuses g (begun-hands (with_new m) xs g h)
 
 pub scheduled-hands : (m : Schedule) (e : Entry) (g : ℕ) → status_of (scheduled m e) g ≡ Some RunStatus.InHand → status_of m g ≡ Some RunStatus.InHand
-scheduled-hands m e g h = turned-hands m (turn_of e) g h
+scheduled-hands m e g h = moved-hands m (change_of e).mover g (begun-hands (moved_by m (change_of e).mover) (change_of e).starts g h)
 
 pub schedule_after-hands : (m : Schedule) (es : List Entry) (g : ℕ) → status_of (schedule_after m es) g ≡ Some RunStatus.InHand → status_of m g ≡ Some RunStatus.InHand
 schedule_after-hands m [] g h = h
@@ -127,13 +139,13 @@ enters-hands old e new g enters h =
     schedule_after-hands old.schedule (entered old e new enters) g (subst (λ (b : BookView). status_of b.schedule g ≡ Some RunStatus.InHand) enters.is h)
 
 -- who waits at a receive is in nobody's hand, and the others are where they were
-pub parked_at-leaves_hand : (m : Schedule) (g t : ℕ) → status_of m g ≡ Some RunStatus.InHand → status_of (parked_at m g t) g ≢ Some RunStatus.InHand
-parked_at-leaves_hand m g t e h =
-    let now : status_of (parked_at m g t) g ≡ Some (RunStatus.Parked m.parks) = numbered-change_same m.statuses g (λ _. RunStatus.Parked m.parks) RunStatus.InHand e in
+pub parked_at-leaves_hand : (m : Schedule) (p : Party) (t : ℕ) → status_of m p.g ≡ Some RunStatus.InHand → status_of (parked_at m p t) p.g ≢ Some RunStatus.InHand
+parked_at-leaves_hand m p t e h =
+    let now : status_of (parked_at m p t) p.g ≡ Some (RunStatus.Parked m.parks) = numbered-change_same m.statuses p.g (λ _. RunStatus.Parked m.parks) RunStatus.InHand e in
     cc
 
-pub parked_at-hands : (m : Schedule) (g t h : ℕ) → status_of (parked_at m g t) h ≡ Some RunStatus.InHand → status_of m h ≡ Some RunStatus.InHand
-parked_at-hands m g t h e = parked-hands m g h e
+pub parked_at-hands : (m : Schedule) (p : Party) (t h : ℕ) → status_of (parked_at m p t) h ≡ Some RunStatus.InHand → status_of m h ≡ Some RunStatus.InHand
+parked_at-hands m p t h e = parked-hands m p.g h e
 
 -- who is taken is in a worker's hand, and nobody else comes there
 pub taken-in_hand : (m : Schedule) (g : ℕ) → status_of m g ≡ Some RunStatus.Queued → status_of (taken m g) g ≡ Some RunStatus.InHand
@@ -144,10 +156,10 @@ taken-hands m g h e n = sym (numbered-change_other m.statuses g h (λ _. RunStat
 
 -- ---- how many are to run
 
-pub parked_at-queued_count : (m : Schedule) (g t : ℕ) → status_of m g ≡ Some RunStatus.InHand → queued_count (parked_at m g t) ≡ queued_count m
-parked_at-queued_count m g t e =
-    let counted : queued_count (parked_at m g t) + 0 ≡ queued_count m + 0 =
-    count-change_numbered (λ (status : RunStatus). is_queued (Some status)) m.statuses g (λ _. RunStatus.Parked m.parks) RunStatus.InHand e in
+pub parked_at-queued_count : (m : Schedule) (p : Party) (t : ℕ) → status_of m p.g ≡ Some RunStatus.InHand → queued_count (parked_at m p t) ≡ queued_count m
+parked_at-queued_count m p t e =
+    let counted : queued_count (parked_at m p t) + 0 ≡ queued_count m + 0 =
+    count-change_numbered (λ (status : RunStatus). is_queued (Some status)) m.statuses p.g (λ _. RunStatus.Parked m.parks) RunStatus.InHand e in
     omega arith
 
 pub taken-queued_count : (m : Schedule) (g : ℕ) → status_of m g ≡ Some RunStatus.Queued → queued_count (taken m g) + 1 ≡ queued_count m

@@ -12,14 +12,12 @@ use Rattle.gt_model.specs.Tables.{numbered, change_numbered}
 use Rattle.gt_rules.specs.State.{State, stands_at, timer_at, until_of, sleeps_until, due_of}
 use Rattle.gt_model.specs.Script.{is_func}
 use Rattle.gt_facts.proofs.Lookups.{Standing, standing}
-use Rattle.gt_queue.specs.Contents.{waiting_in}
+use Rattle.gt_model.specs.declared.entry.Party.{Party}
 use Rattle.gt_tournament.specs.Keys.{key_of}
 use Rattle.gt_book.specs.declared.due_times.DueTimes.{DueTimes}
-use Rattle.gt_book.specs.Schedule.{Schedule, run_queue, queue_at}
+use Rattle.gt_schedule.specs.Schedule.{Schedule, parties_at}
 use Rattle.gt_book.specs.DueTimes.{timer_time, slot_time, with_sleep, with_timer, AreTimes}
 use Rattle.gt_model.proofs.Items.{numbered-change_same, numbered-change_other, numbered-push_same, numbered-push_other, numbered-next}
-use Rattle.gt_book.proofs.Lists.{waiting-set_other}
-use Rattle.gt_book.proofs.Fitting.{no_run_queue}
 
 -- ---- slots of a list
 
@@ -75,15 +73,11 @@ until-stands script s g h i f stands awake =
 
 -- ---- the time of a timer
 
-pub timer-same : (script : Script) (s next : State) (m n : Schedule) (t : ℕ) → timer_at next t ≡ timer_at s t → waiting_in n.queues (queue_at t) ≡ waiting_in m.queues (queue_at t)
+pub timer-same : (script : Script) (s next : State) (m n : Schedule) (t : ℕ) → timer_at next t ≡ timer_at s t → parties_at n.receivers t ≡ parties_at m.receivers t
     → timer_time script next n t ≡ timer_time script s m t
 timer-same script s next m n t timer waiting =
-    ap (λ (o : Option Timer). if is_func script t || is_some (slice_get (waiting_in n.queues (queue_at t)) 0) then (elim o [ None ↦ None | Some r ↦ r.due ]) else None) timer
-    ∙ ap (λ (xs : List ℕ). if is_func script t || is_some (slice_get xs 0) then due_of s t else None) waiting
-
--- a change of the run queue
-pub runs-other : (queues : List (List ℕ)) (t : ℕ) (xs : List ℕ) → waiting_in (set queues run_queue xs) (queue_at t) ≡ waiting_in queues (queue_at t)
-runs-other queues t xs = waiting-set_other queues (queue_at t) run_queue xs (no_run_queue t)
+    ap (λ (o : Option Timer). if is_func script t || is_some (slice_get (parties_at n.receivers t) 0) then (elim o [ None ↦ None | Some r ↦ r.due ]) else None) timer
+    ∙ ap (λ (ps : List Party). if is_func script t || is_some (slice_get ps 0) then due_of s t else None) waiting
 
 -- ---- all slots
 

@@ -6,18 +6,18 @@ use Rattle.gt_model.specs.declared.script.Script.{Script}
 use Rattle.gt_model.specs.declared.entry.Entry.{Entry}
 use Rattle.gt_rules.specs.State.{State, sleeps_until, due_of}
 use Rattle.gt_model.specs.Script.{is_func}
-use Rattle.gt_queue.specs.Contents.{waiting_in}
 use Rattle.gt_tournament.specs.Keys.{key_of}
 use Rattle.gt_book.specs.declared.answers.Due.{Due}
 use Rattle.gt_book.specs.declared.answers.Whose.{Whose}
 use Rattle.gt_book.specs.declared.due_times.DueTimes.{DueTimes}
-use Rattle.gt_book.specs.declared.scheduler.Scheduler.{Scheduler}
-use Rattle.gt_book.specs.Schedule.{Schedule, queue_at}
+use Rattle.gt_schedule.specs.declared.scheduler.Scheduler.{Scheduler}
+use Rattle.gt_schedule.specs.Schedule.{Schedule, parties_at}
+use Rattle.gt_schedule.specs.Scheduler.{schedule_of, IsScheduler}
 
 -- when a timer will unblock somebody: at its due time, if it is an AfterFunc timer or if somebody waits there
 abbrev pub timer_time : Script → State → Schedule → ℕ → Option ℕ
 timer_time script s m t =
-    if is_func script t || is_some (slice_get (waiting_in m.queues (queue_at t)) 0) then due_of s t else None
+    if is_func script t || is_some (slice_get (parties_at m.receivers t) 0) then due_of s t else None
 
 -- the time of a slot, where there are n declarations
 abbrev pub slot_time : ℕ → Script → State → Schedule → ℕ → Option ℕ
@@ -78,11 +78,11 @@ pub record HasSleepSlot (d : DueTimes) (g : ℕ) : Type 0 where
   pub room : d.declarations + g < length d.times
   pub small : d.declarations + g < 2 ^ 32
 
--- the timer has a slot, and a queue
+-- the timer has a slot, and a list of receivers
 pub record HasTimerSlot (d : DueTimes) (m : Scheduler) (t : ℕ) : Type 0 where
   pub room : t < length d.times
-  pub queue : queue_at t < length m.queues.queues
-  pub few : length m.queues.queues < 2 ^ 32
+  pub declared : t < length (schedule_of m).receivers
+  pub kept : IsScheduler m
 
 -- what is touched has a slot
 abbrev pub HasSlot : DueTimes → Scheduler → Touched → Type 0

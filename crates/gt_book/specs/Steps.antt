@@ -11,21 +11,14 @@ use Rattle.gt_rules.specs.State.{State, clock, stands_at, clock_of, next_number,
 use Rattle.gt_rules.specs.Panics.{fault}
 use Rattle.gt_rules.specs.Legal.{May}
 use Rattle.gt_rules.specs.After.{new_period}
-use Rattle.gt_queue.specs.Contents.{waiting_in}
 use Rattle.gt_book.specs.declared.step.Step.{Step}
 use Rattle.gt_book.specs.declared.answers.Did.{Did}
 use Rattle.gt_book.specs.declared.answers.Pick.{Pick}
 use Rattle.gt_book.specs.declared.answers.TimerOp.{TimerOp}
 use Rattle.gt_book.specs.declared.answers.Op.{Op}
 use Rattle.gt_book.specs.declared.answers.Commit.{Commit}
-use Rattle.gt_book.specs.declared.status.RunStatus.{RunStatus}
-use Rattle.gt_book.specs.Schedule.{Schedule, status_of, run_queue, taken, parked_at}
-use Rattle.gt_book.specs.Scheduler.{in_hand}
-use Rattle.gt_book.specs.View.{BookView, Enters, with_schedule, outcome_of, is_parked, is_parked_at}
-
--- a goroutine at its plain instruction
-abbrev pub plainly : ℕ → Party
-plainly g = record { g = g; case_no = 0 }
+use Rattle.gt_schedule.specs.Schedule.{Schedule, plainly, status_of, is_in_hand, is_parked, in_hand, taken, parked_at, Served}
+use Rattle.gt_book.specs.View.{BookView, Enters, with_schedule, outcome_of, is_at_receive}
 
 -- an instruction without a panic
 abbrev pub step_of_instr : State → ℕ → Instr → Step
@@ -44,8 +37,9 @@ abbrev pub step_or_panic : State → ℕ → Instr → Option Reason → Step
 step_or_panic s g i (Some reason) = Step.Makes (Entry.Panic (plainly g) reason)
 step_or_panic s g i None = step_of_instr s g i
 
-abbrev pub step_of : Script → State → ℕ → Option Step
-step_of script s g = elim (stands_at script s g) [ None ↦ None | Some i ↦ Some (step_or_panic s g i (fault script s i)) ]
+-- who is parked may decide what a step is; so far nothing depends on it
+abbrev pub step_of : Script → State → Schedule → ℕ → Option Step
+step_of script s m g = elim (stands_at script s g) [ None ↦ None | Some i ↦ Some (step_or_panic s g i (fault script s i)) ]
 
 -- the answer after an entry
 abbrev pub DidEnter : BookView → Did → Type 0
@@ -54,19 +48,19 @@ DidEnter new did = MatchOption (outcome_of new) (did ≡ Did.Entered) (λ outcom
 -- what a step does to the book, and answers
 abbrev pub Does : BookView → ℕ → Step → BookView → Did → Type 0
 Does old g (Step.Makes e) new did = Enters old e new × DidEnter new did
-Does old g (Step.Waits t) new did = (new ≡ with_schedule old (parked_at old.schedule g t)) × (did ≡ Did.Parked)
+Does old g (Step.Waits t) new did = (new ≡ with_schedule old (parked_at old.schedule (plainly g) t)) × (did ≡ Did.Parked)
 Does old g (Step.Needs op) new did = (new ≡ old) × (did ≡ Did.Timer op)
 
 -- where the run has its outcome nothing changes
 abbrev pub Steps : BookView → ℕ → BookView → Did → Type 0
 Steps old g new did =
-    MatchOption (outcome_of old) (MatchOption (step_of old.script old.state g) ⊥ (λ step. Does old g step new did))
+    MatchOption (outcome_of old) (MatchOption (step_of old.script old.state old.schedule g) ⊥ (λ step. Does old g step new did))
     (λ outcome. (did ≡ Did.Over outcome) × (new ≡ old))
 
 -- what taking a goroutine does to the book, and answers
 abbrev pub Takes : BookView → Pick → BookView → Type 0
-Takes old (Pick.Run g) new = (slice_get (waiting_in old.schedule.queues run_queue) 0 ≡ Some g) × (new ≡ with_schedule old (taken old.schedule g))
-Takes old (Pick.Nothing running) new = (waiting_in old.schedule.queues run_queue ≡ []) × (running ≡ in_hand old.schedule) × (new ≡ old)
+Takes old (Pick.Run g) new = (slice_get (old.schedule.run_queue) 0 ≡ Some g) × (new ≡ with_schedule old (taken old.schedule g))
+Takes old (Pick.Nothing running) new = (old.schedule.run_queue ≡ []) × (running ≡ in_hand old.schedule) × (new ≡ old)
 
 -- what a reading of the program's clock does to the book: it moves the clock where it is later, while the run goes on
 abbrev pub Clocks : BookView → ℕ → BookView → Type 0
@@ -75,23 +69,6 @@ Clocks old to new = ClocksBy old to new (is_none (outcome_of old) && nat_lt (clo
     ClocksBy : BookView → ℕ → BookView → Bool → Type 0
     ClocksBy old to new true = Enters old (Entry.Clock 0 to) new
     ClocksBy old to new false = new ≡ old
-
--- who makes an entry has it in hand, or waits for it; timers and clocks are nobody's
-abbrev pub Served : Script → State → Schedule → Entry → Type 0
-Served script s m (Entry.Say g n) = status_of m g ≡ Some RunStatus.InHand
-Served script s m (Entry.Now g at) = status_of m g ≡ Some RunStatus.InHand
-Served script s m (Entry.Go g child f) = status_of m g ≡ Some RunStatus.InHand
-Served script s m (Entry.End g) = status_of m g ≡ Some RunStatus.InHand
-Served script s m (Entry.Sleep g until) = status_of m g ≡ Some RunStatus.InHand
-Served script s m (Entry.Wake g) = Unit {0}
-Served script s m (Entry.New g t due) = status_of m g ≡ Some RunStatus.InHand
-Served script s m (Entry.Stop g t was) = status_of m g ≡ Some RunStatus.InHand
-Served script s m (Entry.Reset g t was due) = status_of m g ≡ Some RunStatus.InHand
-Served script s m (Entry.TRecv p t due next) = is_parked (status_of m p.g) ≡ true
-Served script s m (Entry.FireFunc t child) = Unit {0}
-Served script s m (Entry.Clock world at) = Unit {0}
-Served script s m (Entry.Panic p reason) = Unit {0}
-Served script s m (Entry.Finish outcome) = Unit {0}
 
 -- the entry of an operation
 abbrev pub entry_of : State → Op → Entry
@@ -109,9 +86,13 @@ HasPeriod script s (Op.New g t due period) = period ≡ new_period script s g t
 HasPeriod script s (Op.Reset g t was due period) = period ≡ new_period script s g t
 HasPeriod script s _ = Unit {0}
 
+-- whether a party in hand, or one that is parked, stands at a receive from t
+abbrev pub is_receiving : Script → State → Schedule → Party → ℕ → Bool
+is_receiving script s m p t = (is_in_hand (status_of m p.g) || is_parked (status_of m p.g)) && is_at_receive script s p t
+
 -- whether an operation comes too late for its goroutine
 abbrev pub is_late : BookView → Op → Bool
-is_late b (Op.TRecv p t due next) = not (is_parked_at b.script b.state b.schedule p.g t)
+is_late b (Op.TRecv p t due next) = not (is_receiving b.script b.state b.schedule p t)
 is_late b (Op.Wake g) = not (is_some (sleeps_until b.state g))
 is_late b _ = false
 
@@ -128,4 +109,4 @@ Commits old op false new did = Enters old (entry_of old.state op) new × DidComm
 
 -- what a commitment needs that does not come too late
 abbrev pub MayCommit : BookView → Op → Type 0
-MayCommit b op = May b.script b.state (entry_of b.state op) × Served b.script b.state b.schedule (entry_of b.state op) × HasPeriod b.script b.state op
+MayCommit b op = May b.script b.state (entry_of b.state op) × Served b.schedule (entry_of b.state op) × HasPeriod b.script b.state op

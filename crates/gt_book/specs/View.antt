@@ -1,16 +1,15 @@
 -- What a contract sees of a book.
-use Rattle.std.specs.Prelude.{ℕ, ◌+◌, ◌<◌, ◌≡◌, ◌&&◌, Bool, true, false, is_some, IsTrue, MatchOption, List, [], ◌∷◌, ◌++◌, length, replicate, count_by}
+use Rattle.std.specs.Prelude.{ℕ, ◌<◌, ◌≡◌, ◌==◌, ◌&&◌, cond, Bool, false, is_none, slice_get, IsTrue, MatchOption, List, [], ◌∷◌, ◌++◌, length, replicate}
 use Rattle.std.specs.declared.option.Option.{Option}
 use Rattle.std.specs.declared.option.Option.TheVariants.{None, Some}
 use Rattle.gt_model.specs.declared.script.Script.{Script}
-use Rattle.gt_model.specs.declared.script.Instr.{Instr}
 use Rattle.gt_model.specs.declared.entry.Entry.{Entry}
+use Rattle.gt_model.specs.declared.entry.Party.{Party}
 use Rattle.gt_model.specs.declared.entry.Limits.{Limits}
 use Rattle.gt_model.specs.declared.entry.Outcome.{Outcome}
 use Rattle.gt_model.specs.declared.state.Goroutine.{Goroutine}
 use Rattle.gt_model.specs.declared.state.Mode.{Mode}
-use Rattle.gt_rules.specs.State.{State, goroutine_at, timer_at, stands_at}
-use Rattle.gt_model.specs.Script.{instr_at}
+use Rattle.gt_rules.specs.State.{State, goroutine_at}
 use Rattle.gt_model.specs.Good.{IsGood, AreLimits}
 use Rattle.gt_rules.specs.After.{after, first_state}
 use Rattle.gt_rules.specs.Finish.{IsRunning}
@@ -18,11 +17,12 @@ use Rattle.gt_rules.specs.History.{AllLegal, state_after}
 use Rattle.gt_facts.specs.Formed.{IsFormed}
 use Rattle.gt_rules.specs.Ready.{is_firm}
 use Rattle.gt_machine.specs.Outcomes.{outcome_in, due_outcome}
-use Rattle.gt_book.specs.declared.status.RunStatus.{RunStatus}
-use Rattle.gt_rules.specs.Counted.{receives}
-use Rattle.gt_queue.specs.Contents.{waiting_in}
-use Rattle.gt_book.specs.Queues.{as_number, times}
-use Rattle.gt_book.specs.Schedule.{Schedule, status_of, run_queue, queue_at, scheduled, schedule_after}
+use Rattle.gt_rules.specs.Legal.{operation_at}
+use Rattle.gt_rules.specs.Change.{Change, change_of}
+use Rattle.gt_rules.specs.declared.change.Move.{Move}
+use Rattle.gt_schedule.specs.declared.status.RunStatus.{RunStatus}
+use Rattle.gt_schedule.specs.Counts.{as_number, often}
+use Rattle.gt_schedule.specs.Schedule.{Schedule, first_schedule, status_of, is_parked, parties_at, scheduled, schedule_after, RunsQueued}
 
 pub record BookView : Type 0 where
   pub script : Script
@@ -46,14 +46,7 @@ with_schedule b m = record b { schedule = m }
 abbrev pub outcome_of : BookView → Option Outcome
 outcome_of b = outcome_in b.state.ending
 
--- the first state of a book: goroutine 1 is to be taken
-abbrev pub first_schedule : Script → Schedule
-first_schedule script = record {
-  statuses = RunStatus.Queued ∷ [];
-  queues = (1 ∷ []) ∷ replicate (length script.decls) [];
-  parks = 0;
-}
-
+-- the first state of a book
 abbrev pub first_view : Script → Limits → BookView
 first_view script limits = record {
   script = script;
@@ -71,15 +64,18 @@ finish_by (Some outcome) = Entry.Finish outcome ∷ []
 abbrev pub finish_due : Limits → State → List Entry
 finish_due limits s = finish_by (due_outcome limits s)
 
--- the goroutine that makes an entry when it is woken
-abbrev pub maker : Entry → Option ℕ
-maker (Entry.TRecv p t due next) = Some p.g
-maker (Entry.Wake g) = Some g
-maker _ = None
+-- the goroutine that goes on
+abbrev pub goer : Option (ℕ × Move) → Option ℕ
+goer None = None
+goer (Some x) = elim x.1 [ Move.GoesOn case_no ↦ Some x.0 | Move.FallsAsleep until ↦ None | Move.Ends ↦ None ]
 
-abbrev pub is_parked : Option RunStatus → Bool
-is_parked (Some (RunStatus.Parked since)) = true
-is_parked _ = false
+-- whether a change is no more than a move of a goroutine
+abbrev pub is_move : Change → Bool
+is_move c = is_none c.timer && is_none (slice_get c.starts 0) && is_none c.clock && is_none c.ending
+
+-- the goroutine that makes an entry when it is woken: it goes on, and the entry does no more
+abbrev pub maker : Entry → Option ℕ
+maker e = cond (is_move (change_of e)) (goer (change_of e).mover) None
 
 abbrev pub is_firm_at : Script → State → ℕ → Bool
 is_firm_at script s g = elim (goroutine_at s g) [ None ↦ false | Some r ↦ is_firm script s r ]
@@ -100,46 +96,38 @@ pub record Enters (old : BookView) (e : Entry) (new : BookView) : Type 0 where
   pub each_woken : AreWoken old.script (after old.script old.state e) (scheduled old.schedule e) woken
   pub is : new ≡ with_entries old ((e ∷ woken) ++ finish_due old.limits (state_after old.script old.state (e ∷ woken)))
 
--- a goroutine that waits at a receive from a timer that was made
-pub record WaitsAt (script : Script) (s : State) (r : Goroutine) : Type 0 where
-  pub timer : ℕ
-  pub at : instr_at script r.place ≡ Some (Instr.Recv timer)
-  pub made : is_some (timer_at s timer) ≡ true
-
 -- what a goroutine does agrees with where it is
-abbrev pub Agrees : Script → State → Goroutine → Mode → RunStatus → Type 0
-Agrees script s r Mode.At RunStatus.Queued = Unit {0}
-Agrees script s r Mode.At RunStatus.InHand = Unit {0}
-Agrees script s r Mode.At (RunStatus.Parked since) = WaitsAt script s r
-Agrees script s r (Mode.Sleeping until) (RunStatus.Parked since) = Unit {0}
-Agrees script s r Mode.Ended RunStatus.Ended = Unit {0}
-Agrees script s r _ _ = ⊥
+abbrev pub Agrees : Mode → RunStatus → Type 0
+Agrees Mode.At RunStatus.Queued = Unit {0}
+Agrees Mode.At RunStatus.InHand = Unit {0}
+Agrees Mode.At (RunStatus.Parked since) = Unit {0}
+Agrees (Mode.Sleeping until) (RunStatus.Parked since) = Unit {0}
+Agrees Mode.Ended RunStatus.Ended = Unit {0}
+Agrees _ _ = ⊥
 
--- whether g stands at a receive from t
-abbrev pub is_at_receive : Script → State → ℕ → ℕ → Bool
-is_at_receive script s g t = elim (stands_at script s g) [ None ↦ false | Some i ↦ receives t i ]
+-- whether a party stands at a receive from t
+abbrev pub is_at_receive : Script → State → Party → ℕ → Bool
+is_at_receive script s p t = elim (operation_at script s p) [ None ↦ false | Some o ↦ o == t ]
 
--- whether g is parked at a receive from t
-abbrev pub is_parked_at : Script → State → Schedule → ℕ → ℕ → Bool
-is_parked_at script s m g t = is_parked (status_of m g) && is_at_receive script s g t
+-- whether a party is parked at a receive from t
+abbrev pub is_parked_at : Script → State → Schedule → Party → ℕ → Bool
+is_parked_at script s m p t = is_parked (status_of m p.g) && is_at_receive script s p t
 
-abbrev pub is_queued : Option RunStatus → Bool
-is_queued (Some RunStatus.Queued) = true
-is_queued _ = false
-
--- how many goroutines are to run
-abbrev pub queued_count : Schedule → ℕ
-queued_count m = count_by (λ (status : RunStatus). is_queued (Some status)) m.statuses
-
--- the schedule fits the state: the run queue has exactly those that are queued, and the queue at a timer those that are parked there, each once
+-- the schedule fits the state: the run queue has exactly those that are queued, and the list at a declaration the parties that are parked there, each once
 pub record Fits (script : Script) (s : State) (m : Schedule) : Type 0 where
   pub as_many : length m.statuses ≡ length s.goroutines
-  pub queues : length m.queues ≡ length script.decls + 1
-  pub agree : (g : ℕ) (r : Goroutine) (status : RunStatus) → goroutine_at s g ≡ Some r → status_of m g ≡ Some status → Agrees script s r r.mode status
-  pub queued : (g : ℕ) → times g (waiting_in m.queues run_queue) ≡ as_number (is_queued (status_of m g))
-  pub waiting : (t g : ℕ) → t < length script.decls → times g (waiting_in m.queues (queue_at t)) ≡ as_number (is_parked_at script s m g t)
+  pub receivers : length m.receivers ≡ length script.decls
+  pub senders : m.senders ≡ replicate (length script.decls) []
+  pub agree : (g : ℕ) (r : Goroutine) (status : RunStatus) → goroutine_at s g ≡ Some r → status_of m g ≡ Some status → Agrees r.mode status
+  pub queued : RunsQueued m
+  pub waiting : (t : ℕ) (p : Party) → t < length script.decls → often p (parties_at m.receivers t) ≡ as_number (is_parked_at script s m p t)
 
--- What a book keeps: its history is legal, its state is the state after it, and the run goes on or has its outcome
+-- no goroutine that is parked is firmly ready
+abbrev pub NoneFirm : BookView → Type 0
+NoneFirm b = (g : ℕ) → IsTrue (is_parked (status_of b.schedule g)) → is_firm_at b.script b.state g ≡ false
+
+-- What a book keeps: its history is legal, its state is the state after it, the run goes on or has its outcome, and until then
+-- nobody is parked who could go on by another cause than a time
 pub record IsLawful (b : BookView) : Type 0 where
   pub good : IsGood b.script
   pub limits : AreLimits b.limits
@@ -148,7 +136,4 @@ pub record IsLawful (b : BookView) : Type 0 where
   pub goes : MatchOption (outcome_of b) (IsRunning b.limits b.state) (λ outcome. Unit {0})
   pub formed : IsFormed b.script b.state
   pub fits : Fits b.script b.state b.schedule
-
--- no goroutine that is parked is firmly ready
-abbrev pub NoneFirm : BookView → Type 0
-NoneFirm b = (g : ℕ) → IsTrue (is_parked (status_of b.schedule g)) → is_firm_at b.script b.state g ≡ false
+  pub calm : outcome_of b ≡ None → NoneFirm b

@@ -1,7 +1,6 @@
 //! The book.
 
 ghost use Rattle.std.specs.Prelude.{◌≡◌, ◌<◌, ◌≤◌, ◌↔◌, [], ◌∷◌, false, ◌+◌, IfOk, IfSome, IsNone, IsSome, IsTrue, Some, length, min, slice_get};
-ghost use Rattle.std.specs.Option.{option_map};
 ghost use Rattle.gt_rules.specs.State as at;
 ghost use Rattle.gt_model.specs.Good.{IsGood, AreLimits};
 ghost use Rattle.gt_model.specs.Times.{greatest_time};
@@ -12,21 +11,20 @@ ghost use Rattle.gt_model.specs.Tables.{least};
 ghost use Rattle.gt_model.specs.declared.entry.Entry.{Entry};
 ghost use Rattle.gt_model.specs.declared.entry.Outcome.{Outcome};
 ghost use Rattle.gt_machine.specs.Places.{placed_at};
-ghost use Rattle.gt_queue.specs.Contents.{waiting_in};
-ghost use Rattle.gt_book.specs.declared.status.RunStatus.{RunStatus};
-ghost use Rattle.gt_book.specs.Schedule.{queue_at, status_of};
+ghost use Rattle.gt_schedule.specs.declared.status.RunStatus.{RunStatus};
+ghost use Rattle.gt_schedule.specs.Schedule.{parties_at, status_of, Served};
+ghost use Rattle.gt_schedule.specs.Schedule as schedule;
 ghost use Rattle.gt_book.specs.Least.{NobodyRuns, IsTimeOf};
-ghost use Rattle.gt_book.specs.Steps.{Takes, Steps, step_of, Served, MayCommit, Commits, is_gone, entry_of, plainly, Clocks};
-ghost use Rattle.gt_book.specs.View.{first_view, outcome_of, with_entries, is_parked_at, Enters, IsLawful, NoneFirm};
+ghost use Rattle.gt_book.specs.Steps.{Takes, Steps, step_of, MayCommit, Commits, is_gone, is_receiving, entry_of, Clocks};
+ghost use Rattle.gt_book.specs.View.{first_view, outcome_of, with_entries, Enters, IsLawful};
 
 use crate::answers::{Commit, Did, Due, Op, Pick, TimerOp};
 use crate::due_times::DueTimes;
-use crate::scheduler::Scheduler;
-use crate::status::RunStatus;
-use crate::step::{Step, next_step, plainly};
+use crate::step::{Step, next_step};
 use gt_machine::Machine;
 use gt_model::{CAP, Entry, Instr, Limits, NoMemory, Outcome, Party, Script};
 use gt_room::Room;
+use gt_schedule::{RunStatus, Scheduler, most_goroutines};
 use std::alloc::Global;
 use std::marker::Model;
 
@@ -66,7 +64,7 @@ impl Book {
     {
         let history = Room::with_room(alloc, limits.entries as usize + 1).map_err(|_| NoMemory)?;
         let machine = Machine::begin(alloc, &script, limits.entries)?;
-        let scheduler = Scheduler::begin(alloc, &script, limits.entries)?;
+        let scheduler = Scheduler::begin(alloc, &script, limits)?;
         let due_times = DueTimes::begin(alloc, &script, limits.entries)?;
         Ok(Book {
             script,
@@ -81,9 +79,8 @@ impl Book {
     /// What each book keeps, for the proofs of its callers. The call does nothing.
     pub fn lawful(&self)
         ensures lawful { IsLawful self.now }
-        ensures none_firm { NoneFirm self.now }
         ensures few { length self.now.history ≤ self.now.limits.entries + 1 }
-        ensures few_goroutines { length self.now.schedule.statuses ≤ self.now.limits.entries + 1 }
+        ensures few_goroutines { length self.now.schedule.statuses ≤ schedule.most_goroutines self.now.limits }
     {
         let _ = &self.script;
     }
@@ -127,9 +124,9 @@ impl Book {
 
     /// One above the greatest number of a timer's record: the declarations have the first numbers, and the sleeps of goroutines those behind them.
     pub fn records(&self) -> u32
-        ensures { result ≡ length self.now.script.decls + self.now.limits.entries + 2 }
+        ensures { result ≡ length self.now.script.decls + schedule.most_goroutines self.now.limits + 1 }
     {
-        self.script.decls.as_slice().len() as u32 + self.limits.entries as u32 + 2
+        self.script.decls.as_slice().len() as u32 + most_goroutines(self.limits) as u32 + 1
     }
 
     /// Whether a worker has a goroutine in hand.
@@ -149,9 +146,9 @@ impl Book {
     /// Who has waited longest at a receive from a timer, or None where nobody waits there.
     pub fn timer_waiter(&self, t: u32) -> Option<Party>
         requires { t < length self.now.script.decls }
-        ensures { result ≡ option_map plainly (slice_get (waiting_in self.now.schedule.queues (queue_at t)) 0) }
+        ensures { result ≡ slice_get (parties_at self.now.schedule.receivers t) 0 }
     {
-        self.scheduler.first_waiting(t).map(plainly)
+        self.scheduler.first_receiver(t)
     }
 
     /// The least of the times that will unblock somebody, and whose it is; None where there is none.
@@ -256,7 +253,7 @@ impl Book {
     /// What a goroutine in hand does next.
     fn next_step(&self, g: u32) -> Step
         requires { status_of self.now.schedule g ≡ Some RunStatus.InHand }
-        ensures { step_of self.now.script self.now.state g ≡ Some result }
+        ensures { step_of self.now.script self.now.state self.now.schedule g ≡ Some result }
     {
         next_step(&self.machine, &self.script, g).unwrap()
     }
@@ -267,18 +264,19 @@ impl Book {
     {
         self.outcome().is_some()
             || match *op {
-                Op::TRecv { p, t, .. } => !self.waits_at(p.g, t),
+                Op::TRecv { p, t, .. } => !self.is_receiving(p, t),
                 Op::Wake { g } => self.machine.until(g).is_none(),
                 _ => false,
             }
     }
 
-    /// Whether a goroutine waits at a receive from a timer.
-    fn waits_at(&self, g: u32, t: u32) -> bool
-        ensures { result ≡ is_parked_at self.now.script self.now.state self.now.schedule g t }
+    /// Whether a party in hand, or one that is parked, stands at a receive from a timer.
+    fn is_receiving(&self, p: Party, t: u32) -> bool
+        ensures { result ≡ is_receiving self.now.script self.now.state self.now.schedule p t }
     {
-        self.scheduler.is_parked(g)
-            && matches!(self.machine.stands_at(&self.script, g), Some(Instr::Recv { o }) if *o == t)
+        (self.in_hand(p.g) || self.scheduler.is_parked(p.g))
+            && p.case_no == 0
+            && matches!(self.machine.stands_at(&self.script, p.g), Some(Instr::Recv { o }) if *o == t)
     }
 
     /// The entry of an operation.
@@ -315,7 +313,7 @@ impl Book {
     fn enter(&mut self, entry: Entry)
         requires running { outcome_of self.old ≡ None }
         requires may { May self.old.script self.old.state entry }
-        requires served { Served self.old.script self.old.state self.old.schedule entry }
+        requires served { Served self.old.schedule entry }
         ensures { Enters self.old entry self.new }
     {
         self.machine.apply(&self.script, &entry);

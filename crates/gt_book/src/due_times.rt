@@ -5,14 +5,13 @@ ghost use Rattle.gt_model.specs.Good.{IsGood};
 ghost use Rattle.gt_model.specs.Script.{is_func};
 ghost use Rattle.gt_tournament.specs.Keys.{key_of};
 ghost use Rattle.gt_machine.specs.Machine.{state_of};
-ghost use Rattle.gt_book.specs.Schedule.{queue_at};
-ghost use Rattle.gt_book.specs.Scheduler.{schedule_of};
+ghost use Rattle.gt_schedule.specs.Scheduler.{schedule_of};
 ghost use Rattle.gt_book.specs.DueTimes as due;
 
 use crate::answers::{Due, Whose};
-use crate::scheduler::Scheduler;
 use gt_machine::Machine;
 use gt_model::{Decl, Entry, NoMemory, Script, What};
+use gt_schedule::Scheduler;
 use gt_tournament::Tournament;
 use std::alloc::Global;
 
@@ -85,13 +84,11 @@ impl DueTimes {
         scheduler: &Scheduler,
         t: u32,
     )
-        requires room { t < length self.old.times }
-        requires queue { queue_at t < length scheduler.now.queues.queues }
-        requires few { length scheduler.now.queues.queues < 2 ^ 32 }
+        requires { due.HasTimerSlot self.old scheduler.now t }
         ensures times { self.new.times ≡ due.with_timer script.now (state_of machine.now) (schedule_of scheduler.now) t self.old.times }
         ensures declarations { self.new.declarations ≡ self.old.declarations }
     {
-        let counts = is_func(script, t) || scheduler.first_waiting(t).is_some();
+        let counts = is_func(script, t) || scheduler.first_receiver(t).is_some();
         let due = if counts { machine.due_of(t) } else { None };
         self.times.set(t, due);
     }

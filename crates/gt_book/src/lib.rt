@@ -4,10 +4,7 @@
 mod answers;
 mod book;
 mod due_times;
-mod scheduler;
-mod status;
 mod step;
 
 pub use answers::{Commit, Did, Due, Op, Pick, TimerOp, Whose};
 pub use book::Book;
-pub use status::RunStatus;

@@ -4,11 +4,13 @@ ghost use Rattle.std.specs.Prelude.{◌≡◌, ◌<◌, ◌-◌, ◌^◌, length
 ghost use Rattle.gt_rules.specs.State as at;
 ghost use Rattle.gt_facts.specs.Formed.{IsFormed};
 ghost use Rattle.gt_machine.specs.Machine.{state_of};
-ghost use Rattle.gt_book.specs.Steps.{step_of, step_of_instr, plainly};
+ghost use Rattle.gt_schedule.specs.Schedule.{Schedule};
+ghost use Rattle.gt_book.specs.Steps.{step_of, step_of_instr};
 
 use crate::answers::TimerOp;
 use gt_machine::Machine;
-use gt_model::{Entry, Instr, Party, Script};
+use gt_model::{Entry, Instr, Script};
+use gt_schedule::plainly;
 
 /// What a goroutine does next.
 #[derive(Clone, Copy)]
@@ -19,13 +21,6 @@ pub enum Step {
     Waits(u32),
     /// Its instruction needs a timer's record.
     Needs(TimerOp),
-}
-
-/// A goroutine at its plain instruction.
-pub fn plainly(g: u32) -> Party
-    ensures { result ≡ plainly g }
-{
-    Party { g, case_no: 0 }
 }
 
 /// What an instruction without misuse is for goroutine `g`.
@@ -59,7 +54,7 @@ fn step_of_instr(machine: &Machine, g: u32, instr: &Instr) -> Step
 pub fn next_step(machine: &Machine, script: &Script, g: u32) -> Option<Step>
     requires formed { IsFormed script.now (state_of machine.now) }
     requires few { length machine.now.goroutines.items < 2 ^ 32 - 1 }
-    ensures { result ≡ step_of script.now (state_of machine.now) g }
+    ensures { (m : Schedule) → result ≡ step_of script.now (state_of machine.now) m g }
 {
     let instr = machine.stands_at(script, g)?;
     Some(match machine.fault(instr) {

@@ -1,5 +1,5 @@
 -- Who waits where after one queue has changed.
-use Rattle.std.proofs.Common.{◌≡◌, ◌≢◌, ℕ, ◌<◌, List, [], ◌∷◌, ◌++◌, length, set, get_or-set_same, get_or-set_other, refl, sym, ◌∙◌, ◌⊎◌, inl, inr}
+use Rattle.std.proofs.Common.{◌≡◌, ◌≢◌, ℕ, zero, suc, ◌<◌, ap, arith, map, List, [], ◌∷◌, ◌++◌, length, set, get_or-set_same, get_or-set_other, refl, sym, ◌∙◌, ◌⊎◌, inl, inr}
 use Rattle.std.specs.List.{Contains}
 use Rattle.std.proofs.lemmas.Bool.{cases_eq, cases_lt}
 use Rattle.std.proofs.lemmas.Cmp.{nat_eq_equiv}
@@ -111,3 +111,26 @@ module _ (queues : List (List ℕ)) (q m : ℕ) where
     apart = λ p r y h k. lawful.apart p r y (waited members p y stands lawful h) (waited members r y stands lawful k);
     once = λ p. rw (waiting_in-removed members p stands lawful) (IsDistinct-without m (waiting_in queues p) (lawful.once p));
   }
+
+-- a change that leaves each item as it is leaves the list as it is
+map-same : (f : List ℕ → List ℕ) (xs : List (List ℕ)) → ((p : ℕ) → f (waiting_in xs p) ≡ waiting_in xs p) → map f xs ≡ xs
+map-same f [] same = refl
+map-same f (x ∷ xs) same = ap (λ y. y ∷ map f xs) (same 0) ∙ ap (λ ys. x ∷ ys) (map-same f xs (λ p. same (suc p)))
+
+-- one that leaves all others as they are changes that one alone
+map-one : (f : List ℕ → List ℕ) (xs : List (List ℕ)) (q : ℕ) → ((p : ℕ) → p ≢ q → f (waiting_in xs p) ≡ waiting_in xs p) → map f xs ≡ set xs q (f (waiting_in xs q))
+map-one f [] q same = refl
+map-one f (x ∷ xs) zero same = ap (λ ys. f x ∷ ys) (map-same f xs (λ p. same (suc p) (λ e. absurd (omega arith))))
+map-one f (x ∷ xs) (suc q) same =
+    ap (λ y. y ∷ map f xs) (same 0 (λ e. absurd (omega arith)))
+    ∙ ap (λ ys. x ∷ ys) (map-one f xs q (λ p n. same (suc p) (λ e. n (omega arith))))
+
+-- without somebody who stands in one queue alone
+pub without-one : (queues : List (List ℕ)) (members q m : ℕ) → IsLawful (record { queues = queues; members = members }) → Contains (waiting_in queues q) m
+    → map (λ waiting. without waiting m) queues ≡ removed queues q m
+without-one queues members q m lawful stands =
+    map-one (λ waiting. without waiting m) queues q (λ p n. without-absent m (waiting_in queues p) (λ h. n (lawful.apart p q m h stands)))
+
+-- without somebody who stands in none
+pub without-none : (queues : List (List ℕ)) (m : ℕ) → ¬ IsWaiting queues m → map (λ waiting. without waiting m) queues ≡ queues
+without-none queues m free = map-same (λ waiting. without waiting m) queues (λ p. without-absent m (waiting_in queues p) (λ h. free (p, h)))

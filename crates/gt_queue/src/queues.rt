@@ -1,5 +1,5 @@
 //! The queues.
-ghost use Rattle.std.specs.Prelude.{◌≡◌, ℕ, ◌+◌, ◌<◌, ◌^◌, ◌↔◌, [], ◌∷◌, ◌++◌, drop, replicate, length, slice_get, slice_set, Contains, IsTrue, IsNone, IfNone, IfOk};
+ghost use Rattle.std.specs.Prelude.{◌≡◌, ℕ, ◌+◌, ◌<◌, ◌^◌, ◌↔◌, [], ◌∷◌, ◌++◌, drop, map, replicate, length, slice_get, slice_set, Contains, IsTrue, IsNone, IfNone, IfOk};
 ghost use Rattle.gt_queue.specs.Contents.{IsLawful, IsWaiting, waiting_in, without};
 
 use crate::links::{alone, splice};
@@ -122,14 +122,26 @@ impl Queues {
             (without (waiting_in self.old.queues queue) member) }
         ensures members { self.new.members ≡ self.old.members }
     {
+        self.lawful();
+        self.withdraw(member);
+    }
+
+    /// Takes a member out of the queue in which it stands, if it stands in one. The others keep their order.
+    pub fn withdraw(&mut self, member: u32)
+        requires { member < self.old.members }
+        ensures queues { self.new.queues ≡ map (λ waiting. without waiting member) self.old.queues }
+        ensures members { self.new.members ≡ self.old.members }
+    {
         let node = member as usize;
         let after = self.next[node] as usize;
-        splice(
-            self.next.as_mut_slice(),
-            self.prev.as_mut_slice(),
-            node,
-            after,
-        );
+        if after != node {
+            splice(
+                self.next.as_mut_slice(),
+                self.prev.as_mut_slice(),
+                node,
+                after,
+            );
+        }
     }
 
     /// Whether a member stands in some queue.

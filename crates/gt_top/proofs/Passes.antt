@@ -7,12 +7,12 @@ use Rattle.gt_rules.specs.History.{ClockJumps}
 use Rattle.gt_book.specs.declared.answers.Did.{Did}
 use Rattle.gt_book.specs.declared.answers.TimerOp.{TimerOp}
 use Rattle.gt_book.specs.declared.step.Step.{Step}
-use Rattle.gt_book.specs.Schedule.{parked_at}
+use Rattle.gt_schedule.specs.Schedule.{plainly, parked_at}
 use Rattle.gt_model.specs.declared.script.Script.{Script}
 use Rattle.gt_model.specs.declared.script.Instr.{Instr}
 use Rattle.gt_rules.specs.State.{State, clock_of}
 use Rattle.gt_rules.specs.Panics.{fault}
-use Rattle.gt_book.specs.Steps.{step_of, step_of_instr, step_or_panic, plainly, Steps, Does, entry_of, is_gone, Commits}
+use Rattle.gt_book.specs.Steps.{step_of, step_of_instr, step_or_panic, Steps, Does, entry_of, is_gone, Commits}
 use Rattle.gt_book.specs.declared.answers.Op.{Op}
 use Rattle.gt_book.specs.declared.answers.Commit.{Commit}
 use Rattle.gt_book.proofs.Going.{IsStep, step-is}
@@ -57,13 +57,13 @@ goes-enters old e new g lawful enters clock alone = record {
   goes = inl (enters-longer old e new enters);
 }
 
-pub goes-waits : (old new : BookView) (g t : ℕ) → new ≡ with_schedule old (parked_at old.schedule g t) → IsAlone old g → Goes g old new
+pub goes-waits : (old new : BookView) (g t : ℕ) → new ≡ with_schedule old (parked_at old.schedule (plainly g) t) → IsAlone old g → Goes g old new
 goes-waits old new g t is alone = subst (Goes g old) (sym is) (record {
   script = refl;
   limits = refl;
   jumps = λ jumps. jumps;
-  hands = λ h q. alone.alone h (parked_at-hands old.schedule g t h q);
-  goes = inr (refl, parked_at-queued_count old.schedule g t alone.in_hand, parked_at-leaves_hand old.schedule g t alone.in_hand);
+  hands = λ h q. alone.alone h (parked_at-hands old.schedule (plainly g) t h q);
+  goes = inr (refl, parked_at-queued_count old.schedule (plainly g) t alone.in_hand, parked_at-leaves_hand old.schedule (plainly g) t alone.in_hand);
 })
 
 -- no step moves a clock
@@ -79,15 +79,15 @@ calm-no_clock script s g (Instr.Reset t d) e h = cc
 calm-no_clock script s g (Instr.Recv o) e h = cc
 calm-no_clock script s g Instr.Finish e h = let is : Entry.End g ≡ e = cc in subst (ClockJumps script 0 s) is tt
 
-makes-no_clock : (old : BookView) (g : ℕ) (e : Entry) → step_of old.script old.state g ≡ Some (Step.Makes e) → ClockJumps old.script 0 old.state e
+makes-no_clock : (old : BookView) (g : ℕ) (e : Entry) → step_of old.script old.state old.schedule g ≡ Some (Step.Makes e) → ClockJumps old.script 0 old.state e
 makes-no_clock old g e h =
-    let step : IsStep old.script old.state g (Step.Makes e) = step-is old.script old.state g (Step.Makes e) h in
+    let step : IsStep old.script old.state g (Step.Makes e) = step-is old.script old.state old.schedule g (Step.Makes e) h in
     elim (fault old.script old.state step.instr) as (λ o. step_or_panic old.state g step.instr o ≡ Step.Makes e → ClockJumps old.script 0 old.state e) [
       | None ↦ λ k. calm-no_clock old.script old.state g step.instr e k
       | Some reason ↦ λ k. let is : Entry.Panic (plainly g) reason ≡ e = cc in subst (ClockJumps old.script 0 old.state) is tt
     ] step.is
 
-does-goes : (old : BookView) (g : ℕ) (step : Step) (new : BookView) (did : Did) → IsLawful old → IsAlone old g → step_of old.script old.state g ≡ Some step
+does-goes : (old : BookView) (g : ℕ) (step : Step) (new : BookView) (did : Did) → IsLawful old → IsAlone old g → step_of old.script old.state old.schedule g ≡ Some step
     → Does old g step new did → ((x : TimerOp) → did ≡ Did.Timer x → ⊥) → Goes g old new
 does-goes old g (Step.Makes e) new did lawful alone is h other = goes-enters old e new g lawful h.0 (makes-no_clock old g e is) alone
 does-goes old g (Step.Waits t) new did lawful alone is h other = goes-waits old new g t h.0 alone
@@ -96,9 +96,9 @@ does-goes old g (Step.Needs op) new did lawful alone is h other = absurd (other 
 pub steps-goes : (old : BookView) (g : ℕ) (new : BookView) (did : Did) → IsLawful old → IsAlone old g → outcome_of old ≡ None → Steps old g new did
     → ((x : TimerOp) → did ≡ Did.Timer x → ⊥) → Goes g old new
 steps-goes old g new did lawful alone none h other =
-    let does : MatchOption (step_of old.script old.state g) ⊥ (λ step. Does old g step new did) =
-    subst (λ (o : Option Outcome). MatchOption o (MatchOption (step_of old.script old.state g) ⊥ (λ step. Does old g step new did)) (λ outcome. (did ≡ Did.Over outcome) × (new ≡ old))) none h in
-    elim (step_of old.script old.state g) as (λ o. step_of old.script old.state g ≡ o → MatchOption o ⊥ (λ step. Does old g step new did) → Goes g old new) [
+    let does : MatchOption (step_of old.script old.state old.schedule g) ⊥ (λ step. Does old g step new did) =
+    subst (λ (o : Option Outcome). MatchOption o (MatchOption (step_of old.script old.state old.schedule g) ⊥ (λ step. Does old g step new did)) (λ outcome. (did ≡ Did.Over outcome) × (new ≡ old))) none h in
+    elim (step_of old.script old.state old.schedule g) as (λ o. step_of old.script old.state old.schedule g ≡ o → MatchOption o ⊥ (λ step. Does old g step new did) → Goes g old new) [
       | None ↦ λ q k. absurd k
       | Some step ↦ λ q k. does-goes old g step new did lawful alone q k other
     ] refl does

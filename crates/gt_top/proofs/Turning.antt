@@ -3,11 +3,11 @@ use Rattle.std.proofs.Common.{◌≡◌, ℕ, ◌+◌, ◌-◌, ◌*◌, ◌<◌
 use Rattle.std.proofs.Math.Nat.{mul-le-mul_right, suc-mul}
 use Rattle.std.proofs.lemmas.Bool.{cases_eq}
 use Rattle.gt_book.specs.declared.answers.Pick.{Pick}
-use Rattle.gt_book.specs.declared.status.RunStatus.{RunStatus}
-use Rattle.gt_book.specs.Schedule.{status_of, taken}
+use Rattle.gt_schedule.specs.declared.status.RunStatus.{RunStatus}
+use Rattle.gt_schedule.specs.Schedule.{status_of, taken, queued_count}
 use Rattle.gt_book.specs.Steps.{Takes}
-use Rattle.gt_book.specs.View.{BookView, IsLawful, with_schedule, queued_count}
-use Rattle.gt_book.proofs.SchedulerQueues.{first-queued}
+use Rattle.gt_book.specs.View.{BookView, IsLawful, with_schedule}
+use Rattle.gt_schedule.proofs.Moving.{first-queued}
 use Rattle.gt_book.proofs.Passing.{taken-in_hand, taken-hands, taken-queued_count, queued_count-few}
 use Rattle.gt_top.specs.Run.{HandsFree, IsAlone, Passes, run_left}
 

@@ -1,28 +1,29 @@
--- Who waits longest at a timer that is due may receive.
-use Rattle.std.proofs.Common.{◌≡◌, ◌≤◌, ℕ, ap, subst, ◌∙◌, Option, None, Some, false, slice_get}
-use Rattle.std.specs.Option.{option_map}
+-- Who waits longest at a timer that is due may receive, and who sleeps until a time that has come may wake.
+use Rattle.std.proofs.Common.{◌≡◌, ◌≤◌, ℕ, subst, Option, None, Some, false, slice_get}
 use Rattle.gt_model.specs.declared.entry.Party.{Party}
 use Rattle.gt_rules.specs.State.{clock}
-use Rattle.gt_queue.specs.Contents.{waiting_in}
+use Rattle.gt_schedule.specs.Schedule.{parties_at}
 use Rattle.gt_book.specs.declared.answers.Op.{Op}
 use Rattle.gt_book.specs.declared.answers.Whose.{Whose}
 use Rattle.gt_book.specs.Least.{IsTimeOf}
-use Rattle.gt_book.specs.Schedule.{queue_at}
-use Rattle.gt_book.specs.Steps.{MayCommit, is_gone, plainly}
+use Rattle.gt_book.specs.Steps.{MayCommit, is_gone}
 use Rattle.gt_book.specs.View.{BookView, IsLawful, outcome_of}
-use Rattle.gt_book.proofs.Committing.{may-receive}
+use Rattle.gt_book.proofs.Committing.{may-receive, may-wake}
 
-pub record MayReceive (b : BookView) (p : Party) (t at : ℕ) : Type 0 where
-  pub may : MayCommit b (Op.TRecv p t at None)
-  pub here : is_gone b (Op.TRecv p t at None) ≡ false
+-- an operation may be committed, and does not come too late
+pub record IsCommittable (b : BookView) (op : Op) : Type 0 where
+  pub may : MayCommit b op
+  pub here : is_gone b op ≡ false
 
 pub may_receive-first : (b : BookView) (whose : Whose) (t at : ℕ) (o : Option Party) (p : Party) → IsLawful b → outcome_of b ≡ None → IsTimeOf b at whose → whose ≡ Whose.Timer t
-    → at ≤ clock b.state 0 → o ≡ option_map plainly (slice_get (waiting_in b.schedule.queues (queue_at t)) 0) → o ≡ Some p → MayReceive b p t at
+    → at ≤ clock b.state 0 → o ≡ slice_get (parties_at b.schedule.receivers t) 0 → o ≡ Some p → IsCommittable b (Op.TRecv p t at None)
 may_receive-first b whose t at o p lawful running time is due first some =
-    let is_time : IsTimeOf b at (Whose.Timer t) = subst (IsTimeOf b at) is time in
-    let g : ℕ = is_time.2.0 in
-    let there : slice_get (waiting_in b.schedule.queues (queue_at t)) 0 ≡ Some g = is_time.2.1 in
-    let found : o ≡ Some (plainly g) = first ∙ ap (option_map plainly) there in
-    let same : plainly g ≡ p = cc in
-    let may = may-receive b t at g lawful running is_time due there in
-    subst (λ (p : Party). MayReceive b p t at) same (record { may = may.0; here = may.1 })
+    let there : slice_get (parties_at b.schedule.receivers t) 0 ≡ Some p = cc in
+    let may = may-receive b t at p lawful running (subst (IsTimeOf b at) is time) due there in
+    record { may = may.0; here = may.1 }
+
+pub may_wake-come : (b : BookView) (whose : Whose) (g at : ℕ) → IsLawful b → outcome_of b ≡ None → IsTimeOf b at whose → whose ≡ Whose.Sleep g → at ≤ clock b.state 0
+    → IsCommittable b (Op.Wake g)
+may_wake-come b whose g at lawful running time is due =
+    let may = may-wake b g at lawful running (subst (IsTimeOf b at) is time) due in
+    record { may = may.0; here = may.1 }

@@ -6,9 +6,9 @@ use Rattle.gt_model.specs.declared.script.Script.{Script}
 use Rattle.gt_model.specs.declared.entry.Limits.{Limits}
 use Rattle.gt_rules.specs.After.{first_state}
 use Rattle.gt_rules.specs.History.{AllJump}
-use Rattle.gt_book.specs.declared.status.RunStatus.{RunStatus}
-use Rattle.gt_book.specs.Schedule.{status_of}
-use Rattle.gt_book.specs.View.{BookView, outcome_of, queued_count}
+use Rattle.gt_schedule.specs.declared.status.RunStatus.{RunStatus}
+use Rattle.gt_schedule.specs.Schedule.{status_of, queued_count}
+use Rattle.gt_book.specs.View.{BookView, outcome_of}
 
 -- the program's clock moved by idle jumps alone so far
 abbrev pub Jumps : BookView → Type 0

@@ -5,10 +5,10 @@ ghost use Rattle.std.specs.Prelude.{◌≡◌, ◌≤◌, ◌<◌, false, IfOk, 
 ghost use Rattle.gt_model.specs.Good.{IsGood, AreLimits};
 ghost use Rattle.gt_rules.specs.State as at;
 ghost use Rattle.gt_book.specs.Least.{NobodyRuns, IsTimeOf};
-ghost use Rattle.gt_book.specs.Schedule.{status_of};
+ghost use Rattle.gt_schedule.specs.Schedule.{status_of};
 ghost use Rattle.gt_book.specs.Steps.{MayCommit, is_gone, step_of};
 ghost use Rattle.gt_book.specs.View.{outcome_of};
-ghost use Rattle.gt_book.specs.declared.status.RunStatus.{RunStatus};
+ghost use Rattle.gt_schedule.specs.declared.status.RunStatus.{RunStatus};
 ghost use Rattle.gt_book.specs.declared.step.Step.{Step};
 ghost use Rattle.gt_top.specs.Run.{IsComplete, IsAlone, Goes, HandsFree, Moves, Passes, Turns, run_left};
 
@@ -21,7 +21,7 @@ const PROGRAM: u32 = 0;
 
 /// The operation that an instruction wants of a timer's record, with its answer.
 fn operation(book: &Book, g: u32, wanted: TimerOp) -> Op
-    requires wanted { step_of book.now.script book.now.state g ≡ Some (Step.Needs wanted) }
+    requires wanted { step_of book.now.script book.now.state book.now.schedule g ≡ Some (Step.Needs wanted) }
     requires in_hand { status_of book.now.schedule g ≡ Some RunStatus.InHand }
     requires running { outcome_of book.now ≡ None }
     ensures may { MayCommit book.now result }

@@ -5,13 +5,13 @@ use Rattle.gt_machine.specs.Machine.{state_of}
 use Rattle.gt_book.proofs.step.next_step.Goals as goal
 
 pub returns-in-Some : goal.returns-in-Some
-returns-in-Some c =
+returns-in-Some c = λ m.
     let stands : at.stands_at c.args.script.now (state_of c.args.machine.now) c.args.g ≡ Some c.in_ok-instr.instr.now = search rules in
     let faulty : fault c.args.script.now (state_of c.args.machine.now) c.in_ok-instr.instr.now ≡ Some c.in-Some.reason = sym (c.fault.ensures c.args.script.now) ∙ c.in-Some.is in
     rw (stands, faulty, c.plainly.ensures) refl
 
 pub returns-in-None : goal.returns-in-None
-returns-in-None c =
+returns-in-None c = λ m.
     let stands : at.stands_at c.args.script.now (state_of c.args.machine.now) c.args.g ≡ Some c.in_ok-instr.instr.now = search rules in
     let faultless : fault c.args.script.now (state_of c.args.machine.now) c.in_ok-instr.instr.now ≡ None = sym (c.fault.ensures c.args.script.now) ∙ c.in-None.is in
     rw (stands, faultless, c.step_of_instr.ensures) refl

@@ -10,7 +10,7 @@ pub operation-op-requires-clause-wanted : goal.operation-op-requires-clause-want
 operation-op-requires-clause-wanted c =
     let needs : NeedsOnly c.args.book.now c.args.g c.in-Timer.wanted c.step_plain.new.self =
     steps-timer c.args.book.now c.args.g c.step_plain.new.self c.in-Timer.wanted c.requires.running c.in-Timer.ensures in
-    subst (λ (v : BookView). step_of v.script v.state c.args.g ≡ Some (Step.Needs c.in-Timer.wanted)) (sym needs.same) needs.needs
+    subst (λ (v : BookView). step_of v.script v.state v.schedule c.args.g ≡ Some (Step.Needs c.in-Timer.wanted)) (sym needs.same) needs.needs
 
 pub returns-in-Timer : goal.returns-in-Timer
 returns-in-Timer c =

@@ -7,7 +7,7 @@ use Rattle.gt_top.proofs.Passes.{moves-enters, moves-deadlock}
 use Rattle.gt_top.proofs.runner.pass_time.Goals as goal
 
 pub finish_deadlock-requires-clause-idle : goal.finish_deadlock-requires-clause-idle
-finish_deadlock-requires-clause-idle c = idle-none c.args.book.now c.lawful.ensures.lawful c.requires.nobody (c.in-None.ensures.none.0 refl)
+finish_deadlock-requires-clause-idle c = idle-none c.args.book.now c.lawful.ensures.lawful c.requires.running c.requires.nobody (c.in-None.ensures.none.0 refl)
 
 pub jump-requires-clause-time : goal.jump-requires-clause-time
 jump-requires-clause-time c =
@@ -22,4 +22,4 @@ returns-in-Some-2 c =
     let later : clock b.state 0 < c.in-Some.due.at = rw c.clock_of.ensures at c.if-due-clock_of.false in
     let time : c.in-Some.due.at ≤ greatest_time = times-least b c.in-Some.due.at c.in-Some.due.whose c.lawful.ensures.lawful c.in-Some.ensures.whose in
     moves-enters b (Entry.Clock 0 c.in-Some.due.at) c.jump.new.self c.lawful.ensures.lawful c.jump.ensures
-    (jumps-least b c.in-Some.due.at c.lawful.ensures.lawful c.requires.nobody c.in-Some.ensures.least later time) c.requires.nobody.hands
+    (jumps-least b c.in-Some.due.at c.lawful.ensures.lawful c.requires.running c.requires.nobody c.in-Some.ensures.least later time) c.requires.nobody.hands

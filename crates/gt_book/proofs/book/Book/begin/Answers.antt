@@ -2,8 +2,8 @@ use Rattle.std.proofs.Common.{rules, ◌≡◌, ◌+◌, ◌≤◌, ℕ, None, l
 use Rattle.gt_rules.specs.After.{first_state}
 use Rattle.gt_tournament.specs.Keys.{key_of}
 use Rattle.gt_machine.specs.Machine.{state_of}
-use Rattle.gt_book.specs.Scheduler.{schedule_of, IsScheduler}
-use Rattle.gt_book.specs.View.{first_schedule}
+use Rattle.gt_schedule.specs.Schedule.{first_schedule, most_goroutines}
+use Rattle.gt_schedule.specs.Scheduler.{schedule_of, capacity, IsScheduler}
 use Rattle.gt_book.proofs.Books.{begun-kept}
 use Rattle.gt_book.proofs.book.Book.begin.Goals as goal
 
@@ -14,7 +14,8 @@ invariant_of-result c =
     let state : state_of c.in_ok-machine.machine ≡ first_state c.args.script = search rules in
     let room : c.in_ok-machine.machine.goroutines.spare ≡ c.args.limits.entries = search rules in
     let schedule : schedule_of c.in_ok-scheduler.scheduler ≡ first_schedule c.args.script = search rules in
-    let kept : IsScheduler c.args.limits.entries c.in_ok-scheduler.scheduler = search rules in
+    let places : capacity c.in_ok-scheduler.scheduler ≡ most_goroutines c.args.limits = search rules in
+    let kept : IsScheduler c.in_ok-scheduler.scheduler = search rules in
     let slots : c.in_ok-due_times.due_times.declarations ≡ length c.args.script.decls = search rules in
     let long : length c.args.script.decls + c.args.limits.entries + 2 ≤ length c.in_ok-due_times.due_times.times = search rules in
     let none_due : (slot : ℕ) → key_of c.in_ok-due_times.due_times.times slot ≡ None = search rules in
@@ -25,4 +26,4 @@ invariant_of-result c =
       machine = c.in_ok-machine.machine;
       scheduler = c.in_ok-scheduler.scheduler;
       due_times = c.in_ok-due_times.due_times;
-    }) c.requires.good c.requires.limits empty spare state room schedule kept slots long none_due
+    }) c.requires.good c.requires.limits empty spare state room schedule places kept slots long none_due

@@ -1,0 +1,129 @@
+-- How often a number and a party stand in a list, and who stands at a declaration, after a change.
+use Rattle.std.proofs.Common.{◌≡◌, ◌≢◌, ℕ, zero, suc, ◌+◌, ◌<◌, List, [], ◌∷◌, ◌++◌, length, map, drop, replicate, refl, sym, ap, ◌∙◌, arith, slice_get, Some, Bool, true, false, ◌&&◌, eqb, get_or-set_same, get_or-set_other, inl, inr}
+use Rattle.std.specs.List.{Contains}
+use Rattle.std.proofs.lemmas.Bool.{cases_eq, eq-eqb, ne_eqb}
+use Rattle.gt_model.specs.declared.entry.Party.{Party}
+use Rattle.gt_queue.proofs.Members.{Contains-nil, Contains_cases}
+use Rattle.gt_schedule.specs.Counts.{as_number, times, is_party, often}
+use Rattle.gt_schedule.specs.Schedule.{plainly, parties_at, without_goroutine, joins}
+
+-- ---- how often a number stands in a list
+
+pub times-append : (x : ℕ) (xs ys : List ℕ) → times x (xs ++ ys) ≡ times x xs + times x ys
+times-append x [] ys = omega arith
+times-append x (y ∷ xs) ys =
+    let rest : times x (xs ++ ys) ≡ times x xs + times x ys = times-append x xs ys in
+    omega arith
+
+pub times-one_same : (x : ℕ) → times x (x ∷ []) ≡ 1
+times-one_same x = rw (eq-eqb x x refl) refl
+
+pub times-one_other : (x y : ℕ) → x ≢ y → times x (y ∷ []) ≡ 0
+times-one_other x y n = rw (ne_eqb y x (λ e. n (sym e))) refl
+
+pub times-push_same : (x : ℕ) (xs : List ℕ) → times x (xs ++ x ∷ []) ≡ times x xs + 1
+times-push_same x xs = times-append x xs (x ∷ []) ∙ ap (λ n. times x xs + n) (times-one_same x)
+
+pub times-push_other : (x y : ℕ) (xs : List ℕ) → x ≢ y → times x (xs ++ y ∷ []) ≡ times x xs
+times-push_other x y xs n =
+    let push : times x (xs ++ y ∷ []) ≡ times x xs + times x (y ∷ []) = times-append x xs (y ∷ []) in
+    let one : times x (y ∷ []) ≡ 0 = times-one_other x y n in
+    omega arith
+
+-- the first of a list
+pub times-first_same : (x : ℕ) (xs : List ℕ) → slice_get xs 0 ≡ Some x → times x xs ≡ times x (drop 1 xs) + 1
+times-first_same x [] e = cc
+times-first_same x (y ∷ xs) e =
+    let is : eqb y x ≡ true = eq-eqb y x cc in
+    rw is (omega arith)
+
+pub times-first_other : (x y : ℕ) (xs : List ℕ) → slice_get xs 0 ≡ Some y → x ≢ y → times x (drop 1 xs) ≡ times x xs
+times-first_other x y [] e n = refl
+times-first_other x y (z ∷ xs) e n =
+    let same : z ≡ y = cc in
+    let is : eqb z x ≡ false = ne_eqb z x (λ k. n (sym k ∙ same)) in
+    rw is (omega arith)
+
+-- who is on a list stands there once at least
+pub times-contains : (g : ℕ) (xs : List ℕ) → Contains xs g → 0 < times g xs
+times-contains g [] h = Contains-nil g h
+times-contains g (x ∷ xs) h =
+    elim (Contains_cases x g xs h) [
+      | inl e ↦ let one : as_number (eqb x g) ≡ 1 = ap as_number (eq-eqb x g e) in omega arith
+      | inr there ↦ let more : 0 < times g xs = times-contains g xs there in omega arith
+    ]
+
+-- ---- how often a party stands in a list
+
+pub is_party-same : (p : Party) → is_party p p ≡ true
+is_party-same p = rw (eq-eqb p.g p.g refl, eq-eqb p.case_no p.case_no refl) refl
+
+pub is_party-other : (p q : Party) → p.g ≢ q.g → is_party p q ≡ false
+is_party-other p q n = rw (ne_eqb p.g q.g n) refl
+
+pub often-push : (p q : Party) (ps : List Party) → often p (ps ++ q ∷ []) ≡ often p ps + as_number (is_party q p)
+often-push p q [] = omega arith
+often-push p q (x ∷ ps) =
+    let rest : often p (ps ++ q ∷ []) ≡ often p ps + as_number (is_party q p) = often-push p q ps in
+    omega arith
+
+-- the parties of the other goroutines
+pub often-without_same : (p : Party) (g : ℕ) (ps : List Party) → p.g ≡ g → often p (without_goroutine g ps) ≡ 0
+often-without_same p g [] e = refl
+often-without_same p g (x ∷ ps) e =
+    let rest : often p (without_goroutine g ps) ≡ 0 = often-without_same p g ps e in
+    elim (cases_eq x.g g) [
+      | inl is ↦ rw (eq-eqb x.g g is) rest
+      | inr n ↦
+          let none : as_number (is_party x p) ≡ 0 = ap as_number (is_party-other x p (λ k. n (k ∙ e))) in
+          rw (ne_eqb x.g g n) (omega arith)
+    ]
+
+pub often-without_other : (p : Party) (g : ℕ) (ps : List Party) → p.g ≢ g → often p (without_goroutine g ps) ≡ often p ps
+often-without_other p g [] n = refl
+often-without_other p g (x ∷ ps) n =
+    let rest : often p (without_goroutine g ps) ≡ often p ps = often-without_other p g ps n in
+    elim (cases_eq x.g g) [
+      | inl is ↦
+          let none : as_number (is_party x p) ≡ 0 = ap as_number (is_party-other x p (λ k. n (sym k ∙ is))) in
+          rw (eq-eqb x.g g is) (omega arith)
+      | inr m ↦ rw (ne_eqb x.g g m) (omega arith)
+    ]
+
+-- the first of a list stands there
+pub often-first : (p : Party) (ps : List Party) → slice_get ps 0 ≡ Some p → 0 < often p ps
+often-first p [] e = cc
+often-first p (x ∷ ps) e =
+    let is : x ≡ p = cc in
+    let one : as_number (is_party x p) ≡ 1 = ap (λ (q : Party). as_number (is_party q p)) is ∙ ap as_number (is_party-same p) in
+    omega arith
+
+-- parties at plain instructions
+pub often-plain : (g : ℕ) (xs : List ℕ) → often (plainly g) (map plainly xs) ≡ times g xs
+often-plain g [] = refl
+often-plain g (x ∷ xs) =
+    let rest : often (plainly g) (map plainly xs) ≡ times g xs = often-plain g xs in
+    let one : as_number (is_party (plainly x) (plainly g)) ≡ as_number (eqb x g) = ap as_number (with_true (eqb x g)) in
+    omega arith
+  where
+    with_true : (b : Bool) → (b && true) ≡ b
+    with_true true = refl
+    with_true false = refl
+
+-- ---- who stands at a declaration
+
+pub parties-joins_same : (lists : List (List Party)) (t : ℕ) (p : Party) → t < length lists → parties_at (joins lists t p) t ≡ parties_at lists t ++ p ∷ []
+parties-joins_same lists t p h = get_or-set_same lists t (parties_at lists t ++ p ∷ []) [] h
+
+pub parties-joins_other : (lists : List (List Party)) (t u : ℕ) (p : Party) → u ≢ t → parties_at (joins lists t p) u ≡ parties_at lists u
+parties-joins_other lists t u p n = get_or-set_other lists t u (parties_at lists t ++ p ∷ []) [] n
+
+pub parties-without : (g : ℕ) (lists : List (List Party)) (t : ℕ) → parties_at (map (without_goroutine g) lists) t ≡ without_goroutine g (parties_at lists t)
+parties-without g [] t = refl
+parties-without g (x ∷ xs) zero = refl
+parties-without g (x ∷ xs) (suc t) = parties-without g xs t
+
+-- nobody leaves a list in which nobody stands
+pub without-nobody : (g n : ℕ) → map (without_goroutine g) (replicate n []) ≡ replicate n []
+without-nobody g zero = refl
+without-nobody g (suc n) = ap (λ xs. [] ∷ xs) (without-nobody g n)

@@ -1,0 +1,100 @@
+-- A move of a goroutine keeps a schedule orderly.
+use Rattle.std.proofs.Common.{◌≡◌, ℕ, ◌+◌, ◌<◌, arith, drop, slice_get, Bool, true, false, length, Option, Some, None, refl, sym, ap, subst, ◌∙◌, inl, inr}
+use Rattle.std.proofs.lemmas.Bool.{cases_eq}
+use Rattle.gt_model.specs.Tables.{change_numbered}
+use Rattle.gt_model.proofs.Changes.{length-change_numbered}
+use Rattle.gt_model.proofs.Items.{numbered-change_same, numbered-change_other}
+use Rattle.gt_rules.specs.declared.change.Move.{Move}
+use Rattle.gt_schedule.specs.declared.status.RunStatus.{RunStatus}
+use Rattle.gt_schedule.specs.Counts.{as_number, times, often}
+use Rattle.gt_schedule.specs.Schedule.{Schedule, status_of, is_parked, is_queued, parties_at, unparked, with_status, gone_on, turned, moved_by, MayMove, ServedBy, RunsQueued}
+use Rattle.gt_schedule.specs.Scheduler.{IsOrderly}
+use Rattle.gt_schedule.proofs.Lists.{times-push_same, times-push_other, times-first_same, often-without_same, often-without_other, parties-without}
+use Rattle.gt_schedule.proofs.Counting.{Parking, status-parked}
+
+-- one goroutine takes a status in which it is neither queued nor parked, or is parked from now on
+orderly-leaves_hand : (m : Schedule) (parks g : ℕ) (x : RunStatus) → IsOrderly m → status_of m g ≡ Some RunStatus.InHand → is_queued (Some x) ≡ false
+    → IsOrderly (record m { statuses = change_numbered m.statuses g (λ _. x); parks = parks })
+orderly-leaves_hand m parks g x orderly in_hand unqueued =
+    let now : status_of (with_status m g x) g ≡ Some x = numbered-change_same m.statuses g (λ _. x) RunStatus.InHand in_hand in
+    record {
+      queued = λ h. elim (cases_eq h g) [
+        | inl e ↦
+            subst (λ h. times h m.run_queue ≡ as_number (is_queued (status_of (with_status m g x) h))) (sym e)
+            (orderly.queued g ∙ (ap (λ o. as_number (is_queued o)) in_hand ∙ sym (ap (λ o. as_number (is_queued o)) now ∙ ap as_number unqueued)))
+        | inr n ↦ orderly.queued h ∙ ap (λ o. as_number (is_queued o)) (sym (numbered-change_other m.statuses g h (λ _. x) n))
+      ];
+      receivers = λ t p not_parked. elim (cases_eq p.g g) [
+        | inl e ↦ orderly.receivers t p (subst (λ h. is_parked (status_of m h) ≡ false) (sym e) (ap is_parked in_hand))
+        | inr n ↦ orderly.receivers t p (ap is_parked (sym (numbered-change_other m.statuses g p.g (λ _. x) n)) ∙ not_parked)
+      ];
+    }
+
+orderly-unparked : (m : Schedule) (g : ℕ) → IsOrderly m → is_parked (status_of m g) ≡ true → IsOrderly (unparked m g)
+orderly-unparked m g orderly waits =
+    let was : Parking (status_of m g) = status-parked (status_of m g) waits in
+    let now : status_of (unparked m g) g ≡ Some RunStatus.Queued = numbered-change_same m.statuses g (λ _. RunStatus.Queued) (RunStatus.Parked was.since) was.is in
+    record {
+      queued = λ h. elim (cases_eq h g) [
+        | inl e ↦
+            subst (λ h. times h (unparked m g).run_queue ≡ as_number (is_queued (status_of (unparked m g) h))) (sym e)
+            (times-push_same g m.run_queue ∙ (ap (λ k. k + 1) (orderly.queued g ∙ ap (λ o. as_number (is_queued o)) was.is) ∙ sym (ap (λ o. as_number (is_queued o)) now)))
+        | inr n ↦
+            times-push_other h g m.run_queue n
+            ∙ (orderly.queued h ∙ ap (λ o. as_number (is_queued o)) (sym (numbered-change_other m.statuses g h (λ _. RunStatus.Queued) n)))
+      ];
+      receivers = λ t p not_parked. ap (often p) (parties-without g m.receivers t) ∙ (elim (cases_eq p.g g) [
+        | inl e ↦ often-without_same p g (parties_at m.receivers t) e
+        | inr n ↦
+            often-without_other p g (parties_at m.receivers t) n
+            ∙ orderly.receivers t p (ap is_parked (sym (numbered-change_other m.statuses g p.g (λ _. RunStatus.Queued) n)) ∙ not_parked)
+      ]);
+    }
+
+orderly-gone_on : (m : Schedule) (g : ℕ) (waits : Bool) → is_parked (status_of m g) ≡ waits → IsOrderly m → IsOrderly (gone_on m g waits)
+orderly-gone_on m g true e orderly = orderly-unparked m g orderly e
+orderly-gone_on m g false e orderly = orderly
+
+pub orderly-turned : (m : Schedule) (g : ℕ) (move : Move) → IsOrderly m → MayMove (status_of m g) move → IsOrderly (turned m g move)
+orderly-turned m g (Move.GoesOn case_no) orderly may = orderly-gone_on m g (is_parked (status_of m g)) refl orderly
+orderly-turned m g (Move.FallsAsleep until) orderly may = orderly-leaves_hand m _ g (RunStatus.Parked m.parks) orderly may refl
+orderly-turned m g Move.Ends orderly may = orderly-leaves_hand m m.parks g RunStatus.Ended orderly may refl
+
+pub orderly-moved : (m : Schedule) (o : Option (ℕ × Move)) → IsOrderly m → ServedBy m o → IsOrderly (moved_by m o)
+orderly-moved m None orderly served = orderly
+orderly-moved m (Some x) orderly served = orderly-turned m x.0 x.1 orderly served
+
+as_many-gone_on : (m : Schedule) (g : ℕ) (waits : Bool) → length (gone_on m g waits).statuses ≡ length m.statuses
+as_many-gone_on m g true = length-change_numbered m.statuses g (λ _. RunStatus.Queued)
+as_many-gone_on m g false = refl
+
+-- and makes no goroutine
+pub as_many-turned : (m : Schedule) (g : ℕ) (move : Move) → length (turned m g move).statuses ≡ length m.statuses
+as_many-turned m g (Move.GoesOn case_no) = as_many-gone_on m g (is_parked (status_of m g))
+as_many-turned m g (Move.FallsAsleep until) = length-change_numbered m.statuses g (λ _. RunStatus.Parked m.parks)
+as_many-turned m g Move.Ends = length-change_numbered m.statuses g (λ _. RunStatus.Ended)
+
+pub as_many-moved : (m : Schedule) (o : Option (ℕ × Move)) → length (moved_by m o).statuses ≡ length m.statuses
+as_many-moved m None = refl
+as_many-moved m (Some x) = as_many-turned m x.0 x.1
+
+-- ---- the run queue
+
+positive : (b : Bool) → 0 < as_number b → b ≡ true
+positive true h = refl
+positive false h = absurd (omega arith)
+
+-- a goroutine that is queued is one of those
+pub status-queued : (s : Option RunStatus) → is_queued s ≡ true → s ≡ Some RunStatus.Queued
+status-queued None e = cc
+status-queued (Some RunStatus.Queued) e = refl
+status-queued (Some RunStatus.InHand) e = cc
+status-queued (Some (RunStatus.Parked since)) e = cc
+status-queued (Some RunStatus.Ended) e = cc
+
+-- the first of the run queue is queued
+pub first-queued : (m : Schedule) (g : ℕ) → RunsQueued m → slice_get m.run_queue 0 ≡ Some g → status_of m g ≡ Some RunStatus.Queued
+first-queued m g runs first =
+    let some : times g m.run_queue ≡ times g (drop 1 m.run_queue) + 1 = times-first_same g m.run_queue first in
+    let as_often : times g m.run_queue ≡ as_number (is_queued (status_of m g)) = runs g in
+    status-queued (status_of m g) (positive (is_queued (status_of m g)) (omega arith))

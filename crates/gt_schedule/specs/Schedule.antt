@@ -1,0 +1,162 @@
+-- Who runs, who is to run and who waits.
+use Rattle.std.specs.Prelude.{ℕ, ◌+◌, ◌-◌, ◌^◌, ◌==◌, ◌≡◌, IsTrue, Bool, true, false, not, ◌||◌, min, length, replicate, map, filter, List, [], ◌∷◌, ◌++◌, drop, set, slice_index_or, count_by}
+use Rattle.std.specs.declared.option.Option.{Option}
+use Rattle.std.specs.declared.option.Option.TheVariants.{None, Some}
+use Rattle.gt_model.specs.declared.script.Script.{Script}
+use Rattle.gt_model.specs.declared.entry.Entry.{Entry}
+use Rattle.gt_model.specs.declared.entry.Limits.{Limits}
+use Rattle.gt_model.specs.declared.entry.Party.{Party}
+use Rattle.gt_model.specs.Tables.{numbered, change_numbered}
+use Rattle.gt_rules.specs.declared.change.Move.{Move}
+use Rattle.gt_rules.specs.declared.change.Start.{Start}
+use Rattle.gt_rules.specs.Change.{Change, change_of}
+use Rattle.gt_schedule.specs.declared.status.RunStatus.{RunStatus}
+use Rattle.gt_schedule.specs.declared.status.Ticket.{Ticket}
+use Rattle.gt_schedule.specs.Counts.{as_number, times, often}
+
+pub record Schedule : Type 0 where
+  pub statuses : List RunStatus  -- by goroutine number, from 1
+  pub run_queue : List ℕ  -- who are to be taken, the longest waiting first
+  pub receivers : List (List Party)  -- by declaration: the parties parked at a receive from it, the longest waiting first
+  pub senders : List (List Party)  -- by declaration: the parties parked at a send to it, the longest waiting first
+  pub parks : ℕ  -- how many times a goroutine was parked
+
+-- the greatest number of goroutines of a run: main's, and one for each entry
+abbrev pub most_goroutines : Limits → ℕ
+most_goroutines limits = limits.entries + 1
+
+-- a goroutine at its plain instruction
+abbrev pub plainly : ℕ → Party
+plainly g = record { g = g; case_no = 0 }
+
+abbrev pub status_of : Schedule → ℕ → Option RunStatus
+status_of m g = numbered m.statuses g
+
+abbrev pub is_queued : Option RunStatus → Bool
+is_queued (Some RunStatus.Queued) = true
+is_queued _ = false
+
+abbrev pub is_in_hand : Option RunStatus → Bool
+is_in_hand (Some RunStatus.InHand) = true
+is_in_hand _ = false
+
+abbrev pub is_parked : Option RunStatus → Bool
+is_parked (Some (RunStatus.Parked since)) = true
+is_parked _ = false
+
+-- a ticket is live while its goroutine is parked as it was when it got it
+abbrev pub IsLive : Schedule → Ticket → Type 0
+IsLive m ticket = status_of m ticket.g ≡ Some (RunStatus.Parked ticket.turn)
+
+-- how many goroutines are to run, and how many are in a worker's hand
+abbrev pub queued_count : Schedule → ℕ
+queued_count m = count_by (λ (status : RunStatus). is_queued (Some status)) m.statuses
+
+abbrev pub in_hand : Schedule → ℕ
+in_hand m = count_by (λ (status : RunStatus). is_in_hand (Some status)) m.statuses
+
+-- the parties at a declaration
+abbrev pub parties_at : List (List Party) → ℕ → List Party
+parties_at lists t = slice_index_or lists t []
+
+-- the parties of the other goroutines, in their order
+abbrev pub without_goroutine : ℕ → List Party → List Party
+without_goroutine g parties = filter (λ (p : Party). not (p.g == g)) parties
+
+-- a party joins those at a declaration at their end
+abbrev pub joins : List (List Party) → ℕ → Party → List (List Party)
+joins lists t p = set lists t (parties_at lists t ++ p ∷ [])
+
+-- before the first entry: goroutine 1 is to be taken
+abbrev pub first_schedule : Script → Schedule
+first_schedule script = record {
+  statuses = RunStatus.Queued ∷ [];
+  run_queue = 1 ∷ [];
+  receivers = replicate (length script.decls) [];
+  senders = replicate (length script.decls) [];
+  parks = 0;
+}
+
+abbrev pub with_status : Schedule → ℕ → RunStatus → Schedule
+with_status m g status = record m { statuses = change_numbered m.statuses g (λ _. status) }
+
+-- the first of the run queue comes into a worker's hand
+abbrev pub taken : Schedule → ℕ → Schedule
+taken m g = record m { statuses = change_numbered m.statuses g (λ _. RunStatus.InHand); run_queue = drop 1 m.run_queue }
+
+-- a count stands still at its greatest value
+abbrev pub next_park : ℕ → ℕ
+next_park parks = min (parks + 1) (2 ^ 64 - 1)
+
+-- a goroutine waits
+abbrev pub parked : Schedule → ℕ → Schedule
+parked m g = record m { statuses = change_numbered m.statuses g (λ _. RunStatus.Parked m.parks); parks = next_park m.parks }
+
+-- a party waits at a receive from t
+abbrev pub parked_at : Schedule → Party → ℕ → Schedule
+parked_at m p t = let next : Schedule = parked m p.g in record next { receivers = joins m.receivers t p }
+
+-- a goroutine that waited goes to the end of the run queue, and waits nowhere any more. There is no other way out of a parking
+abbrev pub unparked : Schedule → ℕ → Schedule
+unparked m g = record m {
+  statuses = change_numbered m.statuses g (λ _. RunStatus.Queued);
+  run_queue = m.run_queue ++ g ∷ [];
+  receivers = map (without_goroutine g) m.receivers;
+  senders = map (without_goroutine g) m.senders;
+}
+
+-- a new goroutine, with the next number, is to be taken
+abbrev pub with_new : Schedule → Schedule
+with_new m = record m { statuses = m.statuses ++ RunStatus.Queued ∷ []; run_queue = m.run_queue ++ (length m.statuses + 1) ∷ [] }
+
+-- a goroutine that goes on is queued where it was parked
+abbrev pub gone_on : Schedule → ℕ → Bool → Schedule
+gone_on m g true = unparked m g
+gone_on m g false = m
+
+abbrev pub turned : Schedule → ℕ → Move → Schedule
+turned m g (Move.GoesOn case_no) = gone_on m g (is_parked (status_of m g))
+turned m g (Move.FallsAsleep until) = parked m g
+turned m g Move.Ends = with_status m g RunStatus.Ended
+
+abbrev pub moved_by : Schedule → Option (ℕ × Move) → Schedule
+moved_by m None = m
+moved_by m (Some x) = turned m x.0 x.1
+
+abbrev pub begun_by : Schedule → List Start → Schedule
+begun_by m [] = m
+begun_by m (x ∷ xs) = begun_by (with_new m) xs
+
+-- what a change does to the schedule
+abbrev pub rescheduled : Schedule → Change → Schedule
+rescheduled m c = begun_by (moved_by m c.mover) c.starts
+
+-- what an entry does to the schedule
+abbrev pub scheduled : Schedule → Entry → Schedule
+scheduled m e = rescheduled m (change_of e)
+
+abbrev pub schedule_after : Schedule → List Entry → Schedule
+schedule_after m [] = m
+schedule_after m (e ∷ h) = schedule_after (scheduled m e) h
+
+-- where a goroutine has to be that moves: in hand, or parked where it goes on
+abbrev pub MayMove : Option RunStatus → Move → Type 0
+MayMove status (Move.GoesOn case_no) = IsTrue (is_in_hand status || is_parked status)
+MayMove status (Move.FallsAsleep until) = status ≡ Some RunStatus.InHand
+MayMove status Move.Ends = status ≡ Some RunStatus.InHand
+
+abbrev pub ServedBy : Schedule → Option (ℕ × Move) → Type 0
+ServedBy m None = Unit {0}
+ServedBy m (Some x) = MayMove (status_of m x.0) x.1
+
+-- who makes an entry has it in hand, or waits for it; timers and clocks are nobody's
+abbrev pub Served : Schedule → Entry → Type 0
+Served m e = ServedBy m (change_of e).mover
+
+-- the run queue has exactly those that are queued, each once
+abbrev pub RunsQueued : Schedule → Type 0
+RunsQueued m = (g : ℕ) → times g m.run_queue ≡ as_number (is_queued (status_of m g))
+
+-- who stands at a receive is parked
+abbrev pub ReceivesParked : Schedule → Type 0
+ReceivesParked m = (t : ℕ) (p : Party) → is_parked (status_of m p.g) ≡ false → often p (parties_at m.receivers t) ≡ 0

@@ -1,0 +1,45 @@
+-- The schedule that a scheduler's fields mean, what its calls need, and what it keeps.
+use Rattle.std.specs.Prelude.{ℕ, ◌+◌, ◌-◌, ◌^◌, ◌<◌, ◌≤◌, ◌≡◌, List, [], length, map, drop}
+use Rattle.gt_model.specs.declared.entry.Entry.{Entry}
+use Rattle.gt_model.specs.declared.entry.Party.{Party}
+use Rattle.gt_queue.specs.Contents.{waiting_in}
+use Rattle.gt_schedule.specs.declared.scheduler.Scheduler.{Scheduler}
+use Rattle.gt_schedule.specs.Schedule.{Schedule, plainly, in_hand, Served, RunsQueued, ReceivesParked}
+
+-- nobody sends so far
+abbrev pub nobody : List ℕ → List Party
+nobody waiting = []
+
+-- queue 0 is the run queue, and t + 1 has those that are parked at a receive from t
+abbrev pub schedule_of : Scheduler → Schedule
+schedule_of m = record {
+  statuses = m.statuses.items;
+  run_queue = waiting_in m.queues.queues 0;
+  receivers = map (map plainly) (drop 1 m.queues.queues);
+  senders = map nobody (drop 1 m.queues.queues);
+  parks = m.parks;
+}
+
+-- how many goroutines a scheduler has room for in all
+abbrev pub capacity : Scheduler → ℕ
+capacity m = length m.statuses.items + m.statuses.spare
+
+-- what a scheduler keeps: it counts those in hand, and has a member of the queues for each goroutine by its number
+pub record IsScheduler (m : Scheduler) : Type 0 where
+  pub running : m.running ≡ in_hand (schedule_of m)
+  pub members : m.queues.members ≡ capacity m + 1
+  pub queues : 0 < length m.queues.queues
+  pub few : capacity m + length m.queues.queues < 2 ^ 32 - 1
+  pub parks : m.parks ≤ 2 ^ 64 - 1
+
+-- the run queue has those that are queued, and the lists of receivers have those that are parked
+pub record IsOrderly (m : Schedule) : Type 0 where
+  pub queued : RunsQueued m
+  pub receivers : ReceivesParked m
+
+-- an entry can be made: its goroutine is where it has to be, and there is room for a new one
+pub record CanApply (m : Scheduler) (e : Entry) : Type 0 where
+  pub kept : IsScheduler m
+  pub orderly : IsOrderly (schedule_of m)
+  pub served : Served (schedule_of m) e
+  pub spare : length m.statuses.items < capacity m
