@@ -7,7 +7,6 @@ use Rattle.gt_schedule.specs.Schedule.{most_goroutines}
 use Rattle.gt_schedule.specs.Scheduler.{schedule_of, capacity, IsScheduler}
 use Rattle.gt_book.specs.View.{BookView, IsLawful}
 use Rattle.gt_machine.specs.Outcomes.{outcome_in}
-use Rattle.gt_book.specs.DueTimes.{AreTimes}
 
 abbrev pub seen : Inside → BookView
 seen b = record {
@@ -29,4 +28,3 @@ pub record HasRooms (b : Inside) : Type 0 where
 pub record IsKept (b : Inside) : Type 0 where
   pub lawful : IsLawful (seen b)
   pub rooms : HasRooms b
-  pub times : AreTimes b.limits.entries b.script (state_of b.machine) (schedule_of b.scheduler) b.due_times

@@ -1,12 +1,12 @@
--- The least time that counts, and whose it is.
-use Rattle.std.specs.Prelude.{ℕ, ◌≡◌, ◌≢◌, [], IsTrue, slice_get}
-use Rattle.std.specs.declared.option.Option.TheVariants.{Some}
-use Rattle.gt_rules.specs.State.{sleeps_until, due_of}
-use Rattle.gt_model.specs.Script.{is_func, is_timer}
-use Rattle.gt_model.specs.declared.entry.Party.{Party}
-use Rattle.gt_book.specs.declared.answers.Whose.{Whose}
+-- The times that count, by the number of the record that shows each.
+use Rattle.std.specs.Prelude.{ℕ, ◌-◌, ◌≡◌, ◌≢◌, cond, nat_lt, [], length}
+use Rattle.std.specs.declared.option.Option.{Option}
+use Rattle.std.specs.declared.option.Option.TheVariants.{None, Some}
+use Rattle.gt_model.specs.declared.script.Script.{Script}
+use Rattle.gt_rules.specs.State.{State, goroutine_at, timer_at}
+use Rattle.gt_rules.specs.Counted.{sleep_of, counted_timer}
 use Rattle.gt_schedule.specs.declared.status.RunStatus.{RunStatus}
-use Rattle.gt_schedule.specs.Schedule.{parties_at, status_of}
+use Rattle.gt_schedule.specs.Schedule.{status_of}
 use Rattle.gt_book.specs.View.{BookView}
 
 -- nobody is to be taken, and nobody is in a worker's hand
@@ -14,9 +14,9 @@ pub record NobodyRuns (b : BookView) : Type 0 where
   pub queue : b.schedule.run_queue ≡ []
   pub hands : (g : ℕ) → status_of b.schedule g ≢ Some RunStatus.InHand
 
--- whose time it is: of a sleep, of an AfterFunc timer that is set, or of a channel timer that is set and at which somebody waits
-abbrev pub IsTimeOf : BookView → ℕ → Whose → Type 0
-IsTimeOf b at (Whose.Sleep g) = sleeps_until b.state g ≡ Some at
-IsTimeOf b at (Whose.Func t) = IsTrue (is_func b.script t) × (due_of b.state t ≡ Some at)
-IsTimeOf b at (Whose.Timer t) =
-    IsTrue (is_timer b.script t) × (due_of b.state t ≡ Some at) × ((p : Party) × (slice_get (parties_at b.schedule.receivers t) 0 ≡ Some p))
+-- The time of the program that counts and that a record shows: the due time of a timer that counts, or the end of a goroutine's sleep. The records of the
+-- declarations have the first numbers, and those of sleeps the numbers behind them.
+abbrev pub counted_of : Script → State → ℕ → Option ℕ
+counted_of script s id =
+    cond (nat_lt id (length script.decls)) (counted_timer script s 0 (id, timer_at s id))
+    (elim (goroutine_at s (id - length script.decls)) [ None ↦ None | Some r ↦ sleep_of 0 r ])

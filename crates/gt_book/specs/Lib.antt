@@ -2,4 +2,3 @@ pub mod View
 pub mod Steps
 pub mod Book
 pub mod Least
-pub mod DueTimes

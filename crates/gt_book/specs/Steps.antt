@@ -17,7 +17,7 @@ use Rattle.gt_book.specs.declared.answers.Pick.{Pick}
 use Rattle.gt_book.specs.declared.answers.TimerOp.{TimerOp}
 use Rattle.gt_book.specs.declared.answers.Op.{Op}
 use Rattle.gt_book.specs.declared.answers.Commit.{Commit}
-use Rattle.gt_schedule.specs.Schedule.{Schedule, plainly, status_of, is_in_hand, is_parked, in_hand, taken, parked_at, Served}
+use Rattle.gt_schedule.specs.Schedule.{Schedule, plainly, status_of, is_in_hand, is_parked, in_hand, taken, parked_at, ticket_of, Served}
 use Rattle.gt_book.specs.View.{BookView, Enters, with_schedule, outcome_of, is_at_receive}
 
 -- an instruction without a panic
@@ -48,7 +48,8 @@ DidEnter new did = MatchOption (outcome_of new) (did ≡ Did.Entered) (λ outcom
 -- what a step does to the book, and answers
 abbrev pub Does : BookView → ℕ → Step → BookView → Did → Type 0
 Does old g (Step.Makes e) new did = Enters old e new × DidEnter new did
-Does old g (Step.Waits t) new did = (new ≡ with_schedule old (parked_at old.schedule (plainly g) t)) × (did ≡ Did.Parked)
+Does old g (Step.Waits t) new did =
+    (new ≡ with_schedule old (parked_at old.schedule (plainly g) t)) × (did ≡ Did.Timer (TimerOp.Enrolled (ticket_of old.schedule g)))
 Does old g (Step.Needs op) new did = (new ≡ old) × (did ≡ Did.Timer op)
 
 -- where the run has its outcome nothing changes

@@ -1,6 +1,7 @@
 //! What a book answers, and the operations that are committed to it.
 
 use gt_model::{Outcome, Party};
+use gt_schedule::Ticket;
 
 /// Which goroutine is to run next.
 #[derive(Clone, Copy)]
@@ -19,9 +20,7 @@ pub enum Pick {
 pub enum Did {
     /// Its instruction was entered, and the run goes on.
     Entered,
-    /// It waits.
-    Parked,
-    /// Nothing yet: its instruction needs a timer's record.
+    /// Nothing yet: its instruction needs a timer's record. Only `Enrolled` says that it waits already.
     Timer(TimerOp),
     /// The run has this outcome.
     Over(Outcome),
@@ -36,6 +35,8 @@ pub enum TimerOp {
     Reset { t: u32, d: u64 },
     /// To stop this timer.
     Stop(u32),
+    /// To be counted, under this ticket, among those that wait at its timers.
+    Enrolled(Ticket),
     /// To sleep for so many nanoseconds.
     Sleep(u64),
 }
@@ -96,24 +97,4 @@ pub enum Commit {
     Gone,
     /// The run has this outcome.
     Over(Outcome),
-}
-
-/// A time that will unblock somebody, and whose it is.
-#[derive(Clone, Copy)]
-pub struct Due {
-    /// The time, in nanoseconds.
-    pub at: u64,
-    /// Whom it will unblock.
-    pub whose: Whose,
-}
-
-/// Whose a time is.
-#[derive(Clone, Copy)]
-pub enum Whose {
-    /// This goroutine sleeps until then.
-    Sleep(u32),
-    /// This AfterFunc timer is due then.
-    Func(u32),
-    /// This channel timer is due then, and somebody waits at a receive from it.
-    Timer(u32),
 }

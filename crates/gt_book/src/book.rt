@@ -12,19 +12,20 @@ ghost use Rattle.gt_model.specs.declared.entry.Entry.{Entry};
 ghost use Rattle.gt_model.specs.declared.entry.Outcome.{Outcome};
 ghost use Rattle.gt_machine.specs.Places.{placed_at};
 ghost use Rattle.gt_schedule.specs.declared.status.RunStatus.{RunStatus};
-ghost use Rattle.gt_schedule.specs.Schedule.{parties_at, status_of, Served};
+ghost use Rattle.gt_schedule.specs.Counts.{times};
+ghost use Rattle.gt_schedule.specs.Schedule.{parties_at, status_of, marks_at, marked, unmarked, HasMarkRoom, given_back, in_hand, IsLive, Served};
 ghost use Rattle.gt_schedule.specs.Schedule as schedule;
-ghost use Rattle.gt_book.specs.Least.{NobodyRuns, IsTimeOf};
+ghost use Rattle.gt_book.specs.Least.{counted_of};
 ghost use Rattle.gt_book.specs.Steps.{Takes, Steps, step_of, MayCommit, Commits, is_gone, is_receiving, entry_of, Clocks};
-ghost use Rattle.gt_book.specs.View.{first_view, outcome_of, with_entries, Enters, IsLawful};
+ghost use Rattle.gt_book.specs.View.{first_view, outcome_of, with_entries, with_schedule, is_at_receive, Enters, IsLawful};
 
-use crate::answers::{Commit, Did, Due, Op, Pick, TimerOp};
-use crate::due_times::DueTimes;
+use crate::answers::{Commit, Did, Op, Pick, TimerOp};
+use crate::counted::least_counted;
 use crate::step::{Step, next_step};
 use gt_machine::Machine;
 use gt_model::{CAP, Entry, Instr, Limits, NoMemory, Outcome, Party, Script};
 use gt_room::Room;
-use gt_schedule::{RunStatus, Scheduler, most_goroutines};
+use gt_schedule::{RunStatus, Scheduler, Ticket, most_goroutines};
 use std::alloc::Global;
 use std::marker::Model;
 
@@ -39,7 +40,6 @@ pub struct Book {
     history: Room<Entry>,
     machine: Machine,
     scheduler: Scheduler,
-    due_times: DueTimes,
 }
 
 impl Model for Book {
@@ -65,14 +65,12 @@ impl Book {
         let history = Room::with_room(alloc, limits.entries as usize + 1).map_err(|_| NoMemory)?;
         let machine = Machine::begin(alloc, &script, limits.entries)?;
         let scheduler = Scheduler::begin(alloc, &script, limits)?;
-        let due_times = DueTimes::begin(alloc, &script, limits.entries)?;
         Ok(Book {
             script,
             limits,
             history,
             machine,
             scheduler,
-            due_times,
         })
     }
 
@@ -151,14 +149,55 @@ impl Book {
         self.scheduler.first_receiver(t)
     }
 
-    /// The least of the times that will unblock somebody, and whose it is; None where there is none.
-    pub fn least_counted(&self) -> Option<Due>
-        requires { NobodyRuns self.now }
+    /// The least of the times that will unblock somebody, and the number of a record that shows it; None where there is none. It looks at all
+    /// goroutines and declarations.
+    pub fn least_counted(&self) -> Option<(u64, u32)>
         ensures none { IsNone result ↔ (counted self.now.script self.now.state 0 ≡ []) }
-        ensures least { IfSome result (λ due. least (counted self.now.script self.now.state 0) ≡ Some due.at) }
-        ensures whose { IfSome result (λ due. IsTimeOf self.now due.at due.whose) }
+        ensures least { IfSome result (λ found. least (counted self.now.script self.now.state 0) ≡ Some found.0) }
+        ensures whose { IfSome result (λ found. counted_of self.now.script self.now.state found.1 ≡ Some found.0) }
     {
-        self.due_times.least(&self.script)
+        least_counted(&self.machine, &self.script)
+    }
+
+    /// Whether the goroutine of a ticket is still parked as it was when it got it.
+    pub fn live(&self, ticket: Ticket) -> bool
+        ensures { IsTrue result ↔ IsLive self.now.schedule ticket }
+    {
+        self.scheduler.is_live(ticket)
+    }
+
+    /// Marks a goroutine that is parked at a receive from timer `t` as one that the timer's record counts. It has no mark so far.
+    pub fn mark_blocked(&mut self, ticket: Ticket, t: u32)
+        requires live { IsLive self.old.schedule ticket }
+        requires waits { IsTrue (is_at_receive self.old.script self.old.state (schedule.plainly ticket.g) t) }
+        requires room { HasMarkRoom self.old.schedule ticket.g }
+        ensures { self.new ≡ with_schedule self.old (marked self.old.schedule ticket.g t) }
+    {
+        self.scheduler.mark_blocked(ticket.g, t);
+    }
+
+    /// The timer of a goroutine's earliest mark, or None where it has no mark.
+    pub fn next_blocked(&self, g: u32) -> Option<u32>
+        ensures { result ≡ slice_get (marks_at self.now.schedule g) 0 }
+    {
+        self.scheduler.next_blocked(g)
+    }
+
+    /// Takes one mark of timer `t` away from a goroutine.
+    pub fn unmark_blocked(&mut self, g: u32, t: u32)
+        requires { 0 < times t (marks_at self.old.schedule g) }
+        ensures { self.new ≡ with_schedule self.old (unmarked self.old.schedule g t) }
+    {
+        self.scheduler.unmark_blocked(g, t);
+    }
+
+    /// Whoever is in a worker's hand goes to the end of the run queue, in the order of their numbers. The answer is how many they are. It looks at all
+    /// goroutines.
+    pub fn give_back(&mut self) -> u64
+        ensures count { result ≡ in_hand self.old.schedule }
+        ensures queue { self.new ≡ with_schedule self.old (given_back self.old.schedule) }
+    {
+        self.scheduler.give_back()
     }
 
     /// Takes the first of the run queue into the caller's hand, or answers how many are in workers' hands where the queue is empty.
@@ -188,10 +227,8 @@ impl Book {
                 self.outcome().map_or(Did::Entered, Did::Over)
             }
             Step::Waits(t) => {
-                self.scheduler.park_at(g, t);
-                self.due_times
-                    .follow_timer(&self.script, &self.machine, &self.scheduler, t);
-                Did::Parked
+                let ticket = self.scheduler.park_at(g, t);
+                Did::Timer(TimerOp::Enrolled(ticket))
             }
             Step::Needs(op) => Did::Timer(op),
         }
@@ -318,8 +355,6 @@ impl Book {
     {
         self.machine.apply(&self.script, &entry);
         self.scheduler.apply(&entry);
-        self.due_times
-            .follow(&self.script, &self.machine, &self.scheduler, &entry);
         self.history.put(entry);
         if let Some(outcome) = self.machine.due_outcome(self.limits) {
             self.machine.finish(outcome);

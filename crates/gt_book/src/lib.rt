@@ -3,8 +3,8 @@
 
 mod answers;
 mod book;
-mod due_times;
+mod counted;
 mod step;
 
-pub use answers::{Commit, Did, Due, Op, Pick, TimerOp, Whose};
+pub use answers::{Commit, Did, Op, Pick, TimerOp};
 pub use book::Book;

@@ -1,5 +1,5 @@
 -- Who runs, who is to run and who waits.
-use Rattle.std.specs.Prelude.{ℕ, ◌+◌, ◌-◌, ◌^◌, ◌==◌, ◌≡◌, IsTrue, Bool, true, false, not, ◌||◌, min, length, replicate, map, filter, List, [], ◌∷◌, ◌++◌, drop, set, slice_index_or, count_by}
+use Rattle.std.specs.Prelude.{ℕ, ◌+◌, ◌-◌, ◌^◌, ◌<◌, ◌==◌, ◌≡◌, cond, IsTrue, Bool, true, false, not, ◌||◌, min, length, replicate, map, filter, List, [], ◌∷◌, ◌++◌, drop, set, slice_index_or, count_by, sum_by}
 use Rattle.std.specs.declared.option.Option.{Option}
 use Rattle.std.specs.declared.option.Option.TheVariants.{None, Some}
 use Rattle.gt_model.specs.declared.script.Script.{Script}
@@ -20,6 +20,7 @@ pub record Schedule : Type 0 where
   pub receivers : List (List Party)  -- by declaration: the parties parked at a receive from it, the longest waiting first
   pub senders : List (List Party)  -- by declaration: the parties parked at a send to it, the longest waiting first
   pub parks : ℕ  -- how many times a goroutine was parked
+  pub marks : List (List ℕ)  -- by goroutine number, from 1: the timers whose records count it among those that wait there, the earliest first
 
 -- the greatest number of goroutines of a run: main's, and one for each entry
 abbrev pub most_goroutines : Limits → ℕ
@@ -48,6 +49,54 @@ is_parked _ = false
 abbrev pub IsLive : Schedule → Ticket → Type 0
 IsLive m ticket = status_of m ticket.g ≡ Some (RunStatus.Parked ticket.turn)
 
+-- the timers that have a goroutine marked, the earliest mark first
+abbrev pub marks_at : Schedule → ℕ → List ℕ
+marks_at m g = list_or_none (numbered m.marks g)
+  where
+    list_or_none : Option (List ℕ) → List ℕ
+    list_or_none None = []
+    list_or_none (Some ts) = ts
+
+-- how many marks a timer has
+abbrev pub mark_count : Schedule → ℕ → ℕ
+mark_count m t = sum_by (times t) m.marks
+
+-- a goroutine may get a mark: it has none, as a plain receive waits at one timer
+abbrev pub HasMarkRoom : Schedule → ℕ → Type 0
+HasMarkRoom m g = length (marks_at m g) < 1
+
+-- a goroutine gets a mark of a timer
+abbrev pub marked : Schedule → ℕ → ℕ → Schedule
+marked m g t = record m { marks = change_numbered m.marks g (λ ts. ts ++ t ∷ []) }
+
+-- the list without the first place of a number
+abbrev pub without_first : ℕ → List ℕ → List ℕ
+without_first t [] = []
+without_first t (x ∷ xs) = cond (x == t) xs (x ∷ without_first t xs)
+
+-- one mark of a timer is taken away from a goroutine
+abbrev pub unmarked : Schedule → ℕ → ℕ → Schedule
+unmarked m g t = record m { marks = change_numbered m.marks g (without_first t) }
+
+-- who was in a worker's hand is to be taken
+abbrev pub back_in_queue : RunStatus → RunStatus
+back_in_queue RunStatus.InHand = RunStatus.Queued
+back_in_queue RunStatus.Queued = RunStatus.Queued
+back_in_queue (RunStatus.Parked since) = RunStatus.Parked since
+back_in_queue RunStatus.Ended = RunStatus.Ended
+
+-- the goroutines in workers' hands, in the order of their numbers, where the first status is that of number g
+abbrev pub in_hands_from : ℕ → List RunStatus → List ℕ
+in_hands_from g [] = []
+in_hands_from g (status ∷ rest) = cond (is_in_hand (Some status)) (g ∷ in_hands_from (g + 1) rest) (in_hands_from (g + 1) rest)
+
+-- whoever is in a worker's hand goes to the end of the run queue
+abbrev pub given_back : Schedule → Schedule
+given_back m = record m {
+  statuses = map back_in_queue m.statuses;
+  run_queue = m.run_queue ++ in_hands_from 1 m.statuses;
+}
+
 -- how many goroutines are to run, and how many are in a worker's hand
 abbrev pub queued_count : Schedule → ℕ
 queued_count m = count_by (λ (status : RunStatus). is_queued (Some status)) m.statuses
@@ -75,6 +124,7 @@ first_schedule script = record {
   receivers = replicate (length script.decls) [];
   senders = replicate (length script.decls) [];
   parks = 0;
+  marks = [] ∷ [];
 }
 
 abbrev pub with_status : Schedule → ℕ → RunStatus → Schedule
@@ -96,6 +146,10 @@ parked m g = record m { statuses = change_numbered m.statuses g (λ _. RunStatus
 abbrev pub parked_at : Schedule → Party → ℕ → Schedule
 parked_at m p t = let next : Schedule = parked m p.g in record next { receivers = joins m.receivers t p }
 
+-- the ticket of a goroutine that is parked next
+abbrev pub ticket_of : Schedule → ℕ → Ticket
+ticket_of m g = record { g = g; turn = m.parks }
+
 -- a goroutine that waited goes to the end of the run queue, and waits nowhere any more. There is no other way out of a parking
 abbrev pub unparked : Schedule → ℕ → Schedule
 unparked m g = record m {
@@ -107,7 +161,11 @@ unparked m g = record m {
 
 -- a new goroutine, with the next number, is to be taken
 abbrev pub with_new : Schedule → Schedule
-with_new m = record m { statuses = m.statuses ++ RunStatus.Queued ∷ []; run_queue = m.run_queue ++ (length m.statuses + 1) ∷ [] }
+with_new m = record m {
+  statuses = m.statuses ++ RunStatus.Queued ∷ [];
+  run_queue = m.run_queue ++ (length m.statuses + 1) ∷ [];
+  marks = m.marks ++ [] ∷ [];
+}
 
 -- a goroutine that goes on is queued where it was parked
 abbrev pub gone_on : Schedule → ℕ → Bool → Schedule

@@ -1,5 +1,7 @@
 -- The schedule that a scheduler's fields mean, what its calls need, and what it keeps.
-use Rattle.std.specs.Prelude.{ℕ, ◌+◌, ◌-◌, ◌^◌, ◌<◌, ◌≤◌, ◌≡◌, List, [], length, map, drop}
+use Rattle.std.specs.Prelude.{ℕ, ◌+◌, ◌-◌, ◌^◌, ◌<◌, ◌≤◌, ◌≡◌, List, [], ◌∷◌, length, map, drop}
+use Rattle.std.specs.declared.option.Option.{Option}
+use Rattle.std.specs.declared.option.Option.TheVariants.{None, Some}
 use Rattle.gt_model.specs.declared.entry.Entry.{Entry}
 use Rattle.gt_model.specs.declared.entry.Party.{Party}
 use Rattle.gt_queue.specs.Contents.{waiting_in}
@@ -11,6 +13,11 @@ abbrev pub nobody : List ℕ → List Party
 nobody waiting = []
 
 -- queue 0 is the run queue, and t + 1 has those that are parked at a receive from t
+-- a goroutine has one mark at most
+abbrev pub mark_of : Option ℕ → List ℕ
+mark_of None = []
+mark_of (Some t) = t ∷ []
+
 abbrev pub schedule_of : Scheduler → Schedule
 schedule_of m = record {
   statuses = m.statuses.items;
@@ -18,6 +25,7 @@ schedule_of m = record {
   receivers = map (map plainly) (drop 1 m.queues.queues);
   senders = map nobody (drop 1 m.queues.queues);
   parks = m.parks;
+  marks = map mark_of m.marks.items;
 }
 
 -- how many goroutines a scheduler has room for in all
@@ -31,6 +39,9 @@ pub record IsScheduler (m : Scheduler) : Type 0 where
   pub queues : 0 < length m.queues.queues
   pub few : capacity m + length m.queues.queues < 2 ^ 32 - 1
   pub parks : m.parks ≤ 2 ^ 64 - 1
+  -- each goroutine has its place among the marks, and there is room for those to come
+  pub marks : length m.marks.items ≡ length m.statuses.items
+  pub mark_room : length m.marks.items + m.marks.spare ≡ capacity m
 
 -- the run queue has those that are queued, and the lists of receivers have those that are parked
 pub record IsOrderly (m : Schedule) : Type 0 where

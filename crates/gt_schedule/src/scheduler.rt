@@ -6,9 +6,10 @@ ghost use Rattle.gt_model.specs.Good.{IsGood, AreLimits};
 ghost use Rattle.gt_model.specs.Tables.{numbered, change_numbered};
 ghost use Rattle.gt_queue.specs.Contents.{waiting_in};
 ghost use Rattle.gt_rules.specs.Change.{change_of};
+ghost use Rattle.gt_schedule.specs.Counts.{times};
 ghost use Rattle.gt_schedule.specs.declared.status.RunStatus.{RunStatus};
 ghost use Rattle.gt_schedule.specs.Schedule as table;
-ghost use Rattle.gt_schedule.specs.Schedule.{first_schedule, status_of, with_status, with_new, parked, parked_at, unparked, taken, turned, scheduled, is_parked, parties_at, IsLive, RunsQueued, MayMove};
+ghost use Rattle.gt_schedule.specs.Schedule.{first_schedule, status_of, with_status, with_new, parked, parked_at, unparked, taken, turned, scheduled, is_parked, parties_at, ticket_of, marks_at, marked, unmarked, HasMarkRoom, given_back, in_hand, IsLive, RunsQueued, MayMove};
 ghost use Rattle.gt_schedule.specs.Scheduler.{schedule_of, capacity, IsScheduler, IsOrderly, CanApply};
 
 use crate::status::{RunStatus, Ticket};
@@ -32,6 +33,8 @@ pub struct Scheduler {
     pub parks: u64,
     /// How many goroutines are in a worker's hand.
     pub running: u64,
+    /// By goroutine, as `statuses`: the timer whose record counts it among those that wait there, if one does.
+    pub marks: Room<Option<u32>>,
 }
 
 /// The greatest number of goroutines of a run: main's, and one for each entry.
@@ -71,6 +74,8 @@ impl Scheduler {
         let most = most_goroutines(limits) as usize;
         let mut statuses = Room::with_room(alloc, most).map_err(|_| NoMemory)?;
         statuses.put(RunStatus::Queued);
+        let mut marks = Room::with_room(alloc, most).map_err(|_| NoMemory)?;
+        marks.put(None);
         let count = script.decls.as_slice().len() + 1;
         let mut queues = Queues::with_room(alloc, count, most + 1).map_err(|_| NoMemory)?;
         queues.enqueue(RUN_QUEUE, 1);
@@ -79,6 +84,7 @@ impl Scheduler {
             queues,
             parks: 0,
             running: 0,
+            marks,
         })
     }
 
@@ -114,18 +120,24 @@ impl Scheduler {
         self.running -= 1;
     }
 
-    /// A goroutine that was in hand waits at a receive from `t` from now on.
-    pub fn park_at(&mut self, g: u32, t: u32)
+    /// A goroutine that was in hand waits at a receive from `t` from now on. The answer is the ticket of this parking.
+    pub fn park_at(&mut self, g: u32, t: u32) -> Ticket
         requires kept { IsScheduler self.old }
         requires orderly { IsOrderly (schedule_of self.old) }
         requires in_hand { status_of (schedule_of self.old) g ≡ Some RunStatus.InHand }
         requires declared { t < length (schedule_of self.old).receivers }
+        ensures ticket { result ≡ ticket_of (schedule_of self.old) g }
         ensures schedule { schedule_of self.new ≡ parked_at (schedule_of self.old) (table.plainly g) t }
         ensures room { capacity self.new ≡ capacity self.old }
         ensures kept { IsScheduler self.new }
     {
+        let ticket = Ticket {
+            g,
+            turn: self.parks,
+        };
         self.park(g);
         self.queues.enqueue(t + 1, g);
+        ticket
     }
 
     /// The function of a goroutine that was in hand has ended.
@@ -186,6 +198,7 @@ impl Scheduler {
     {
         let child = self.statuses.len() as u32 + 1;
         self.statuses.put(RunStatus::Queued);
+        self.marks.put(None);
         self.queues.enqueue(RUN_QUEUE, child);
     }
 
@@ -202,6 +215,58 @@ impl Scheduler {
         if start_of(entry).is_some() {
             self.start();
         }
+    }
+
+    /// Marks a goroutine as one that the record of timer `t` counts among those that wait there.
+    pub fn mark_blocked(&mut self, g: u32, t: u32)
+        requires kept { IsScheduler self.old }
+        requires there { IsSome (numbered (schedule_of self.old).statuses g) }
+        requires room { HasMarkRoom (schedule_of self.old) g }
+        ensures schedule { schedule_of self.new ≡ marked (schedule_of self.old) g t }
+        ensures room { capacity self.new ≡ capacity self.old }
+        ensures kept { IsScheduler self.new }
+    {
+        self.marks.set(g as usize - 1, Some(t));
+    }
+
+    /// The timer of a goroutine's earliest mark, or None where it has no mark.
+    pub fn next_blocked(&self, g: u32) -> Option<u32>
+        ensures { result ≡ slice_get (marks_at (schedule_of self.now) g) 0 }
+    {
+        let place = (g as usize).checked_sub(1)?;
+        self.marks.as_slice().get(place).copied()?
+    }
+
+    /// Takes one mark of timer `t` away from a goroutine.
+    pub fn unmark_blocked(&mut self, g: u32, t: u32)
+        requires kept { IsScheduler self.old }
+        requires marked { 0 < times t (marks_at (schedule_of self.old) g) }
+        ensures schedule { schedule_of self.new ≡ unmarked (schedule_of self.old) g t }
+        ensures room { capacity self.new ≡ capacity self.old }
+        ensures kept { IsScheduler self.new }
+    {
+        self.marks.set(g as usize - 1, None);
+    }
+
+    /// Whoever is in a worker's hand goes to the end of the run queue, in the order of their numbers. The answer is how many they are. It looks at all
+    /// goroutines.
+    pub fn give_back(&mut self) -> u64
+        requires kept { IsScheduler self.old }
+        requires queued { RunsQueued (schedule_of self.old) }
+        ensures count { result ≡ in_hand (schedule_of self.old) }
+        ensures schedule { schedule_of self.new ≡ given_back (schedule_of self.old) }
+        ensures room { capacity self.new ≡ capacity self.old }
+        ensures kept { IsScheduler self.new }
+    {
+        let count = self.running;
+        for place in 0..self.statuses.len() {
+            if *self.statuses.at(place) == RunStatus::InHand {
+                self.statuses.set(place, RunStatus::Queued);
+                self.queues.enqueue(RUN_QUEUE, place as u32 + 1);
+            }
+        }
+        self.running = 0;
+        count
     }
 
     /// Where a goroutine is; None for a number that no goroutine has.

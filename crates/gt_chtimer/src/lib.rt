@@ -1,0 +1,2 @@
+//! The sections of timers with records: each changes a timer's record, the caller's heap and the book together, as one step.
+#![tactic(auto)]

@@ -1,0 +1,283 @@
+-- What each section makes of the parts that it is lent, and what it answers.
+use Rattle.std.specs.Prelude.{ℕ, zero, suc, ◌-◌, ◌≡◌, cond, if◌then◌else◌, nat_lt, Bool, true, false, ◌&&◌, is_some, MatchOption, length, slice_get}
+use Rattle.std.specs.declared.option.Option.{Option}
+use Rattle.std.specs.declared.option.Option.TheVariants.{None, Some}
+use Rattle.gt_model.specs.declared.script.Instr.{Instr}
+use Rattle.gt_model.specs.declared.entry.Entry.{Entry}
+use Rattle.gt_model.specs.declared.entry.Party.{Party}
+use Rattle.gt_model.specs.declared.entry.Outcome.{Outcome}
+use Rattle.gt_rules.specs.State.{State, clock, clock_of, stands_at, next_number}
+use Rattle.gt_rules.specs.Legal.{due_at}
+use Rattle.gt_rules.specs.After.{new_period}
+use Rattle.gt_rec.specs.declared.RecKind.{RecKind}
+use Rattle.gt_rec.specs.Rec.{Rec, shown, needs_heap, is_awaited}
+use Rattle.gt_rec.specs.Changes.{armed, disarmed, ended, received, taken, more_blocked, less_blocked}
+use Rattle.gt_lazy.specs.Slots.{LazyHeap, StandsAt, Scans}
+use Rattle.gt_lazy.specs.Running.{head_answer, head_run}
+use Rattle.gt_lazy.specs.declared.answer.Ran.{Ran}
+use Rattle.gt_schedule.specs.Schedule.{Schedule, plainly, parties_at, marked, unmarked, IsLive}
+use Rattle.gt_schedule.specs.declared.status.Ticket.{Ticket}
+use Rattle.gt_book.specs.declared.answers.TimerOp.{TimerOp}
+use Rattle.gt_book.specs.declared.step.Step.{Step}
+use Rattle.gt_book.specs.Steps.{step_of}
+use Rattle.gt_book.specs.View.{BookView, Enters, outcome_of, with_schedule}
+use Rattle.gt_rows.specs.declared.answers.SetDone.{SetDone}
+use Rattle.gt_rows.specs.declared.answers.StopDone.{StopDone}
+use Rattle.gt_rows.specs.declared.answers.BlockDone.{BlockDone}
+use Rattle.gt_rows.specs.declared.answers.Delivered.{Delivered}
+use Rattle.gt_rows.specs.declared.answers.HeadDone.{HeadDone}
+use Rattle.gt_rows.specs.Lent.{joins, Settles}
+
+-- a record and the book, as a section is lent them without a heap
+pub record Pair : Type 0 where
+  pub rec : Rec
+  pub book : BookView
+
+-- the same with the caller's heap
+pub record Parts : Type 0 where
+  pub heap : LazyHeap
+  pub rec : Rec
+  pub book : BookView
+
+-- where the run has its outcome nothing changes, and the answer says it
+abbrev pub UnlessOver : {Done : Type 0} → BookView → (Outcome → Done) → Done → Type 0 → Type 0 → Type 0
+UnlessOver b over done Same Row = MatchOption (outcome_of b) Row (λ outcome. (done ≡ over outcome) × Same)
+
+-- the answer of a section that entered: the run's outcome where it has one then
+abbrev pub Answers : {Done : Type 0} → BookView → (Outcome → Done) → Done → Done → Type 0
+Answers b over done answer = MatchOption (outcome_of b) (done ≡ answer) (λ outcome. done ≡ over outcome)
+
+-- what a goroutine does next
+abbrev pub next_of : BookView → ℕ → Option Step
+next_of b g = step_of b.script b.state b.schedule g
+
+-- ---- setting a timer, and falling asleep
+
+-- the timer that an instruction sets
+abbrev pub sets : Instr → Option ℕ
+sets (Instr.New t d) = Some t
+sets (Instr.Reset t d) = Some t
+sets (Instr.Say n) = None
+sets Instr.Now = None
+sets (Instr.Sleep d) = None
+sets (Instr.Go f) = None
+sets (Instr.Stop t) = None
+sets (Instr.Recv o) = None
+sets Instr.Finish = None
+
+-- a goroutine stands at an instruction that sets this timer
+abbrev pub SetsAt : BookView → ℕ → ℕ → Type 0
+SetsAt b g t = elim (stands_at b.script b.state g) [ None ↦ ⊥ | Some i ↦ sets i ≡ Some t ]
+
+-- the heap that has to be told of a due time, where it has the record under a later one
+abbrev pub note_of : Rec → ℕ → ℕ → Option ℕ
+note_of r due period = elim r.heaped [ None ↦ None | Some q ↦ cond (needs_heap (armed r due period) && nat_lt due r.key) (Some q) None ]
+
+abbrev pub told_answer : ℕ → Option ℕ → SetDone
+told_answer due None = SetDone.Done
+told_answer due (Some q) = SetDone.Note q due
+
+abbrev pub set_answer : Rec → ℕ → ℕ → SetDone
+set_answer r due period = cond (joins (armed r due period)) (SetDone.Lower due) (told_answer due (note_of r due period))
+
+-- a new setting with its entry: the record is armed, and joins the heap where it needs one and is in none
+pub record Arms (old : Parts) (e : Entry) (due period : ℕ) (new : Parts) (done : SetDone) : Type 0 where
+  pub entered : Enters old.book e new.book
+  pub place : Settles old.heap (armed old.rec due period) new.heap new.rec (joins (armed old.rec due period))
+  pub answer : Answers new.book SetDone.Over done (set_answer old.rec due period)
+
+-- an entry that touches neither record nor heap
+pub record OnlyEnters (old : Parts) (e : Entry) (new : Parts) (done : SetDone) : Type 0 where
+  pub entered : Enters old.book e new.book
+  pub heap : new.heap ≡ old.heap
+  pub rec : new.rec ≡ old.rec
+  pub answer : Answers new.book SetDone.Over done SetDone.Done
+
+abbrev pub SetsBy : Parts → ℕ → Parts → SetDone → Option Step → Type 0
+SetsBy old g new done (Some (Step.Needs (TimerOp.New t d))) =
+    let due : ℕ = due_at (clock_of old.book.state g) d
+    in Arms old (Entry.New g t due) due (new_period old.book.script old.book.state g t) new done
+SetsBy old g new done (Some (Step.Needs (TimerOp.Reset t d))) =
+    let due : ℕ = due_at (clock_of old.book.state g) d
+    in Arms old (Entry.Reset g t (Some (is_some (shown old.rec))) due) due (new_period old.book.script old.book.state g t) new done
+SetsBy old g new done (Some (Step.Makes e)) = OnlyEnters old e new done
+SetsBy old g new done (Some (Step.Needs (TimerOp.Stop t))) = ⊥
+SetsBy old g new done (Some (Step.Needs (TimerOp.Enrolled ticket))) = ⊥
+SetsBy old g new done (Some (Step.Needs (TimerOp.Sleep d))) = ⊥
+SetsBy old g new done (Some (Step.Waits t)) = ⊥
+SetsBy old g new done None = ⊥
+
+-- `new` or `reset` of g, or its panic
+abbrev pub SetRow : Parts → ℕ → Parts → SetDone → Type 0
+SetRow old g new done = UnlessOver old.book SetDone.Over done (new ≡ old) (SetsBy old g new done (next_of old.book g))
+
+-- whether an instruction sleeps for a while
+abbrev pub sleeps : Instr → Bool
+sleeps (Instr.Sleep zero) = false
+sleeps (Instr.Sleep (suc d)) = true
+sleeps (Instr.Say n) = false
+sleeps Instr.Now = false
+sleeps (Instr.Go f) = false
+sleeps (Instr.New t d) = false
+sleeps (Instr.Stop t) = false
+sleeps (Instr.Reset t d) = false
+sleeps (Instr.Recv o) = false
+sleeps Instr.Finish = false
+
+-- a goroutine stands at a `sleep` of some time, and the record is that of its sleep
+pub record SleepsAt (b : BookView) (g id : ℕ) : Type 0 where
+  pub sleeps : elim (stands_at b.script b.state g) [ None ↦ ⊥ | Some i ↦ sleeps i ≡ true ]
+  pub its : id ≡ length b.script.decls + g
+
+abbrev pub SleepsBy : Parts → ℕ → Parts → SetDone → Option Step → Type 0
+SleepsBy old g new done (Some (Step.Needs (TimerOp.Sleep d))) =
+    let until : ℕ = due_at (clock_of old.book.state g) d in Arms old (Entry.Sleep g (Some until)) until 0 new done
+SleepsBy old g new done (Some (Step.Needs (TimerOp.New t d))) = ⊥
+SleepsBy old g new done (Some (Step.Needs (TimerOp.Reset t d))) = ⊥
+SleepsBy old g new done (Some (Step.Needs (TimerOp.Stop t))) = ⊥
+SleepsBy old g new done (Some (Step.Needs (TimerOp.Enrolled ticket))) = ⊥
+SleepsBy old g new done (Some (Step.Makes e)) = ⊥
+SleepsBy old g new done (Some (Step.Waits t)) = ⊥
+SleepsBy old g new done None = ⊥
+
+abbrev pub SleepRow : Parts → ℕ → Parts → SetDone → Type 0
+SleepRow old g new done = UnlessOver old.book SetDone.Over done (new ≡ old) (SleepsBy old g new done (next_of old.book g))
+
+-- ---- stopping a timer
+
+-- the timer that an instruction stops
+abbrev pub stops : Instr → Option ℕ
+stops (Instr.Stop t) = Some t
+stops (Instr.New t d) = None
+stops (Instr.Reset t d) = None
+stops (Instr.Say n) = None
+stops Instr.Now = None
+stops (Instr.Sleep d) = None
+stops (Instr.Go f) = None
+stops (Instr.Recv o) = None
+stops Instr.Finish = None
+
+-- a goroutine stands at a `stop` of this timer
+abbrev pub StopsAt : BookView → ℕ → ℕ → Type 0
+StopsAt b g t = elim (stands_at b.script b.state g) [ None ↦ ⊥ | Some i ↦ stops i ≡ Some t ]
+
+-- an entry, with what becomes of the record
+pub record Stops (old : Pair) (e : Entry) (r : Rec) (new : Pair) (done : StopDone) : Type 0 where
+  pub entered : Enters old.book e new.book
+  pub rec : new.rec ≡ r
+  pub answer : Answers new.book StopDone.Over done StopDone.Done
+
+abbrev pub StopsBy : Pair → ℕ → Pair → StopDone → Option Step → Type 0
+StopsBy old g new done (Some (Step.Needs (TimerOp.Stop t))) = Stops old (Entry.Stop g t (Some (is_some (shown old.rec)))) (disarmed old.rec) new done
+StopsBy old g new done (Some (Step.Makes e)) = Stops old e old.rec new done
+StopsBy old g new done (Some (Step.Needs (TimerOp.New t d))) = ⊥
+StopsBy old g new done (Some (Step.Needs (TimerOp.Reset t d))) = ⊥
+StopsBy old g new done (Some (Step.Needs (TimerOp.Enrolled ticket))) = ⊥
+StopsBy old g new done (Some (Step.Needs (TimerOp.Sleep d))) = ⊥
+StopsBy old g new done (Some (Step.Waits t)) = ⊥
+StopsBy old g new done None = ⊥
+
+-- `stop` of g, or its panic
+abbrev pub StopRow : Pair → ℕ → Pair → StopDone → Type 0
+StopRow old g new done = UnlessOver old.book StopDone.Over done (new ≡ old) (StopsBy old g new done (next_of old.book g))
+
+-- ---- waiting at a timer
+
+-- the due time under which a record joins the heap, where it does
+abbrev pub lower_of : Rec → Option ℕ
+lower_of r = cond (joins r) r.when None
+
+-- the goroutine receives at once
+pub record ReceivesAtOnce (old : Parts) (g due : ℕ) (next : Option ℕ) (new : Parts) (done : BlockDone) : Type 0 where
+  pub entered : Enters old.book (Entry.TRecv (plainly g) old.rec.id due next) new.book
+  pub rec : new.rec ≡ taken old.rec next
+  pub heap : new.heap ≡ old.heap
+  pub answer : Answers new.book BlockDone.Over done BlockDone.Received
+
+-- the goroutine is counted among those that wait at the timer, and has its mark
+pub record Blocks (old : Parts) (g : ℕ) (new : Parts) (done : BlockDone) : Type 0 where
+  pub book : new.book ≡ with_schedule old.book (marked old.book.schedule g old.rec.id)
+  pub place : Settles old.heap (more_blocked old.rec) new.heap new.rec (joins (more_blocked old.rec))
+  pub answer : done ≡ BlockDone.Blocked (lower_of (more_blocked old.rec))
+
+abbrev pub BlocksBy : Parts → ℕ → Parts → BlockDone → Option (ℕ × Option ℕ) → Type 0
+BlocksBy old g new done (Some got) = ReceivesAtOnce old g got.0 got.1 new done
+BlocksBy old g new done None = Blocks old g new done
+
+pub record BlockCases (old : Parts) (ticket : Ticket) (new : Parts) (done : BlockDone) : Type 0 where
+  pub live : IsLive old.book.schedule ticket → BlocksBy old ticket.g new done (received old.rec (clock old.book.state 0))
+  pub gone : ¬ IsLive old.book.schedule ticket → (done ≡ BlockDone.Gone) × (new ≡ old)
+
+-- a goroutine that was parked with this ticket, and whose record this is
+abbrev pub BlockRow : Parts → Ticket → Parts → BlockDone → Type 0
+BlockRow old ticket new done = UnlessOver old.book BlockDone.Over done (new ≡ old) (BlockCases old ticket new done)
+
+-- a mark is taken away, and one goroutine fewer is counted
+abbrev pub UnblockRow : Pair → ℕ → Pair → Type 0
+UnblockRow old g new =
+    (new.book ≡ with_schedule old.book (unmarked old.book.schedule g old.rec.id))
+    × (new.rec ≡ (if nat_lt 0 old.rec.blocked then less_blocked old.rec else old.rec))
+
+-- ---- the end of a send
+
+-- somebody waits, and receives the value that was sent
+pub record Gives (old : Pair) (r : Rec) (p : Party) (due : ℕ) (next : Option ℕ) (new : Pair) (done : Delivered) : Type 0 where
+  pub entered : Enters old.book (Entry.TRecv p r.id due next) new.book
+  pub rec : new.rec ≡ taken r next
+  pub answer : Answers new.book Delivered.Over done (Delivered.Given p)
+
+-- the value stands ready
+pub record StaysReady (old : Pair) (r : Rec) (new : Pair) (done : Delivered) : Type 0 where
+  pub book : new.book ≡ old.book
+  pub rec : new.rec ≡ r
+  pub answer : done ≡ Delivered.Kept
+
+-- by the party that waits longest there, and by what a receive would take at this clock
+abbrev pub DeliversTo : Pair → Rec → Pair → Delivered → Option Party → Option (ℕ × Option ℕ) → Type 0
+DeliversTo old r new done (Some p) (Some got) = Gives old r p got.0 got.1 new done
+DeliversTo old r new done (Some p) None = StaysReady old r new done
+DeliversTo old r new done None o = StaysReady old r new done
+
+-- by whether the send of this number may still bring its value
+abbrev pub DeliversBy : Pair → ℕ → Pair → Delivered → Bool → Type 0
+DeliversBy old seq new done true =
+    DeliversTo old (ended old.rec seq) new done (slice_get (parties_at old.book.schedule.receivers old.rec.id) 0)
+    (received (ended old.rec seq) (clock old.book.state 0))
+DeliversBy old seq new done false = (done ≡ Delivered.Dropped) × (new ≡ old)
+
+abbrev pub DeliverRow : Pair → ℕ → Pair → Delivered → Type 0
+DeliverRow old seq new done = UnlessOver old.book Delivered.Over done (new ≡ old) (DeliversBy old seq new done (is_awaited old.rec seq))
+
+-- ---- the head of a heap
+
+-- record and heap are those after the head was run or cleaned, and the book is as it was
+pub record Runs (old new : Parts) (done answer : HeadDone) : Type 0 where
+  pub book : new.book ≡ old.book
+  pub rec : new.rec ≡ head_run old.rec (clock old.book.state 0)
+  pub scans : Scans old.heap new.heap 0 old.rec new.rec
+  pub answer : done ≡ answer
+
+-- the same with an entry
+pub record Fires (old : Parts) (e : Entry) (new : Parts) (done : HeadDone) : Type 0 where
+  pub entered : Enters old.book e new.book
+  pub rec : new.rec ≡ head_run old.rec (clock old.book.state 0)
+  pub scans : Scans old.heap new.heap 0 old.rec new.rec
+  pub answer : Answers new.book HeadDone.Over done HeadDone.Fired
+
+-- what fired, by its kind. There are no deadlines so far
+abbrev pub FiresAs : Parts → ℕ → Parts → HeadDone → RecKind → Type 0
+FiresAs old seq new done RecKind.Timer = Runs old new done (HeadDone.Send seq)
+FiresAs old seq new done RecKind.Ticker = Runs old new done (HeadDone.Send seq)
+FiresAs old seq new done RecKind.Func = Fires old (Entry.FireFunc old.rec.id (next_number old.book.state)) new done
+FiresAs old seq new done RecKind.Sleep = Fires old (Entry.Wake (old.rec.id - length old.book.script.decls)) new done
+FiresAs old seq new done RecKind.Deadline = ⊥
+
+-- what came of the head, by what running it answers
+abbrev pub HeadBy : Parts → Parts → HeadDone → Ran → Type 0
+HeadBy old new done (Ran.NotDue key) = (done ≡ HeadDone.Later key) × (new ≡ old)
+HeadBy old new done Ran.Stale = Runs old new done HeadDone.Stale
+HeadBy old new done Ran.Dropped = Runs old new done HeadDone.Dropped
+HeadBy old new done (Ran.Fired due seq next) = FiresAs old seq new done old.rec.kind
+
+abbrev pub HeadRow : Parts → Parts → HeadDone → Type 0
+HeadRow old new done = UnlessOver old.book HeadDone.Over done (new ≡ old) (HeadBy old new done (head_answer old.rec (clock old.book.state 0)))

@@ -1,0 +1,6 @@
+//! What the sections do that change a timer's record, its heap and the book together, as definitions, and what they answer.
+#![tactic(auto)]
+
+mod answers;
+
+pub use answers::{BlockDone, Delivered, HeadDone, SetDone, StopDone};

@@ -1,0 +1,2 @@
+//! The run of a script on one worker, one whole call at a time.
+#![tactic(auto)]
