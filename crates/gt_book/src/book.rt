@@ -191,15 +191,6 @@ impl Book {
         self.scheduler.unmark_blocked(g, t);
     }
 
-    /// Whoever is in a worker's hand goes to the end of the run queue, in the order of their numbers. The answer is how many they are. It looks at all
-    /// goroutines.
-    pub fn give_back(&mut self) -> u64
-        ensures count { result ≡ in_hand self.old.schedule }
-        ensures queue { self.new ≡ with_schedule self.old (given_back self.old.schedule) }
-    {
-        self.scheduler.give_back()
-    }
-
     /// Takes the first of the run queue into the caller's hand, or answers how many are in workers' hands where the queue is empty.
     pub fn take_ready(&mut self) -> Pick
         ensures { Takes self.old result self.new }

@@ -110,6 +110,7 @@ pub record Marks (m n : Scheduler) (g : ℕ) (was status : RunStatus) : Type 0 w
   pub queues : length n.queues.queues ≡ length m.queues.queues
   pub running : n.running + as_number (is_in_hand (Some was)) ≡ m.running + as_number (is_in_hand (Some status))
   pub parks : m.parks ≤ 2 ^ 64 - 1 → n.parks ≤ 2 ^ 64 - 1
+  pub marks : n.marks ≡ m.marks
 
 pub room-marks : (old new : Contents RunStatus) (g : ℕ) (status : RunStatus) → new.items ≡ change_numbered old.items g (λ _. status) → new.spare ≡ old.spare
     → length new.items + new.spare ≡ length old.items + old.spare
@@ -134,4 +135,6 @@ kept-marks m n g was status marks h =
       queues = omega arith;
       few = omega arith;
       parks = marks.parks h.parks;
+      marks = ap (λ (r : Contents (Option ℕ)). length r.items) marks.marks ∙ (h.marks ∙ sym (ap length marks.items ∙ length-change_numbered m.statuses.items g (λ _. status)));
+      mark_room = ap (λ (r : Contents (Option ℕ)). length r.items + r.spare) marks.marks ∙ (h.mark_room ∙ sym room);
     }

@@ -13,16 +13,19 @@ use Rattle.gt_schedule.specs.declared.status.RunStatus.{RunStatus}
 use Rattle.gt_schedule.specs.declared.scheduler.Scheduler.{Scheduler}
 use Rattle.gt_schedule.specs.Counts.{as_number, times, often}
 use Rattle.gt_schedule.specs.Schedule.{Schedule, plainly, status_of, first_schedule, is_parked, is_queued, parties_at, without_goroutine, joins, unparked, RunsQueued}
-use Rattle.gt_schedule.specs.Scheduler.{schedule_of, nobody, IsScheduler, IsOrderly}
+use Rattle.gt_schedule.specs.Scheduler.{schedule_of, nobody, mark_of, IsScheduler, IsOrderly}
+use Rattle.gt_room.specs.Contents.{Contents}
 use Rattle.gt_schedule.proofs.Lists.{times-contains, often-plain}
 
-pub schedule-is : (m n : Schedule) → m.statuses ≡ n.statuses → m.run_queue ≡ n.run_queue → m.receivers ≡ n.receivers → m.senders ≡ n.senders → m.parks ≡ n.parks → m ≡ n
-schedule-is m n statuses run receivers senders parks =
-    ap (λ x. record { statuses = x; run_queue = m.run_queue; receivers = m.receivers; senders = m.senders; parks = m.parks }) statuses
-    ∙ (ap (λ x. record { statuses = n.statuses; run_queue = x; receivers = m.receivers; senders = m.senders; parks = m.parks }) run
-    ∙ (ap (λ x. record { statuses = n.statuses; run_queue = n.run_queue; receivers = x; senders = m.senders; parks = m.parks }) receivers
-    ∙ (ap (λ x. record { statuses = n.statuses; run_queue = n.run_queue; receivers = n.receivers; senders = x; parks = m.parks }) senders
-    ∙ ap (λ x. record { statuses = n.statuses; run_queue = n.run_queue; receivers = n.receivers; senders = n.senders; parks = x }) parks)))
+pub schedule-is : (m n : Schedule) → m.statuses ≡ n.statuses → m.run_queue ≡ n.run_queue → m.receivers ≡ n.receivers → m.senders ≡ n.senders → m.parks ≡ n.parks
+    → m.marks ≡ n.marks → m ≡ n
+schedule-is m n statuses run receivers senders parks marks =
+    ap (λ x. record m { statuses = x }) statuses
+    ∙ (ap (λ x. record m { statuses = n.statuses; run_queue = x }) run
+    ∙ (ap (λ x. record m { statuses = n.statuses; run_queue = n.run_queue; receivers = x }) receivers
+    ∙ (ap (λ x. record m { statuses = n.statuses; run_queue = n.run_queue; receivers = n.receivers; senders = x }) senders
+    ∙ (ap (λ x. record m { statuses = n.statuses; run_queue = n.run_queue; receivers = n.receivers; senders = n.senders; parks = x }) parks
+    ∙ ap (λ x. record m { statuses = n.statuses; run_queue = n.run_queue; receivers = n.receivers; senders = n.senders; parks = n.parks; marks = x }) marks))))
 
 -- ---- who waits in the queues
 
@@ -95,10 +98,10 @@ nobody-set (q ∷ qs) zero xs = refl
 nobody-set (q ∷ qs) (suc t) xs = ap (λ ys. [] ∷ ys) (nobody-set qs t xs)
 
 -- a goroutine joins those at t
-pub joined-is : (m n : Scheduler) (s : Schedule) (g t : ℕ) → schedule_of m ≡ s → n.statuses ≡ m.statuses → n.parks ≡ m.parks
+pub joined-is : (m n : Scheduler) (s : Schedule) (g t : ℕ) → schedule_of m ≡ s → n.statuses ≡ m.statuses → n.parks ≡ m.parks → n.marks ≡ m.marks
     → n.queues.queues ≡ set m.queues.queues (t + 1) (waiting_in m.queues.queues (t + 1) ++ g ∷ [])
     → schedule_of n ≡ record s { receivers = joins s.receivers t (plainly g) }
-joined-is m n s g t is statuses parks queues =
+joined-is m n s g t is statuses parks marks queues =
     let qs : List (List ℕ) = m.queues.queues in
     let next : t + 1 ≡ suc t = omega arith in
     let now : n.queues.queues ≡ set qs (suc t) (waiting_in qs (suc t) ++ g ∷ []) = queues ∙ ap (λ k. set qs k (waiting_in qs k ++ g ∷ [])) next in
@@ -111,6 +114,7 @@ joined-is m n s g t is statuses parks queues =
     ∙ ap (set (map (map plainly) (drop 1 qs)) t) (plain-push (waiting_in qs (suc t)) g ∙ ap (λ ys. ys ++ plainly g ∷ []) (sym (parties-behind qs t)))))
     (ap (map nobody) behind ∙ nobody-set (drop 1 qs) t (waiting_in qs (suc t) ++ g ∷ []))
     parks
+    (ap (λ (r : Contents (Option ℕ)). map mark_of r.items) marks)
     ∙ ap (λ (x : Schedule). record x { receivers = joins x.receivers t (plainly g) }) is
 
 -- ---- a goroutine leaves all queues, and joins the run queue
@@ -143,10 +147,10 @@ parked-unqueued (Some (RunStatus.Parked since)) h = refl
 parked-unqueued (Some RunStatus.Ended) h = cc
 
 pub unparked-is : (m n : Scheduler) (g : ℕ) → IsScheduler m → RunsQueued (schedule_of m) → is_parked (status_of (schedule_of m) g) ≡ true
-    → n.statuses.items ≡ change_numbered m.statuses.items g (λ _. RunStatus.Queued) → n.parks ≡ m.parks
+    → n.statuses.items ≡ change_numbered m.statuses.items g (λ _. RunStatus.Queued) → n.parks ≡ m.parks → n.marks ≡ m.marks
     → n.queues.queues ≡ set (map (λ waiting. without waiting g) m.queues.queues) 0 (waiting_in (map (λ waiting. without waiting g) m.queues.queues) 0 ++ g ∷ [])
     → schedule_of n ≡ unparked (schedule_of m) g
-unparked-is m n g kept runs waits statuses parks queues =
+unparked-is m n g kept runs waits statuses parks marks queues =
     let qs : List (List ℕ) = m.queues.queues in
     let left : List (List ℕ) = map (λ waiting. without waiting g) qs in
     let none : times g (waiting_in qs 0) ≡ 0 = runs g ∙ ap as_number (parked-unqueued (status_of (schedule_of m) g) waits) in
@@ -163,6 +167,7 @@ unparked-is m n g kept runs waits statuses parks queues =
     (ap (map (map plainly)) behind ∙ plain-left g (drop 1 qs))
     (ap (map nobody) behind ∙ nobody-left g (drop 1 qs))
     parks
+    (ap (λ (r : Contents (Option ℕ)). map mark_of r.items) marks)
 
 -- ---- the first schedule
 
@@ -175,8 +180,8 @@ nobody-nothing zero = refl
 nobody-nothing (suc n) = ap (λ xs. [] ∷ xs) (nobody-nothing n)
 
 pub begun-is : (m : Scheduler) (script : Script) (made : List (List ℕ)) → m.statuses.items ≡ RunStatus.Queued ∷ [] → made ≡ replicate (length script.decls + 1) []
-    → m.queues.queues ≡ set made 0 (waiting_in made 0 ++ 1 ∷ []) → m.parks ≡ 0 → schedule_of m ≡ first_schedule script
-begun-is m script made statuses empty queues parks =
+    → m.queues.queues ≡ set made 0 (waiting_in made 0 ++ 1 ∷ []) → m.parks ≡ 0 → m.marks.items ≡ None ∷ [] → schedule_of m ≡ first_schedule script
+begun-is m script made statuses empty queues parks marks =
     let next : length script.decls + 1 ≡ suc (length script.decls) = omega arith in
     let all : made ≡ [] ∷ replicate (length script.decls) [] = empty ∙ ap (λ k. replicate k []) next in
     let now : m.queues.queues ≡ (1 ∷ []) ∷ replicate (length script.decls) [] = queues ∙ ap (λ q. set q 0 (waiting_in q 0 ++ 1 ∷ [])) all in
@@ -186,6 +191,7 @@ begun-is m script made statuses empty queues parks =
     (ap (λ q. map (map plainly) (drop 1 q)) now ∙ plain-nothing (length script.decls))
     (ap (λ q. map nobody (drop 1 q)) now ∙ nobody-nothing (length script.decls))
     parks
+    (ap (map mark_of) marks)
 
 -- ---- the first of those at a declaration
 

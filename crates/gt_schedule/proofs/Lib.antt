@@ -2,3 +2,4 @@ pub mod Lists
 pub mod Counting
 pub mod Keeping
 pub mod Moving
+pub mod Marks

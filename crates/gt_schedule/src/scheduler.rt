@@ -234,7 +234,10 @@ impl Scheduler {
         ensures { result ≡ slice_get (marks_at (schedule_of self.now) g) 0 }
     {
         let place = (g as usize).checked_sub(1)?;
-        self.marks.as_slice().get(place).copied()?
+        match self.marks.as_slice().get(place) {
+            Some(mark) => *mark,
+            None => None,
+        }
     }
 
     /// Takes one mark of timer `t` away from a goroutine.
@@ -246,27 +249,6 @@ impl Scheduler {
         ensures kept { IsScheduler self.new }
     {
         self.marks.set(g as usize - 1, None);
-    }
-
-    /// Whoever is in a worker's hand goes to the end of the run queue, in the order of their numbers. The answer is how many they are. It looks at all
-    /// goroutines.
-    pub fn give_back(&mut self) -> u64
-        requires kept { IsScheduler self.old }
-        requires queued { RunsQueued (schedule_of self.old) }
-        ensures count { result ≡ in_hand (schedule_of self.old) }
-        ensures schedule { schedule_of self.new ≡ given_back (schedule_of self.old) }
-        ensures room { capacity self.new ≡ capacity self.old }
-        ensures kept { IsScheduler self.new }
-    {
-        let count = self.running;
-        for place in 0..self.statuses.len() {
-            if *self.statuses.at(place) == RunStatus::InHand {
-                self.statuses.set(place, RunStatus::Queued);
-                self.queues.enqueue(RUN_QUEUE, place as u32 + 1);
-            }
-        }
-        self.running = 0;
-        count
     }
 
     /// Where a goroutine is; None for a number that no goroutine has.

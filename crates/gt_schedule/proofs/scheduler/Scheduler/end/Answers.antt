@@ -20,4 +20,5 @@ returns-clause-kept c =
       queues = refl;
       running = omega arith;
       parks = λ h. h;
+      marks = refl;
     }) c.requires.kept

@@ -20,4 +20,5 @@ returns-clause-kept c =
       queues = refl;
       running = omega arith;
       parks = λ h. omega arith;
+      marks = refl;
     }) c.requires.kept

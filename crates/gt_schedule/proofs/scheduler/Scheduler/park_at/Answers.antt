@@ -11,4 +11,4 @@ enqueue-requires-clause-free c =
 
 pub returns-clause-schedule : goal.returns-clause-schedule
 returns-clause-schedule c =
-    joined-is c.park.new.self (record c.park.new.self { queues = c.enqueue.new.self }) (parked (schedule_of c.args.self.now) c.args.g) c.args.g c.args.t c.park.ensures.schedule refl refl c.enqueue.ensures.queues
+    joined-is c.park.new.self (record c.park.new.self { queues = c.enqueue.new.self }) (parked (schedule_of c.args.self.now) c.args.g) c.args.g c.args.t c.park.ensures.schedule refl refl refl c.enqueue.ensures.queues

@@ -23,4 +23,5 @@ returns-clause-kept c =
       queues = ap length c.dequeue.ensures.queues ∙ length-set m.queues.queues 0 _;
       running = omega arith;
       parks = λ h. h;
+      marks = λ i. m.marks;
     }) c.requires.kept
