@@ -1,5 +1,5 @@
 -- A book that began, and a book that took an entry, keep what a book keeps.
-use Rattle.std.proofs.Common.{◌≡◌, ℕ, zero, suc, ◌+◌, ◌<◌, ◌≤◌, List, [], ◌∷◌, ◌++◌, refl, sym, ap, subst, ◌∙◌, arith, append_assoc, Option, None, Some, length, length-append, is_some}
+use Rattle.std.proofs.Common.{◌≡◌, zero, suc, ◌+◌, ◌<◌, ◌≤◌, List, [], ◌∷◌, ◌++◌, refl, sym, ap, subst, ◌∙◌, arith, append_assoc, Option, None, Some, length, length-append, is_some}
 use Rattle.gt_model.specs.declared.script.Script.{Script}
 use Rattle.gt_model.specs.declared.entry.Entry.{Entry}
 use Rattle.gt_model.specs.declared.entry.Limits.{Limits}
@@ -18,13 +18,9 @@ use Rattle.gt_schedule.specs.declared.scheduler.Scheduler.{Scheduler}
 use Rattle.gt_machine.specs.Machine.{state_of}
 use Rattle.gt_rules.specs.Change.{change_of}
 use Rattle.gt_schedule.specs.Counts.{as_number}
-use Rattle.gt_schedule.specs.Schedule.{Schedule, first_schedule, most_goroutines, scheduled, Served}
-use Rattle.gt_book.specs.declared.due_times.DueTimes.{DueTimes}
-use Rattle.gt_book.specs.DueTimes.{followed, CanFollow, AreTimes}
-use Rattle.gt_tournament.specs.Keys.{key_of}
-use Rattle.gt_book.proofs.EntryTimes.{Reaches, reaches-May, can_follow-reaches, times-entered, times-finished, times-first}
+use Rattle.gt_schedule.specs.Schedule.{first_schedule, most_goroutines, scheduled, Served}
 use Rattle.gt_schedule.specs.Scheduler.{schedule_of, capacity, IsScheduler, CanApply}
-use Rattle.gt_book.specs.View.{BookView, IsLawful, Fits, Enters, first_view, with_entries, outcome_of}
+use Rattle.gt_book.specs.View.{BookView, IsLawful, Enters, first_view, with_entries, outcome_of}
 use Rattle.gt_machine.specs.Outcomes.{outcome_in, due_outcome}
 use Rattle.gt_book.specs.Book.{seen, HasRooms, IsKept}
 use Rattle.gt_book.proofs.Entering.{IsEntered, entered_by, running-none, lawful-goes_on, lawful-finishes, enters-finishes, enters-goes_on, IsCounted, counted-May}
@@ -61,9 +57,8 @@ seen-is b v script limits history state schedule =
 -- a book as it begins
 pub begun-kept : (b : Inside) → IsGood b.script → AreLimits b.limits → b.history.items ≡ [] → b.history.spare ≡ b.limits.entries + 1
     → state_of b.machine ≡ first_state b.script → b.machine.goroutines.spare ≡ b.limits.entries → schedule_of b.scheduler ≡ first_schedule b.script
-    → capacity b.scheduler ≡ most_goroutines b.limits → IsScheduler b.scheduler → b.due_times.declarations ≡ length b.script.decls → length b.script.decls + b.limits.entries + 2 ≤ length b.due_times.times
-    → ((slot : ℕ) → key_of b.due_times.times slot ≡ None) → IsKept b
-begun-kept b good are empty spare state room schedule places kept slots long none_due =
+    → capacity b.scheduler ≡ most_goroutines b.limits → IsScheduler b.scheduler → IsKept b
+begun-kept b good are empty spare state room schedule places kept =
     let is : seen b ≡ first_view b.script b.limits = seen-is b (first_view b.script b.limits) refl refl empty state schedule in
     let none : length b.history.items ≡ 0 = ap length empty in
     let one : length b.machine.goroutines.items ≡ 1 = ap (λ (s : State). length s.goroutines) state in
@@ -72,9 +67,6 @@ begun-kept b good are empty spare state room schedule places kept slots long non
     record {
       lawful = subst IsLawful (sym is) (lawful-first b.script b.limits good are);
       rooms = record { history = omega arith; goroutines = omega arith; schedule = places; scheduler = kept; entries = omega arith };
-      times = subst (λ (s : State). AreTimes b.limits.entries b.script s (schedule_of b.scheduler) b.due_times) (sym state)
-          (subst (λ m. AreTimes b.limits.entries b.script (first_state b.script) m b.due_times) (sym schedule)
-          (times-first b.limits.entries b.script b.due_times slots long none_due));
     }
 
 -- a book in which an entry may come
@@ -123,14 +115,12 @@ can_enter-room b e can =
     omega arith
 
 -- the parts of a book after an entry
-pub record Applied (b : Inside) (e : Entry) (machine : Machine) (scheduler : Scheduler) (due : DueTimes) (history : Contents Entry) : Type 0 where
+pub record Applied (b : Inside) (e : Entry) (machine : Machine) (scheduler : Scheduler) (history : Contents Entry) : Type 0 where
   pub state : state_of machine ≡ after b.script (state_of b.machine) e
   pub goroutines : length machine.goroutines.items + machine.goroutines.spare ≡ length b.machine.goroutines.items + b.machine.goroutines.spare
   pub schedule : schedule_of scheduler ≡ scheduled (schedule_of b.scheduler) e
   pub places : capacity scheduler ≡ capacity b.scheduler
   pub kept : IsScheduler scheduler
-  pub declarations : due.declarations ≡ b.due_times.declarations
-  pub times : due.times ≡ followed b.due_times.declarations b.script (state_of machine) (schedule_of scheduler) e b.due_times.times
   pub items : history.items ≡ b.history.items ++ e ∷ []
   pub spare : history.spare + 1 ≡ b.history.spare
 
@@ -141,8 +131,8 @@ pub record Finished (script : Script) (outcome : Outcome) (old : Machine) (befor
   pub items : history.items ≡ before.items ++ Entry.Finish outcome ∷ []
   pub spare : history.spare + 1 ≡ before.spare
 
-abbrev pub with_parts : Inside → Machine → Scheduler → DueTimes → Contents Entry → Inside
-with_parts b machine scheduler times history = record { script = b.script; limits = b.limits; history = history; machine = machine; scheduler = scheduler; due_times = times }
+abbrev pub with_parts : Inside → Machine → Scheduler → Contents Entry → Inside
+with_parts b machine scheduler history = record { script = b.script; limits = b.limits; history = history; machine = machine; scheduler = scheduler }
 
 entered : (b : Inside) (e : Entry) → CanEnter b e → IsEntered (seen b) e
 entered b e can =
@@ -150,44 +140,15 @@ entered b e can =
     (fits-entered b.script (state_of b.machine) (schedule_of b.scheduler) e can.kept.lawful.fits can.served)
     (calm-changed b.script (state_of b.machine) (schedule_of b.scheduler) (change_of e) can.kept.lawful.fits can.served (can.kept.lawful.calm can.running))
 
--- what the times need, and what they are then
-pub few-goroutines : (b : Inside) → IsKept b → length b.machine.goroutines.items ≤ b.limits.entries + 1
-few-goroutines b kept =
-    let room : length b.machine.goroutines.items + b.machine.goroutines.spare ≡ b.limits.entries + 1 = kept.rooms.goroutines in omega arith
-
-reaches-entry : (b : Inside) (e : Entry) → CanEnter b e → Reaches b.limits.entries b.script e
-reaches-entry b e can =
-    reaches-May b.limits.entries b.script (state_of b.machine) e can.kept.lawful.good can.kept.lawful.formed (few-goroutines b can.kept) can.may
-
-pub can_enter-follows : (b : Inside) (e : Entry) (scheduler : Scheduler) → CanEnter b e → schedule_of scheduler ≡ scheduled (schedule_of b.scheduler) e → IsScheduler scheduler
-    → CanFollow b.due_times scheduler e
-can_enter-follows b e scheduler can is kept =
-    let fits : Fits b.script (after b.script (state_of b.machine) e) (scheduled (schedule_of b.scheduler) e) =
-    fits-entered b.script (state_of b.machine) (schedule_of b.scheduler) e can.kept.lawful.fits can.served in
-    let receivers : length (schedule_of scheduler).receivers ≡ length b.script.decls = ap (λ (m : Schedule). length m.receivers) is ∙ fits.receivers in
-    can_follow-reaches b.limits.entries b.script b.due_times scheduler e can.kept.times.declarations can.kept.times.room can.kept.lawful.limits.most can.kept.lawful.good.few_names receivers kept
-    (reaches-entry b e can)
-
-times-applied : (b : Inside) (e : Entry) (machine : Machine) (scheduler : Scheduler) (times : DueTimes) (history : Contents Entry) → CanEnter b e
-    → Applied b e machine scheduler times history → AreTimes b.limits.entries b.script (state_of machine) (schedule_of scheduler) times
-times-applied b e machine scheduler times history can done =
-    let later : times.times ≡ followed b.due_times.declarations b.script (after b.script (state_of b.machine) e) (scheduled (schedule_of b.scheduler) e) e b.due_times.times =
-    done.times
-    ∙ (ap (λ (s : State). followed b.due_times.declarations b.script s (schedule_of scheduler) e b.due_times.times) done.state
-    ∙ ap (λ (m : Schedule). followed b.due_times.declarations b.script (after b.script (state_of b.machine) e) m e b.due_times.times) done.schedule) in
-    subst (λ (s : State). AreTimes b.limits.entries b.script s (schedule_of scheduler) times) (sym done.state)
-    (subst (λ (m : Schedule). AreTimes b.limits.entries b.script (after b.script (state_of b.machine) e) m times) (sym done.schedule)
-    (times-entered b.limits.entries b.script (state_of b.machine) (schedule_of b.scheduler) e b.due_times times can.kept.times can.kept.lawful.fits can.may (reaches-entry b e can) later done.declarations))
-
 -- where the run goes on
-seen-applied : (b : Inside) (e : Entry) (machine : Machine) (scheduler : Scheduler) (times : DueTimes) (history : Contents Entry) → Applied b e machine scheduler times history
-    → seen (with_parts b machine scheduler times history) ≡ with_entries (seen b) (e ∷ [])
-seen-applied b e machine scheduler times history done =
-    seen-is (with_parts b machine scheduler times history) (with_entries (seen b) (e ∷ [])) refl refl done.items done.state done.schedule
+seen-applied : (b : Inside) (e : Entry) (machine : Machine) (scheduler : Scheduler) (history : Contents Entry) → Applied b e machine scheduler history
+    → seen (with_parts b machine scheduler history) ≡ with_entries (seen b) (e ∷ [])
+seen-applied b e machine scheduler history done =
+    seen-is (with_parts b machine scheduler history) (with_entries (seen b) (e ∷ [])) refl refl done.items done.state done.schedule
 
-due-applied : (b : Inside) (e : Entry) (machine : Machine) (scheduler : Scheduler) (times : DueTimes) (history : Contents Entry) (o : Option Outcome) → Applied b e machine scheduler times history
+due-applied : (b : Inside) (e : Entry) (machine : Machine) (scheduler : Scheduler) (history : Contents Entry) (o : Option Outcome) → Applied b e machine scheduler history
     → due_outcome b.limits (state_of machine) ≡ o → due_outcome b.limits (after b.script (state_of b.machine) e) ≡ o
-due-applied b e machine scheduler times history o done due = ap (due_outcome b.limits) (sym done.state) ∙ due
+due-applied b e machine scheduler history o done due = ap (due_outcome b.limits) (sym done.state) ∙ due
 
 unfinished-none : (ending : Ending) → ((outcome : Outcome) → ending ≡ Ending.Finished outcome → ⊥) → outcome_in ending ≡ None
 unfinished-none Ending.Running h = refl
@@ -195,9 +156,9 @@ unfinished-none Ending.MainEnded h = refl
 unfinished-none Ending.Panicked h = refl
 unfinished-none (Ending.Finished outcome) h = absurd (h outcome refl)
 
-none-applied : (b : Inside) (e : Entry) (machine : Machine) (scheduler : Scheduler) (times : DueTimes) (history : Contents Entry) → CanEnter b e → Applied b e machine scheduler times history
+none-applied : (b : Inside) (e : Entry) (machine : Machine) (scheduler : Scheduler) (history : Contents Entry) → CanEnter b e → Applied b e machine scheduler history
     → outcome_in machine.ending ≡ None
-none-applied b e machine scheduler times history can done =
+none-applied b e machine scheduler history can done =
     let same : machine.ending ≡ (after b.script (state_of b.machine) e).ending = ap (λ (s : State). s.ending) done.state in
     unfinished-none machine.ending (λ outcome is. (entered b e can).unfinished outcome (sym same ∙ is))
 
@@ -206,9 +167,9 @@ record CountsMore (b : Inside) (machine : Machine) (history : Contents Entry) : 
   pub entries : machine.entries ≡ b.machine.entries + 1
   pub items : length history.items ≡ machine.entries
 
-counts-more : (b : Inside) (e : Entry) (machine : Machine) (scheduler : Scheduler) (times : DueTimes) (history : Contents Entry) → CanEnter b e → Applied b e machine scheduler times history
+counts-more : (b : Inside) (e : Entry) (machine : Machine) (scheduler : Scheduler) (history : Contents Entry) → CanEnter b e → Applied b e machine scheduler history
     → CountsMore b machine history
-counts-more b e machine scheduler times history can done =
+counts-more b e machine scheduler history can done =
     let counted : IsCounted b.script (state_of b.machine) e = counted-May b.script (state_of b.machine) e can.may in
     let entries : machine.entries ≡ b.machine.entries + 1 = ap (λ (s : State). s.entries) done.state ∙ counted.more in
     let none : as_number (is_some (outcome_in b.machine.ending)) ≡ 0 = ap (λ (o : Option Outcome). as_number (is_some o)) can.running in
@@ -216,16 +177,16 @@ counts-more b e machine scheduler times history can done =
     let longer : length history.items ≡ length b.history.items + 1 = ap length done.items ∙ length-append b.history.items (e ∷ []) in
     record { entries = entries; items = omega arith }
 
-rooms-applied : (b : Inside) (e : Entry) (machine : Machine) (scheduler : Scheduler) (times : DueTimes) (history : Contents Entry) → CanEnter b e → Applied b e machine scheduler times history
-    → HasRooms (with_parts b machine scheduler times history)
-rooms-applied b e machine scheduler times history can done =
-    let more : CountsMore b machine history = counts-more b e machine scheduler times history can done in
+rooms-applied : (b : Inside) (e : Entry) (machine : Machine) (scheduler : Scheduler) (history : Contents Entry) → CanEnter b e → Applied b e machine scheduler history
+    → HasRooms (with_parts b machine scheduler history)
+rooms-applied b e machine scheduler history can done =
+    let more : CountsMore b machine history = counts-more b e machine scheduler history can done in
     let longer : length history.items ≡ machine.entries = more.items in
     let before : length b.history.items + b.history.spare ≡ b.limits.entries + 1 = can.kept.rooms.history in
     let spare : history.spare + 1 ≡ b.history.spare = done.spare in
     let grows : length history.items ≡ length b.history.items + 1 = ap length done.items ∙ length-append b.history.items (e ∷ []) in
     let none : as_number (is_some (outcome_in machine.ending)) ≡ 0 =
-    ap (λ (o : Option Outcome). as_number (is_some o)) (none-applied b e machine scheduler times history can done) in
+    ap (λ (o : Option Outcome). as_number (is_some o)) (none-applied b e machine scheduler history can done) in
     record {
       history = omega arith;
       goroutines = done.goroutines ∙ can.kept.rooms.goroutines;
@@ -234,43 +195,42 @@ rooms-applied b e machine scheduler times history can done =
       entries = omega arith;
     }
 
-pub kept-applied : (b : Inside) (e : Entry) (machine : Machine) (scheduler : Scheduler) (times : DueTimes) (history : Contents Entry) → CanEnter b e
-    → Applied b e machine scheduler times history → due_outcome b.limits (state_of machine) ≡ None → IsKept (with_parts b machine scheduler times history)
-kept-applied b e machine scheduler times history can done none = record {
-  lawful = subst IsLawful (sym (seen-applied b e machine scheduler times history done))
-      (lawful-goes_on (seen b) e (entered b e can) (due-applied b e machine scheduler times history None done none));
-  rooms = rooms-applied b e machine scheduler times history can done;
-  times = times-applied b e machine scheduler times history can done;
+pub kept-applied : (b : Inside) (e : Entry) (machine : Machine) (scheduler : Scheduler) (history : Contents Entry) → CanEnter b e
+    → Applied b e machine scheduler history → due_outcome b.limits (state_of machine) ≡ None → IsKept (with_parts b machine scheduler history)
+kept-applied b e machine scheduler history can done none = record {
+  lawful = subst IsLawful (sym (seen-applied b e machine scheduler history done))
+      (lawful-goes_on (seen b) e (entered b e can) (due-applied b e machine scheduler history None done none));
+  rooms = rooms-applied b e machine scheduler history can done;
 }
 
-pub enters-applied : (b : Inside) (e : Entry) (machine : Machine) (scheduler : Scheduler) (times : DueTimes) (history : Contents Entry) → CanEnter b e
-    → Applied b e machine scheduler times history → due_outcome b.limits (state_of machine) ≡ None → Enters (seen b) e (seen (with_parts b machine scheduler times history))
-enters-applied b e machine scheduler times history can done none =
-    subst (Enters (seen b) e) (sym (seen-applied b e machine scheduler times history done))
-    (enters-goes_on (seen b) e (entered b e can) (due-applied b e machine scheduler times history None done none))
+pub enters-applied : (b : Inside) (e : Entry) (machine : Machine) (scheduler : Scheduler) (history : Contents Entry) → CanEnter b e
+    → Applied b e machine scheduler history → due_outcome b.limits (state_of machine) ≡ None → Enters (seen b) e (seen (with_parts b machine scheduler history))
+enters-applied b e machine scheduler history can done none =
+    subst (Enters (seen b) e) (sym (seen-applied b e machine scheduler history done))
+    (enters-goes_on (seen b) e (entered b e can) (due-applied b e machine scheduler history None done none))
 
 -- where the run has its outcome then
-seen-finished : (b : Inside) (e : Entry) (outcome : Outcome) (m : Machine) (scheduler : Scheduler) (times : DueTimes) (h : Contents Entry) (machine : Machine) (history : Contents Entry)
-    → Applied b e m scheduler times h → Finished b.script outcome m h machine history
-    → seen (with_parts b machine scheduler times history) ≡ with_entries (seen b) (e ∷ Entry.Finish outcome ∷ [])
-seen-finished b e outcome m scheduler times h machine history done ends =
+seen-finished : (b : Inside) (e : Entry) (outcome : Outcome) (m : Machine) (scheduler : Scheduler) (h : Contents Entry) (machine : Machine) (history : Contents Entry)
+    → Applied b e m scheduler h → Finished b.script outcome m h machine history
+    → seen (with_parts b machine scheduler history) ≡ with_entries (seen b) (e ∷ Entry.Finish outcome ∷ [])
+seen-finished b e outcome m scheduler h machine history done ends =
     let state : state_of machine ≡ after b.script (after b.script (state_of b.machine) e) (Entry.Finish outcome) =
     ends.state ∙ ap (λ (s : State). after b.script s (Entry.Finish outcome)) done.state in
     let items : history.items ≡ b.history.items ++ e ∷ Entry.Finish outcome ∷ [] =
     ends.items ∙ ap (λ (xs : List Entry). xs ++ Entry.Finish outcome ∷ []) done.items ∙ append_assoc b.history.items (e ∷ []) (Entry.Finish outcome ∷ []) in
-    seen-is (with_parts b machine scheduler times history) (with_entries (seen b) (e ∷ Entry.Finish outcome ∷ [])) refl refl items state done.schedule
+    seen-is (with_parts b machine scheduler history) (with_entries (seen b) (e ∷ Entry.Finish outcome ∷ [])) refl refl items state done.schedule
 
-pub enters-finished : (b : Inside) (e : Entry) (outcome : Outcome) (m : Machine) (scheduler : Scheduler) (times : DueTimes) (h : Contents Entry) (machine : Machine) (history : Contents Entry)
-    → CanEnter b e → Applied b e m scheduler times h → due_outcome b.limits (state_of m) ≡ Some outcome → Finished b.script outcome m h machine history
-    → Enters (seen b) e (seen (with_parts b machine scheduler times history))
-enters-finished b e outcome m scheduler times h machine history can done due ends =
-    subst (Enters (seen b) e) (sym (seen-finished b e outcome m scheduler times h machine history done ends))
-    (enters-finishes (seen b) e outcome (entered b e can) (due-applied b e m scheduler times h (Some outcome) done due))
+pub enters-finished : (b : Inside) (e : Entry) (outcome : Outcome) (m : Machine) (scheduler : Scheduler) (h : Contents Entry) (machine : Machine) (history : Contents Entry)
+    → CanEnter b e → Applied b e m scheduler h → due_outcome b.limits (state_of m) ≡ Some outcome → Finished b.script outcome m h machine history
+    → Enters (seen b) e (seen (with_parts b machine scheduler history))
+enters-finished b e outcome m scheduler h machine history can done due ends =
+    subst (Enters (seen b) e) (sym (seen-finished b e outcome m scheduler h machine history done ends))
+    (enters-finishes (seen b) e outcome (entered b e can) (due-applied b e m scheduler h (Some outcome) done due))
 
 -- the rooms after a finish
-pub finished-rooms : (b : Inside) (scheduler : Scheduler) (times : DueTimes) (m : Machine) (h : Contents Entry) (outcome : Outcome) (machine : Machine) (history : Contents Entry)
-    → HasRooms (with_parts b m scheduler times h) → outcome_in m.ending ≡ None → Finished b.script outcome m h machine history → HasRooms (with_parts b machine scheduler times history)
-finished-rooms b scheduler times m h outcome machine history before none ends =
+pub finished-rooms : (b : Inside) (scheduler : Scheduler) (m : Machine) (h : Contents Entry) (outcome : Outcome) (machine : Machine) (history : Contents Entry)
+    → HasRooms (with_parts b m scheduler h) → outcome_in m.ending ≡ None → Finished b.script outcome m h machine history → HasRooms (with_parts b machine scheduler history)
+finished-rooms b scheduler m h outcome machine history before none ends =
     let unfinished : as_number (is_some (outcome_in m.ending)) ≡ 0 = ap (λ (o : Option Outcome). as_number (is_some o)) none in
     let count : length h.items ≡ m.entries + as_number (is_some (outcome_in m.ending)) = before.entries in
     let same : machine.entries ≡ m.entries + 0 = ap (λ (s : State). s.entries) ends.state in
@@ -283,12 +243,11 @@ finished-rooms b scheduler times m h outcome machine history before none ends =
     ap (λ (r : Contents _). length r.items + r.spare) ends.goroutines ∙ before.goroutines in
     record { history = omega arith; goroutines = goroutines; schedule = before.schedule; scheduler = before.scheduler; entries = omega arith }
 
-pub kept-finished : (b : Inside) (e : Entry) (outcome : Outcome) (m : Machine) (scheduler : Scheduler) (times : DueTimes) (h : Contents Entry) (machine : Machine) (history : Contents Entry)
-    → CanEnter b e → Applied b e m scheduler times h → due_outcome b.limits (state_of m) ≡ Some outcome → Finished b.script outcome m h machine history
-    → IsKept (with_parts b machine scheduler times history)
-kept-finished b e outcome m scheduler times h machine history can done due ends = record {
-  lawful = subst IsLawful (sym (seen-finished b e outcome m scheduler times h machine history done ends))
-      (lawful-finishes (seen b) e outcome (entered b e can) (due-applied b e m scheduler times h (Some outcome) done due));
-  rooms = finished-rooms b scheduler times m h outcome machine history (rooms-applied b e m scheduler times h can done) (none-applied b e m scheduler times h can done) ends;
-  times = times-finished b.limits.entries b.script (state_of m) (state_of machine) (schedule_of scheduler) outcome times ends.state (times-applied b e m scheduler times h can done);
+pub kept-finished : (b : Inside) (e : Entry) (outcome : Outcome) (m : Machine) (scheduler : Scheduler) (h : Contents Entry) (machine : Machine) (history : Contents Entry)
+    → CanEnter b e → Applied b e m scheduler h → due_outcome b.limits (state_of m) ≡ Some outcome → Finished b.script outcome m h machine history
+    → IsKept (with_parts b machine scheduler history)
+kept-finished b e outcome m scheduler h machine history can done due ends = record {
+  lawful = subst IsLawful (sym (seen-finished b e outcome m scheduler h machine history done ends))
+      (lawful-finishes (seen b) e outcome (entered b e can) (due-applied b e m scheduler h (Some outcome) done due));
+  rooms = finished-rooms b scheduler m h outcome machine history (rooms-applied b e m scheduler h can done) (none-applied b e m scheduler h can done) ends;
 }

@@ -1,5 +1,5 @@
 -- What an operation needs that is committed while the run goes on.
-use Rattle.std.proofs.lemmas.Bool.{eqb-true}
+use Rattle.std.proofs.lemmas.Bool.{eqb-true, le-leb}
 use Rattle.std.proofs.Common.{◌≡◌, eqb, IsSomeAnd, ℕ, zero, suc, ◌+◌, ◌<◌, ◌≤◌, min, length, refl, sym, ap, subst, ◌∙◌, slice_get, Option, None, Some, Bool, true, false, not, ◌&&◌, ◌||◌, IsTrue, is_some, is_none}
 use Rattle.gt_model.specs.Times.{greatest_time}
 use Rattle.gt_model.specs.declared.script.Script.{Script}
@@ -7,7 +7,9 @@ use Rattle.gt_model.specs.declared.script.Instr.{Instr}
 use Rattle.gt_model.specs.declared.entry.Outcome.{Outcome}
 use Rattle.gt_model.specs.declared.entry.Reason.{Reason}
 use Rattle.gt_rules.specs.State.{State, goroutine_at, timer_at, stands, stands_at, clock, clock_of, due_of, sleeps_until}
-use Rattle.gt_model.specs.Script.{is_timer}
+use Rattle.gt_model.specs.Script.{is_timer, is_func}
+use Rattle.gt_model.specs.declared.state.Timer.{Timer}
+use Rattle.gt_rules.specs.Ready.{is_due}
 use Rattle.gt_rules.specs.Panics.{fault, fault_at, panic_of, panic_at, when}
 use Rattle.gt_rules.specs.Legal.{Does, Receives, operation, operation_at, due_at, sleep_end}
 use Rattle.gt_model.specs.declared.entry.Party.{Party}
@@ -15,10 +17,8 @@ use Rattle.gt_schedule.specs.declared.status.RunStatus.{RunStatus}
 use Rattle.gt_book.specs.declared.step.Step.{Step}
 use Rattle.gt_book.specs.declared.answers.Op.{Op}
 use Rattle.gt_book.specs.declared.answers.TimerOp.{TimerOp}
-use Rattle.gt_book.specs.declared.answers.Whose.{Whose}
 use Rattle.gt_schedule.specs.Schedule.{Schedule, status_of, is_in_hand, is_parked, parties_at}
 use Rattle.gt_book.specs.Steps.{step_of, step_or_panic, step_of_instr, is_receiving, is_late, is_gone, MayCommit}
-use Rattle.gt_book.specs.Least.{IsTimeOf}
 use Rattle.gt_book.specs.View.{BookView, IsLawful, outcome_of, is_parked_at, is_at_receive}
 use Rattle.gt_facts.proofs.Within.{timer_within}
 use Rattle.gt_facts.proofs.Lookups.{Asleep, sleeper, AtOperation, at_operation}
@@ -82,15 +82,11 @@ parked-goes o h = either (is_in_hand o) (is_parked o) h
     either true b h = refl
     either false b h = h
 
-pub may-receive : (b : BookView) (t at : ℕ) (p : Party) → IsLawful b → outcome_of b ≡ None → IsTimeOf b at (Whose.Timer t) → at ≤ clock b.state 0
-    → slice_get (parties_at b.schedule.receivers t) 0 ≡ Some p
+-- who is parked at a receive from a timer may receive its tick that has come
+pub may-receive : (b : BookView) (t at : ℕ) (p : Party) → IsLawful b → outcome_of b ≡ None → IsTrue (is_timer b.script t) → due_of b.state t ≡ Some at
+    → at ≤ clock b.state 0 → is_parked_at b.script b.state b.schedule p t ≡ true
     → MayCommit b (Op.TRecv p t at None) × (is_gone b (Op.TRecv p t at None) ≡ false)
-may-receive b t at p lawful running time due first =
-    let timer : IsTrue (is_timer b.script t) = time.0 in
-    let set : due_of b.state t ≡ Some at = time.1 in
-    let below : t < length b.state.timers = timer_within b.script b.state t lawful.formed timer in
-    let declared : t < length b.script.decls = subst (λ (n : ℕ). t < n) lawful.formed.timers below in
-    let parked : is_parked_at b.script b.state b.schedule p t ≡ true = first-waiting b.script b.state b.schedule p t lawful.fits declared first in
+may-receive b t at p lawful running timer set due parked =
     let waits : is_parked (status_of b.schedule p.g) ≡ true = left-true (is_parked (status_of b.schedule p.g)) (is_at_receive b.script b.state p t) parked in
     let there : is_at_receive b.script b.state p t ≡ true = right-true (is_parked (status_of b.schedule p.g)) (is_at_receive b.script b.state p t) parked in
     let stands : operation_at b.script b.state p ≡ Some t = at_receive-operation b.script b.state p t there in
@@ -104,8 +100,31 @@ may-receive b t at p lawful running time due first =
     let come : at ≤ clock_of b.state p.g = subst (λ now. at ≤ now) (sym (one_clock b p.g lawful)) due in
     (((receives, timer, set, come, refl), goes, tt), not_gone b (Op.TRecv p t at None) running (ap not receiving))
 
+-- who waits longest at a timer is parked there
+pub parked-first : (b : BookView) (t : ℕ) (p : Party) → IsLawful b → IsTrue (is_timer b.script t) → slice_get (parties_at b.schedule.receivers t) 0 ≡ Some p
+    → is_parked_at b.script b.state b.schedule p t ≡ true
+parked-first b t p lawful timer first =
+    let below : t < length b.state.timers = timer_within b.script b.state t lawful.formed timer in
+    let declared : t < length b.script.decls = subst (λ (n : ℕ). t < n) lawful.formed.timers below in
+    first-waiting b.script b.state b.schedule p t lawful.fits declared first
+
+-- an AfterFunc timer whose time has come may start its function
+pub may-fire : (b : BookView) (t at : ℕ) → IsLawful b → outcome_of b ≡ None → IsTrue (is_func b.script t) → due_of b.state t ≡ Some at → at ≤ clock b.state 0
+    → MayCommit b (Op.Fire t) × (is_gone b (Op.Fire t) ≡ false)
+may-fire b t at lawful running func set due =
+    let made : IsSomeAnd (timer_at b.state t) (λ (r : Timer). IsTrue (is_due r.due (clock b.state r.world))) = due-made (timer_at b.state t) refl set in
+    (((func, made, refl), tt, tt), not_gone b (Op.Fire t) running refl)
+  where
+    due-made : (o : Option Timer) → timer_at b.state t ≡ o → (elim o as (λ o. Option ℕ) [ None ↦ None | Some r ↦ r.due ]) ≡ Some at
+        → IsSomeAnd o (λ (r : Timer). IsTrue (is_due r.due (clock b.state r.world)))
+    due-made None e h = cc
+    due-made (Some r) e h =
+        let world : r.world ≡ 0 = lawful.formed.world.timers t r e in
+        subst (λ (w : ℕ). IsTrue (is_due r.due (clock b.state w))) (sym world)
+        (subst (λ (o : Option ℕ). IsTrue (is_due o (clock b.state 0))) (sym h) (le-leb at (clock b.state 0) due))
+
 -- who sleeps is parked, and wakes when its time has come
-pub may-wake : (b : BookView) (g at : ℕ) → IsLawful b → outcome_of b ≡ None → IsTimeOf b at (Whose.Sleep g) → at ≤ clock b.state 0
+pub may-wake : (b : BookView) (g at : ℕ) → IsLawful b → outcome_of b ≡ None → sleeps_until b.state g ≡ Some at → at ≤ clock b.state 0
     → MayCommit b (Op.Wake g) × (is_gone b (Op.Wake g) ≡ false)
 may-wake b g at lawful running time due =
     let come : at ≤ clock_of b.state g = subst (λ now. at ≤ now) (sym (one_clock b g lawful)) due in

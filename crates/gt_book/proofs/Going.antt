@@ -36,9 +36,6 @@ use Rattle.gt_room.specs.Contents.{Contents}
 use Rattle.gt_book.proofs.Books.{Finished, seen-is, finished-rooms}
 use Rattle.gt_book.proofs.Fitting.{Known, known, fits-taken, fits-changed}
 use Rattle.gt_facts.proofs.Within.{timer_within}
-use Rattle.gt_book.specs.declared.due_times.DueTimes.{DueTimes}
-use Rattle.gt_book.specs.DueTimes.{AreTimes}
-use Rattle.gt_book.proofs.EntryTimes.{times-taken, times-finished}
 
 -- ---- another schedule
 
@@ -54,29 +51,27 @@ lawful-scheduled v m lawful fits calm = record {
   calm = calm;
 }
 
-abbrev pub with_scheduler : Inside → Scheduler → DueTimes → Inside
-with_scheduler b m times = record { script = b.script; limits = b.limits; history = b.history; machine = b.machine; scheduler = m; due_times = times }
+abbrev pub with_scheduler : Inside → Scheduler → Inside
+with_scheduler b m = record { script = b.script; limits = b.limits; history = b.history; machine = b.machine; scheduler = m }
 
-pub kept-scheduled : (b : Inside) (m : Scheduler) (times : DueTimes) (schedule : Schedule) → IsKept b → schedule_of m ≡ schedule → Fits b.script (state_of b.machine) schedule
-    → (outcome_of (seen b) ≡ None → IsCalm b.script (state_of b.machine) schedule) → capacity m ≡ capacity b.scheduler → IsScheduler m → AreTimes b.limits.entries b.script (state_of b.machine) schedule times → IsKept (with_scheduler b m times)
-kept-scheduled b m times schedule kept is fits calm places scheduler are = record {
+pub kept-scheduled : (b : Inside) (m : Scheduler) (schedule : Schedule) → IsKept b → schedule_of m ≡ schedule → Fits b.script (state_of b.machine) schedule
+    → (outcome_of (seen b) ≡ None → IsCalm b.script (state_of b.machine) schedule) → capacity m ≡ capacity b.scheduler → IsScheduler m → IsKept (with_scheduler b m)
+kept-scheduled b m schedule kept is fits calm places scheduler = record {
   lawful = lawful-scheduled (seen b) (schedule_of m) kept.lawful (subst (Fits b.script (state_of b.machine)) (sym is) fits)
       (λ running. subst (IsCalm b.script (state_of b.machine)) (sym is) (calm running));
   rooms = record { history = kept.rooms.history; goroutines = kept.rooms.goroutines; schedule = places ∙ kept.rooms.schedule; scheduler = scheduler; entries = kept.rooms.entries };
-  times = subst (λ (m : Schedule). AreTimes b.limits.entries b.script (state_of b.machine) m times) (sym is) are;
 }
 
 -- a goroutine was taken, or none was
 pub kept-taken : (b : Inside) (m : Scheduler) (result : Option ℕ) → IsKept b → result ≡ slice_get (schedule_of b.scheduler).run_queue 0
     → IfNone result (m ≡ b.scheduler) → IfSome result (λ g. schedule_of m ≡ taken (schedule_of b.scheduler) g)
-    → capacity m ≡ capacity b.scheduler → IsScheduler m → IsKept (with_scheduler b m b.due_times)
-kept-taken b m None kept first unchanged schedule places scheduler = subst (λ (m : Scheduler). IsKept (with_scheduler b m b.due_times)) (sym unchanged) kept
+    → capacity m ≡ capacity b.scheduler → IsScheduler m → IsKept (with_scheduler b m)
+kept-taken b m None kept first unchanged schedule places scheduler = subst (λ (m : Scheduler). IsKept (with_scheduler b m)) (sym unchanged) kept
 kept-taken b m (Some g) kept first unchanged schedule places scheduler =
-    kept-scheduled b m b.due_times (taken (schedule_of b.scheduler) g) kept schedule
+    kept-scheduled b m (taken (schedule_of b.scheduler) g) kept schedule
     (fits-taken b.script (state_of b.machine) (schedule_of b.scheduler) g kept.lawful.fits (sym first))
     (λ running. calm-taken b.script (state_of b.machine) (schedule_of b.scheduler) g (first-queued (schedule_of b.scheduler) g kept.lawful.fits.queued (sym first)) (kept.lawful.calm running))
     places scheduler
-    (times-taken b.limits.entries b.script (state_of b.machine) (schedule_of b.scheduler) g b.due_times kept.times)
 
 -- ---- the end in a deadlock
 
@@ -89,7 +84,7 @@ lawful-deadlock v lawful none idle uncounted =
     tt (λ none. cc)
 
 abbrev pub ended : Inside → Machine → Contents Entry → Inside
-ended b machine history = record { script = b.script; limits = b.limits; history = history; machine = machine; scheduler = b.scheduler; due_times = b.due_times }
+ended b machine history = record { script = b.script; limits = b.limits; history = history; machine = machine; scheduler = b.scheduler }
 
 pub seen-deadlock : (b : Inside) (machine : Machine) (history : Contents Entry) → Finished b.script Outcome.Deadlock b.machine b.history machine history
     → seen (ended b machine history) ≡ with_entries (seen b) (Entry.Finish Outcome.Deadlock ∷ [])
@@ -101,8 +96,7 @@ pub kept-deadlock : (b : Inside) (machine : Machine) (history : Contents Entry) 
     → Finished b.script Outcome.Deadlock b.machine b.history machine history → IsKept (ended b machine history)
 kept-deadlock b machine history kept none idle uncounted ends = record {
   lawful = subst IsLawful (sym (seen-deadlock b machine history ends)) (lawful-deadlock (seen b) kept.lawful none idle uncounted);
-  rooms = finished-rooms b b.scheduler b.due_times b.machine b.history Outcome.Deadlock machine history kept.rooms none ends;
-  times = times-finished b.limits.entries b.script (state_of b.machine) (state_of machine) (schedule_of b.scheduler) Outcome.Deadlock b.due_times ends.state kept.times;
+  rooms = finished-rooms b b.scheduler b.machine b.history Outcome.Deadlock machine history kept.rooms none ends;
 }
 
 -- ---- what a goroutine in hand does

@@ -4,17 +4,16 @@ use Rattle.std.specs.List.{list_all}
 use Rattle.std.proofs.lemmas.Bool.{and_parts, ltb-true, lt-ltb}
 use Rattle.gt_model.specs.Times.{greatest_time}
 use Rattle.gt_model.specs.Tables.{least}
-use Rattle.gt_rules.specs.State.{clock, goroutine_at, timer_at, until_of}
+use Rattle.gt_rules.specs.State.{clock, goroutine_at, timer_at, until_of, due_of, sleeps_until}
 use Rattle.gt_model.specs.declared.state.Goroutine.{Goroutine}
 use Rattle.gt_model.specs.declared.state.Timer.{Timer}
 use Rattle.std.specs.Option.{option_map}
-use Rattle.gt_book.specs.declared.answers.Whose.{Whose}
 use Rattle.gt_rules.specs.Counted.{counted}
 use Rattle.gt_rules.specs.Finish.{IsIdle, IsJump}
 use Rattle.gt_facts.specs.Quiet.{none_due}
 use Rattle.gt_facts.proofs.Quiet.{quiet-IsIdle}
 use Rattle.gt_book.specs.View.{BookView, IsLawful, outcome_of}
-use Rattle.gt_book.specs.Least.{NobodyRuns, IsTimeOf}
+use Rattle.gt_book.specs.Least.{NobodyRuns}
 use Rattle.gt_book.proofs.Fitting.{none-queued}
 use Rattle.gt_book.proofs.Calm.{quiet-calm}
 
@@ -70,8 +69,9 @@ until_within : (o : Option Goroutine) (at : ℕ) → (elim (option_map (λ (r : 
 until_within None at e h = cc
 until_within (Some r) at e h = subst (λ (o : Option ℕ). IfSome o (λ until. until ≤ greatest_time)) e (h r refl)
 
--- whose-ever a time is, it is at most the greatest
-pub times-least : (b : BookView) (at : ℕ) (whose : Whose) → IsLawful b → IsTimeOf b at whose → at ≤ greatest_time
-times-least b at (Whose.Sleep g) lawful is = until_within (goroutine_at b.state g) at is (lawful.formed.untils g)
-times-least b at (Whose.Func t) lawful is = due_within (timer_at b.state t) at is.1 (lawful.formed.dues t)
-times-least b at (Whose.Timer t) lawful is = due_within (timer_at b.state t) at is.1 (lawful.formed.dues t)
+-- a due time, and the end of a sleep, are at most the greatest time
+pub due-time : (b : BookView) (t at : ℕ) → IsLawful b → due_of b.state t ≡ Some at → at ≤ greatest_time
+due-time b t at lawful is = due_within (timer_at b.state t) at is (lawful.formed.dues t)
+
+pub sleep-time : (b : BookView) (g at : ℕ) → IsLawful b → sleeps_until b.state g ≡ Some at → at ≤ greatest_time
+sleep-time b g at lawful is = until_within (goroutine_at b.state g) at is (lawful.formed.untils g)

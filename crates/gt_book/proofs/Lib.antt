@@ -3,10 +3,7 @@ pub mod Fitting
 pub mod Calm
 pub mod Books
 pub mod Going
-pub mod Counting
 pub mod Passing
 pub mod Committing
 pub mod Idling
 pub mod Setting
-pub mod Times
-pub mod EntryTimes

@@ -1,35 +1,105 @@
 -- A step that asks for a timer's record, and the instruction that does.
-use Rattle.std.proofs.Common.{◌≡◌, ℕ, refl, sym, ap, subst, ◌∙◌, Option, None, Some, MatchOption}
+use Rattle.std.proofs.Common.{◌≡◌, ℕ, zero, suc, Bool, true, false, refl, sym, ap, subst, ◌∙◌, Option, None, Some, MatchOption}
 use Rattle.gt_model.specs.declared.entry.Outcome.{Outcome}
 use Rattle.gt_book.specs.declared.answers.Did.{Did}
 use Rattle.gt_book.specs.declared.answers.TimerOp.{TimerOp}
 use Rattle.gt_book.specs.declared.step.Step.{Step}
-use Rattle.gt_book.specs.Steps.{Does, Steps, step_of}
-use Rattle.gt_book.specs.View.{BookView, outcome_of}
+use Rattle.gt_model.specs.declared.script.Instr.{Instr}
+use Rattle.gt_rules.specs.State.{State}
+use Rattle.gt_rules.specs.Panics.{fault}
+use Rattle.gt_schedule.specs.declared.status.Ticket.{Ticket}
+use Rattle.gt_schedule.specs.Schedule.{plainly, parked_at, ticket_of}
+use Rattle.gt_book.specs.Steps.{Does, Steps, step_of, step_of_instr, step_or_panic}
+use Rattle.gt_book.proofs.Going.{IsStep, step-is}
+use Rattle.gt_book.specs.View.{BookView, outcome_of, with_schedule}
 
 -- an answer after an entry is none of a timer
 entered-no_timer : (o : Option Outcome) (op : TimerOp) → MatchOption o (Did.Timer op ≡ Did.Entered) (λ outcome. Did.Timer op ≡ Did.Over outcome) → ⊥
 entered-no_timer None op h = cc
 entered-no_timer (Some outcome) op h = cc
 
+-- whether an operation says that its goroutine waits already
+abbrev pub is_enrolled : TimerOp → Bool
+is_enrolled (TimerOp.Enrolled ticket) = true
+is_enrolled (TimerOp.New t d) = false
+is_enrolled (TimerOp.Reset t d) = false
+is_enrolled (TimerOp.Stop t) = false
+is_enrolled (TimerOp.Sleep d) = false
+
+true-false : (b : Bool) → b ≡ true → b ≡ false → ⊥
+true-false true e h = cc
+true-false false e h = cc
+
 -- a step whose answer is a timer's operation needs it, and changed nothing
 pub record NeedsOnly (old : BookView) (g : ℕ) (op : TimerOp) (new : BookView) : Type 0 where
   pub needs : step_of old.script old.state old.schedule g ≡ Some (Step.Needs op)
   pub same : new ≡ old
 
-does-timer : (old : BookView) (g : ℕ) (step : Step) (new : BookView) (op : TimerOp) → step_of old.script old.state old.schedule g ≡ Some step → Does old g step new (Did.Timer op) → NeedsOnly old g op new
-does-timer old g (Step.Makes e) new op is h = absurd (entered-no_timer (outcome_of new) op h.1)
-does-timer old g (Step.Waits t) new op is h = cc h.1
-does-timer old g (Step.Needs wanted) new op is h =
+does-timer : (old : BookView) (g : ℕ) (step : Step) (new : BookView) (op : TimerOp) → step_of old.script old.state old.schedule g ≡ Some step → is_enrolled op ≡ false → Does old g step new (Did.Timer op) → NeedsOnly old g op new
+does-timer old g (Step.Makes e) new op is other h = absurd (entered-no_timer (outcome_of new) op h.1)
+does-timer old g (Step.Waits t) new op is other h =
+    let answer : Did.Timer op ≡ Did.Timer (TimerOp.Enrolled (ticket_of old.schedule g)) = h.1 in
+    let enrolled : op ≡ TimerOp.Enrolled (ticket_of old.schedule g) = cc in
+    absurd (true-false (is_enrolled op) (ap is_enrolled enrolled) other)
+does-timer old g (Step.Needs wanted) new op is other h =
     let answer : Did.Timer op ≡ Did.Timer wanted = h.1 in
     let same : op ≡ wanted = cc in
     record { needs = is ∙ ap (λ w. Some (Step.Needs w)) (sym same); same = h.0 }
 
-pub steps-timer : (old : BookView) (g : ℕ) (new : BookView) (op : TimerOp) → outcome_of old ≡ None → Steps old g new (Did.Timer op) → NeedsOnly old g op new
-steps-timer old g new op none h =
+pub steps-timer : (old : BookView) (g : ℕ) (new : BookView) (op : TimerOp) → outcome_of old ≡ None → is_enrolled op ≡ false → Steps old g new (Did.Timer op) → NeedsOnly old g op new
+steps-timer old g new op none other h =
     let does : MatchOption (step_of old.script old.state old.schedule g) ⊥ (λ step. Does old g step new (Did.Timer op)) =
     subst (λ (o : Option Outcome). MatchOption o (MatchOption (step_of old.script old.state old.schedule g) ⊥ (λ step. Does old g step new (Did.Timer op))) (λ outcome. (Did.Timer op ≡ Did.Over outcome) × (new ≡ old))) none h in
     elim (step_of old.script old.state old.schedule g) as (λ o. step_of old.script old.state old.schedule g ≡ o → MatchOption o ⊥ (λ step. Does old g step new (Did.Timer op)) → NeedsOnly old g op new) [
       | None ↦ λ q k. absurd k
-      | Some step ↦ λ q k. does-timer old g step new op q k
+      | Some step ↦ λ q k. does-timer old g step new op q other k
+    ] refl does
+
+-- a step that parked its goroutine under this ticket
+pub record ParksUnder (old : BookView) (g : ℕ) (ticket : Ticket) (new : BookView) : Type 0 where
+  pub at : ℕ
+  pub waits : step_of old.script old.state old.schedule g ≡ Some (Step.Waits at)
+  pub parked : new ≡ with_schedule old (parked_at old.schedule (plainly g) at)
+  pub its : ticket ≡ ticket_of old.schedule g
+
+-- no instruction asks for that
+asks-not_enrolled : (s : State) (g : ℕ) (i : Instr) (op : TimerOp) → step_of_instr s g i ≡ Step.Needs op → is_enrolled op ≡ false
+asks-not_enrolled s g (Instr.Say n) op h = cc
+asks-not_enrolled s g Instr.Now op h = cc
+asks-not_enrolled s g (Instr.Sleep zero) op h = cc
+asks-not_enrolled s g (Instr.Sleep (suc d)) op h = let is : TimerOp.Sleep (suc d) ≡ op = cc in subst (λ op. is_enrolled op ≡ false) is refl
+asks-not_enrolled s g (Instr.Go f) op h = cc
+asks-not_enrolled s g (Instr.New t d) op h = let is : TimerOp.New t d ≡ op = cc in subst (λ op. is_enrolled op ≡ false) is refl
+asks-not_enrolled s g (Instr.Stop t) op h = let is : TimerOp.Stop t ≡ op = cc in subst (λ op. is_enrolled op ≡ false) is refl
+asks-not_enrolled s g (Instr.Reset t d) op h = let is : TimerOp.Reset t d ≡ op = cc in subst (λ op. is_enrolled op ≡ false) is refl
+asks-not_enrolled s g (Instr.Recv o) op h = cc
+asks-not_enrolled s g Instr.Finish op h = cc
+
+needs-not_enrolled : (old : BookView) (g : ℕ) (op : TimerOp) → step_of old.script old.state old.schedule g ≡ Some (Step.Needs op) → is_enrolled op ≡ false
+needs-not_enrolled old g op h =
+    let step : IsStep old.script old.state g (Step.Needs op) = step-is old.script old.state old.schedule g (Step.Needs op) h in
+    elim (fault old.script old.state step.instr) as (λ o. step_or_panic old.state g step.instr o ≡ Step.Needs op → is_enrolled op ≡ false) [
+      | None ↦ λ k. asks-not_enrolled old.state g step.instr op k
+      | Some reason ↦ λ k. cc
+    ] step.is
+
+does-enrolled : (old : BookView) (g : ℕ) (step : Step) (new : BookView) (ticket : Ticket) → step_of old.script old.state old.schedule g ≡ Some step
+    → Does old g step new (Did.Timer (TimerOp.Enrolled ticket)) → ParksUnder old g ticket new
+does-enrolled old g (Step.Makes e) new ticket is h = absurd (entered-no_timer (outcome_of new) (TimerOp.Enrolled ticket) h.1)
+does-enrolled old g (Step.Waits t) new ticket is h =
+    let answer : Did.Timer (TimerOp.Enrolled ticket) ≡ Did.Timer (TimerOp.Enrolled (ticket_of old.schedule g)) = h.1 in
+    record { at = t; waits = is; parked = h.0; its = cc }
+does-enrolled old g (Step.Needs wanted) new ticket is h =
+    let answer : Did.Timer (TimerOp.Enrolled ticket) ≡ Did.Timer wanted = h.1 in
+    let same : wanted ≡ TimerOp.Enrolled ticket = cc in
+    absurd (true-false (is_enrolled wanted) (ap is_enrolled same) (needs-not_enrolled old g wanted is))
+
+pub steps-enrolled : (old : BookView) (g : ℕ) (new : BookView) (ticket : Ticket) → outcome_of old ≡ None → Steps old g new (Did.Timer (TimerOp.Enrolled ticket)) → ParksUnder old g ticket new
+steps-enrolled old g new ticket none h =
+    let did : Did = Did.Timer (TimerOp.Enrolled ticket) in
+    let does : MatchOption (step_of old.script old.state old.schedule g) ⊥ (λ step. Does old g step new did) =
+    subst (λ (o : Option Outcome). MatchOption o (MatchOption (step_of old.script old.state old.schedule g) ⊥ (λ step. Does old g step new did)) (λ outcome. (did ≡ Did.Over outcome) × (new ≡ old))) none h in
+    elim (step_of old.script old.state old.schedule g) as (λ o. step_of old.script old.state old.schedule g ≡ o → MatchOption o ⊥ (λ step. Does old g step new did) → ParksUnder old g ticket new) [
+      | None ↦ λ q k. absurd k
+      | Some step ↦ λ q k. does-enrolled old g step new ticket q k
     ] refl does

@@ -116,7 +116,6 @@ is_parked_at script s m p t = is_parked (status_of m p.g) && is_at_receive scrip
 -- the schedule fits the state: the run queue has exactly those that are queued, and the list at a declaration the parties that are parked there, each once
 pub record Fits (script : Script) (s : State) (m : Schedule) : Type 0 where
   pub as_many : length m.statuses ≡ length s.goroutines
-  pub marks : length m.marks ≡ length s.goroutines
   pub receivers : length m.receivers ≡ length script.decls
   pub senders : m.senders ≡ replicate (length script.decls) []
   pub agree : (g : ℕ) (r : Goroutine) (status : RunStatus) → goroutine_at s g ≡ Some r → status_of m g ≡ Some status → Agrees r.mode status

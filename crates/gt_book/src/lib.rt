@@ -3,7 +3,6 @@
 
 mod answers;
 mod book;
-mod counted;
 mod step;
 
 pub use answers::{Commit, Did, Op, Pick, TimerOp};

@@ -1,6 +1,5 @@
-use Rattle.std.proofs.Common.{rules, ◌≡◌, ◌+◌, ◌≤◌, ℕ, None, length, []}
+use Rattle.std.proofs.Common.{rules, ◌≡◌, ◌+◌, []}
 use Rattle.gt_rules.specs.After.{first_state}
-use Rattle.gt_tournament.specs.Keys.{key_of}
 use Rattle.gt_machine.specs.Machine.{state_of}
 use Rattle.gt_schedule.specs.Schedule.{first_schedule, most_goroutines}
 use Rattle.gt_schedule.specs.Scheduler.{schedule_of, capacity, IsScheduler}
@@ -16,14 +15,10 @@ invariant_of-result c =
     let schedule : schedule_of c.in_ok-scheduler.scheduler ≡ first_schedule c.args.script = search rules in
     let places : capacity c.in_ok-scheduler.scheduler ≡ most_goroutines c.args.limits = search rules in
     let kept : IsScheduler c.in_ok-scheduler.scheduler = search rules in
-    let slots : c.in_ok-due_times.due_times.declarations ≡ length c.args.script.decls = search rules in
-    let long : length c.args.script.decls + c.args.limits.entries + 2 ≤ length c.in_ok-due_times.due_times.times = search rules in
-    let none_due : (slot : ℕ) → key_of c.in_ok-due_times.due_times.times slot ≡ None = search rules in
     begun-kept (record {
       script = c.args.script;
       limits = c.args.limits;
       history = c.in_ok-history.history;
       machine = c.in_ok-machine.machine;
       scheduler = c.in_ok-scheduler.scheduler;
-      due_times = c.in_ok-due_times.due_times;
-    }) c.requires.good c.requires.limits empty spare state room schedule places kept slots long none_due
+    }) c.requires.good c.requires.limits empty spare state room schedule places kept

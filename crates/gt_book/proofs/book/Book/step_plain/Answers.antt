@@ -1,10 +1,8 @@
-use Rattle.std.proofs.Common.{rules, subst, sym, ap, ◌∙◌, ◌≡◌, ◌+◌, ◌<◌, ◌≤◌, Some, length, length-set, arith}
+use Rattle.std.proofs.Common.{rules, subst, sym, ◌≡◌, ◌<◌, Some}
 use Rattle.gt_schedule.specs.declared.status.RunStatus.{RunStatus}
 use Rattle.gt_book.specs.declared.step.Step.{Step}
 use Rattle.gt_machine.specs.Machine.{state_of}
-use Rattle.gt_schedule.specs.Schedule.{Schedule, plainly, status_of, parked_at}
-use Rattle.gt_book.specs.DueTimes.{with_timer}
-use Rattle.gt_book.proofs.EntryTimes.{times-parked_at}
+use Rattle.gt_schedule.specs.Schedule.{plainly, status_of, parked_at}
 use Rattle.gt_schedule.specs.Scheduler.{schedule_of}
 use Rattle.gt_book.specs.Steps.{step_of}
 use Rattle.gt_book.specs.View.{BookView}
@@ -24,29 +22,15 @@ enter-requires-clause-served c =
     let step : step_of c.args.self.now.script c.args.self.now.state c.args.self.now.schedule c.args.g ≡ Some (Step.Makes c.in-Makes.entry) = search rules in
     makes-served c.args.self.now.script c.args.self.now.state c.args.self.now.schedule c.args.g c.in-Makes.entry step c.requires
 
-pub park_at-requires-clause-orderly : goal.park_at-requires-clause-orderly
-park_at-requires-clause-orderly c =
+pub park_at-ticket-requires-clause-orderly : goal.park_at-ticket-requires-clause-orderly
+park_at-ticket-requires-clause-orderly c =
     orderly-fits c.self.inside.script (state_of c.self.inside.machine) (schedule_of c.self.inside.scheduler) c.self.invariant.lawful.fits
 
-pub park_at-requires-clause-declared : goal.park_at-requires-clause-declared
-park_at-requires-clause-declared c =
+pub park_at-ticket-requires-clause-declared : goal.park_at-ticket-requires-clause-declared
+park_at-ticket-requires-clause-declared c =
     let waits : WaitsRightly c.self.inside.script (state_of c.self.inside.machine) c.args.g c.in-Waits.t =
     waits-seen c.self.inside c.args.self.now c.args.g c.in-Waits.t c.self.view_is c.self.invariant (search rules) in
     subst (λ n. c.in-Waits.t < n) (sym c.self.invariant.lawful.fits.receivers) waits.within
-
-pub follow_timer-requires : goal.follow_timer-requires
-follow_timer-requires c =
-    let waits : WaitsRightly c.self.inside.script (state_of c.self.inside.machine) c.args.g c.in-Waits.t =
-    waits-seen c.self.inside c.args.self.now c.args.g c.in-Waits.t c.self.view_is c.self.invariant (search rules) in
-    let within : c.in-Waits.t < length c.self.inside.script.decls = waits.within in
-    let room : length c.self.inside.script.decls + c.self.inside.limits.entries + 2 ≤ length c.self.inside.due_times.times = c.self.invariant.times.room in
-    let lists : length (schedule_of c.park_at.new.self).receivers ≡ length (schedule_of c.self.inside.scheduler).receivers =
-    ap (λ (m : Schedule). length m.receivers) c.park_at.ensures.schedule ∙ length-set (schedule_of c.self.inside.scheduler).receivers c.in-Waits.t _ in
-    record {
-      room = omega arith;
-      declared = subst (λ n. c.in-Waits.t < n) (sym (lists ∙ c.self.invariant.lawful.fits.receivers)) waits.within;
-      kept = c.park_at.ensures.kept;
-    }
 
 pub invariant_of-self : goal.invariant_of-self
 invariant_of-self c =
@@ -54,12 +38,7 @@ invariant_of-self c =
     waits-seen c.self.inside c.args.self.now c.args.g c.in-Waits.t c.self.view_is c.self.invariant (search rules) in
     let in_hand : status_of (seen c.self.inside).schedule c.args.g ≡ Some RunStatus.InHand =
     subst (λ (v : BookView). status_of v.schedule c.args.g ≡ Some RunStatus.InHand) (sym c.self.view_is) c.requires in
-    kept-scheduled c.self.inside c.park_at.new.self c.follow_timer.new.self (parked_at (schedule_of c.self.inside.scheduler) (plainly c.args.g) c.in-Waits.t) c.self.invariant c.park_at.ensures.schedule
+    kept-scheduled c.self.inside c.park_at-ticket.new.self (parked_at (schedule_of c.self.inside.scheduler) (plainly c.args.g) c.in-Waits.t) c.self.invariant c.park_at-ticket.ensures.schedule
     (fits-parked_at c.self.inside.script (state_of c.self.inside.machine) (schedule_of c.self.inside.scheduler) c.args.g c.in-Waits.t c.self.invariant.lawful.fits in_hand waits.stands waits.within)
     (λ running. calm-parked_at c.self.inside.script (state_of c.self.inside.machine) (schedule_of c.self.inside.scheduler) c.args.g c.in-Waits.t waits.stands waits.made (c.self.invariant.lawful.calm running))
-    c.park_at.ensures.room c.park_at.ensures.kept
-    (times-parked_at c.self.inside.limits.entries c.self.inside.script (state_of c.self.inside.machine) (schedule_of c.self.inside.scheduler) c.args.g c.in-Waits.t
-    c.self.inside.due_times c.follow_timer.new.self c.self.invariant.times waits.within
-    (c.follow_timer.ensures.times
-    ∙ ap (λ (m : Schedule). with_timer c.self.inside.script (state_of c.self.inside.machine) m c.in-Waits.t c.self.inside.due_times.times) c.park_at.ensures.schedule)
-    c.follow_timer.ensures.declarations)
+    c.park_at-ticket.ensures.room c.park_at-ticket.ensures.kept
