@@ -1,5 +1,5 @@
 -- What each section makes of the parts that it is lent, and what it answers.
-use Rattle.std.specs.Prelude.{ℕ, zero, suc, ◌-◌, ◌≡◌, cond, if◌then◌else◌, nat_lt, Bool, true, false, ◌&&◌, is_some, MatchOption, length, slice_get}
+use Rattle.std.specs.Prelude.{ℕ, zero, suc, ◌+◌, ◌-◌, ◌≡◌, cond, if◌then◌else◌, nat_lt, Bool, true, false, ◌&&◌, is_some, MatchOption, length, slice_get}
 use Rattle.std.specs.declared.option.Option.{Option}
 use Rattle.std.specs.declared.option.Option.TheVariants.{None, Some}
 use Rattle.gt_model.specs.declared.script.Instr.{Instr}
@@ -125,8 +125,11 @@ sleeps (Instr.Recv o) = false
 sleeps Instr.Finish = false
 
 -- a goroutine stands at a `sleep` of some time, and the record is that of its sleep
+abbrev pub StandsAtSleep : BookView → ℕ → Type 0
+StandsAtSleep b g = elim (stands_at b.script b.state g) [ None ↦ ⊥ | Some i ↦ sleeps i ≡ true ]
+
 pub record SleepsAt (b : BookView) (g id : ℕ) : Type 0 where
-  pub sleeps : elim (stands_at b.script b.state g) [ None ↦ ⊥ | Some i ↦ sleeps i ≡ true ]
+  pub stands : StandsAtSleep b g
   pub its : id ≡ length b.script.decls + g
 
 abbrev pub SleepsBy : Parts → ℕ → Parts → SetDone → Option Step → Type 0
@@ -251,11 +254,11 @@ DeliverRow old seq new done = UnlessOver old.book Delivered.Over done (new ≡ o
 -- ---- the head of a heap
 
 -- record and heap are those after the head was run or cleaned, and the book is as it was
-pub record Runs (old new : Parts) (done answer : HeadDone) : Type 0 where
+pub record Runs (old new : Parts) (done came : HeadDone) : Type 0 where
   pub book : new.book ≡ old.book
   pub rec : new.rec ≡ head_run old.rec (clock old.book.state 0)
   pub scans : Scans old.heap new.heap 0 old.rec new.rec
-  pub answer : done ≡ answer
+  pub answer : done ≡ came
 
 -- the same with an entry
 pub record Fires (old : Parts) (e : Entry) (new : Parts) (done : HeadDone) : Type 0 where
