@@ -3,6 +3,7 @@ pub mod Fitting
 pub mod Calm
 pub mod Books
 pub mod Going
+pub mod Counting
 pub mod Passing
 pub mod Committing
 pub mod Idling
