@@ -18,7 +18,7 @@ use Rattle.gt_book.specs.declared.answers.Commit.{Commit}
 use Rattle.gt_book.proofs.Going.{IsStep, step-is}
 use Rattle.gt_book.specs.View.{BookView, Enters, IsLawful, outcome_of, with_entries, with_schedule}
 use Rattle.gt_book.proofs.Passing.{jumps-append, enters-script, enters-limits, enters-jumps, enters-longer, enters-hands, parked_at-leaves_hand, parked_at-hands, parked_at-queued_count}
-use Rattle.gt_top.specs.Run.{HandsFree, IsAlone, Passes, Goes, Moves}
+use Rattle.gt_runner.specs.Run.{HandsFree, IsAlone, Passes, Goes, Moves}
 
 pub passes-enters : (old : BookView) (e : Entry) (new : BookView) → IsLawful old → Enters old e new → ClockJumps old.script 0 old.state e → HandsFree old → Passes old new
 passes-enters old e new lawful enters clock free = record {

@@ -1,0 +1,232 @@
+-- Every entry keeps the marks fitting: who is woken or goes on is where its marks allow it.
+use Rattle.std.proofs.Common.{◌≡◌, ◌≢◌, ℕ, zero, suc, ◌+◌, ◌<◌, ◌≤◌, List, [], ◌∷◌, ◌++◌, length, length-append, refl, sym, ap, subst, ◌∙◌, arith, Option, None, Some, Bool, true, false, ◌||◌, IsTrue, inl, inr}
+use Rattle.std.proofs.lemmas.Bool.{cases_eq}
+use Rattle.gt_model.specs.declared.script.Script.{Script}
+use Rattle.gt_model.specs.declared.script.Instr.{Instr}
+use Rattle.gt_model.specs.declared.entry.Entry.{Entry}
+use Rattle.gt_model.specs.declared.entry.Outcome.{Outcome}
+use Rattle.gt_model.specs.declared.state.Goroutine.{Goroutine}
+use Rattle.gt_model.specs.declared.state.Mode.{Mode}
+use Rattle.gt_model.specs.Tables.{numbered, change_numbered}
+use Rattle.gt_model.proofs.Items.{HasNumber, has_number, numbered-change_same, numbered-change_other, numbered-push_same, numbered-push_other}
+use Rattle.gt_model.proofs.Changes.{length-change_numbered}
+use Rattle.gt_rules.specs.State.{State, goroutine_at, stands, stands_at}
+use Rattle.gt_rules.specs.After.{after, changed, moved, with_mover, with_starts, started_by}
+use Rattle.gt_rules.specs.Change.{Change, change_of}
+use Rattle.gt_rules.specs.History.{state_after}
+use Rattle.gt_rules.specs.declared.change.Move.{Move}
+use Rattle.gt_rules.specs.declared.change.Start.{Start}
+use Rattle.gt_machine.specs.Outcomes.{due_outcome}
+use Rattle.gt_schedule.specs.declared.status.RunStatus.{RunStatus}
+use Rattle.gt_schedule.specs.Schedule.{Schedule, status_of, is_in_hand, is_parked, marks_at, gone_on, turned, moved_by, begun_by, with_new, rescheduled, scheduled, schedule_after, MayMove, ServedBy}
+use Rattle.gt_book.specs.View.{BookView, Enters, AreWoken, IsLawful, is_move, goer, maker, finish_by, finish_due, is_firm_at}
+use Rattle.gt_runner.specs.Served.{timers_of, awaited_by, MarkFits, MarkFitsAt}
+
+-- ---- the timers that a goroutine awaits
+
+abbrev awaited_in : Script → Option Goroutine → List ℕ
+awaited_in script o = elim (elim o as (λ _. Option Instr) [ None ↦ None | Some r ↦ stands script r ]) [ None ↦ [] | Some i ↦ timers_of i ]
+
+one-timer : (o : Option Instr) → length (elim o as (λ _. List ℕ) [ None ↦ [] | Some i ↦ timers_of i ]) ≤ 1
+one-timer None = omega arith
+one-timer (Some (Instr.Recv o)) = omega arith
+one-timer (Some _) = omega arith
+
+pub one-awaited : (script : Script) (s : State) (g : ℕ) → length (awaited_by script s g) ≤ 1
+one-awaited script s g = one-timer (stands_at script s g)
+
+none-elsewhere : (script : Script) (r : Goroutine) (mode : Mode) → r.mode ≡ mode → (mode ≡ Mode.At → ⊥) → awaited_in script (Some r) ≡ []
+none-elsewhere script r Mode.At e h = absurd (h refl)
+none-elsewhere script r (Mode.Sleeping until) e h =
+    ap (λ (mode : Mode). elim (elim mode as (λ _. Option Instr) [ Mode.At ↦ stands script (record r { mode = Mode.At }) | _ ↦ None ]) as (λ _. List ℕ) [ None ↦ [] | Some i ↦ timers_of i ]) e
+none-elsewhere script r Mode.Ended e h =
+    ap (λ (mode : Mode). elim (elim mode as (λ _. Option Instr) [ Mode.At ↦ stands script (record r { mode = Mode.At }) | _ ↦ None ]) as (λ _. List ℕ) [ None ↦ [] | Some i ↦ timers_of i ]) e
+
+-- ---- the marks of everybody, with the goroutines as a list
+
+abbrev FitIn : Script → List Goroutine → Schedule → ℕ → Type 0
+FitIn script gs m h = MarkFits (marks_at m h) (awaited_in script (numbered gs h)) (status_of m h)
+
+record AllFit (script : Script) (gs : List Goroutine) (m : Schedule) : Type 0 where
+  as_many : length m.statuses ≡ length gs
+  marks : length m.marks ≡ length m.statuses
+  each : (h : ℕ) → FitIn script gs m h
+
+-- what is known of marks, goroutine and status
+fit-is : (a b : List ℕ) (x y : List ℕ) (p q : Option RunStatus) → a ≡ b → x ≡ y → p ≡ q → MarkFits b y q → MarkFits a x p
+fit-is a b x y p q marks awaited status fit =
+    subst (λ a. MarkFits a x p) (sym marks) (subst (λ x. MarkFits b x p) (sym awaited) (subst (λ p. MarkFits b y p) (sym status) fit))
+
+-- ---- one goroutine moves
+
+parked-some : (o : Option RunStatus) → is_parked o ≡ true → (since : ℕ) × (o ≡ Some (RunStatus.Parked since))
+parked-some None e = cc
+parked-some (Some RunStatus.Queued) e = cc
+parked-some (Some RunStatus.InHand) e = cc
+parked-some (Some (RunStatus.Parked since)) e = (since, refl)
+parked-some (Some RunStatus.Ended) e = cc
+
+in_hand-only : (o : Option RunStatus) → is_parked o ≡ false → IsTrue (is_in_hand o || is_parked o) → o ≡ Some RunStatus.InHand
+in_hand-only None e h = cc
+in_hand-only (Some RunStatus.Queued) e h = cc
+in_hand-only (Some RunStatus.InHand) e h = refl
+in_hand-only (Some (RunStatus.Parked since)) e h = cc
+in_hand-only (Some RunStatus.Ended) e h = cc
+
+-- it gets a status x, for which its marks are right
+fit-status : (script : Script) (gs : List Goroutine) (m n : Schedule) (g : ℕ) (f : Goroutine → Goroutine) (was x : RunStatus) → AllFit script gs m
+    → status_of m g ≡ Some was → n.statuses ≡ change_numbered m.statuses g (λ _. x) → n.marks ≡ m.marks
+    → ((r : Goroutine) → numbered gs g ≡ Some r → MarkFits (marks_at m g) (awaited_in script (Some (f r))) (Some x)) → AllFit script (change_numbered gs g f) n
+fit-status script gs m n g f was x all at statuses marks own =
+    let there : HasNumber gs g = has_number m.statuses gs g was all.as_many at in
+    record {
+      as_many = ap length statuses ∙ (length-change_numbered m.statuses g (λ _. x) ∙ (all.as_many ∙ sym (length-change_numbered gs g f)));
+      marks = ap length marks ∙ (all.marks ∙ sym (ap length statuses ∙ length-change_numbered m.statuses g (λ _. x)));
+      each = λ h. elim (cases_eq h g) [
+        | inl e ↦
+            subst (λ k. FitIn script (change_numbered gs g f) n k) (sym e)
+            (fit-is (marks_at n g) (marks_at m g) (awaited_in script (numbered (change_numbered gs g f) g)) (awaited_in script (Some (f there.item))) (status_of n g) (Some x)
+            (ap (λ xs. marks_at (record m { marks = xs }) g) marks)
+            (ap (awaited_in script) (numbered-change_same gs g f there.item there.there))
+            (ap (λ xs. numbered xs g) statuses ∙ numbered-change_same m.statuses g (λ _. x) was at)
+            (own there.item there.there))
+        | inr k ↦
+            fit-is (marks_at n h) (marks_at m h) (awaited_in script (numbered (change_numbered gs g f) h)) (awaited_in script (numbered gs h)) (status_of n h) (status_of m h)
+            (ap (λ xs. marks_at (record m { marks = xs }) h) marks)
+            (ap (awaited_in script) (numbered-change_other gs g h f k))
+            (ap (λ xs. numbered xs h) statuses ∙ numbered-change_other m.statuses g h (λ _. x) k)
+            (all.each h)
+      ];
+    }
+
+marks-in_hand : (script : Script) (gs : List Goroutine) (m : Schedule) (g : ℕ) → AllFit script gs m → status_of m g ≡ Some RunStatus.InHand → marks_at m g ≡ []
+marks-in_hand script gs m g all at = subst (MarkFits (marks_at m g) (awaited_in script (numbered gs g))) at (all.each g)
+
+-- it goes on where it was in hand: nothing changes in the schedule
+same-status : (statuses : List RunStatus) (g : ℕ) (x : RunStatus) → numbered statuses g ≡ Some x → statuses ≡ change_numbered statuses g (λ _. x)
+same-status statuses zero x e = refl
+same-status statuses (suc i) x e = same-at statuses i x e
+  where
+    same-at : (xs : List RunStatus) (i : ℕ) (x : RunStatus) → Rattle.std.proofs.Common.slice_get xs i ≡ Some x → xs ≡ Rattle.gt_model.specs.Tables.change xs i (λ _. x)
+    same-at [] i x e = refl
+    same-at (y ∷ ys) zero x e = let is : y ≡ x = cc in ap (λ z. z ∷ ys) is
+    same-at (y ∷ ys) (suc i) x e = ap (λ zs. y ∷ zs) (same-at ys i x e)
+
+fit-gone_on : (script : Script) (gs : List Goroutine) (m : Schedule) (g n : ℕ) (waits : Bool) → is_parked (status_of m g) ≡ waits → AllFit script gs m → MayMove (status_of m g) (Move.GoesOn n)
+    → AllFit script (change_numbered gs g (moved script (Move.GoesOn n))) (gone_on m g waits)
+fit-gone_on script gs m g n true e all may =
+    let was = parked-some (status_of m g) e in
+    let fits : marks_at m g ≡ awaited_in script (numbered gs g) = subst (MarkFits (marks_at m g) (awaited_in script (numbered gs g))) was.1 (all.each g) in
+    let few : length (awaited_in script (numbered gs g)) ≤ 1 = one-timer (elim (numbered gs g) as (λ _. Option Instr) [ None ↦ None | Some r ↦ stands script r ]) in
+    fit-status script gs m (gone_on m g true) g (moved script (Move.GoesOn n)) (RunStatus.Parked was.0) RunStatus.Queued all was.1 refl refl
+    (λ r k. subst (λ ts. length ts ≤ 1) (sym fits) few)
+fit-gone_on script gs m g n false e all may =
+    let at : status_of m g ≡ Some RunStatus.InHand = in_hand-only (status_of m g) e may in
+    fit-status script gs m m g (moved script (Move.GoesOn n)) RunStatus.InHand RunStatus.InHand all at (same-status m.statuses g RunStatus.InHand at) refl
+    (λ r k. marks-in_hand script gs m g all at)
+
+fit-turned : (script : Script) (gs : List Goroutine) (m : Schedule) (g : ℕ) (move : Move) → AllFit script gs m → MayMove (status_of m g) move
+    → AllFit script (change_numbered gs g (moved script move)) (turned m g move)
+fit-turned script gs m g (Move.GoesOn n) all may = fit-gone_on script gs m g n (is_parked (status_of m g)) refl all may
+fit-turned script gs m g (Move.FallsAsleep until) all may =
+    fit-status script gs m (turned m g (Move.FallsAsleep until)) g (moved script (Move.FallsAsleep until)) RunStatus.InHand (RunStatus.Parked m.parks) all may refl refl
+    (λ r k. marks-in_hand script gs m g all may)
+fit-turned script gs m g Move.Ends all may =
+    fit-status script gs m (turned m g Move.Ends) g (moved script Move.Ends) RunStatus.InHand RunStatus.Ended all may refl refl
+    (λ r k. marks-in_hand script gs m g all may)
+
+fit-moved : (script : Script) (gs : List Goroutine) (m : Schedule) (o : Option (ℕ × Move)) → AllFit script gs m → ServedBy m o → AllFit script (with_mover script gs o) (moved_by m o)
+fit-moved script gs m None all served = all
+fit-moved script gs m (Some x) all served = fit-turned script gs m x.0 x.1 all served
+
+-- ---- goroutines are started
+
+fit-begins : (script : Script) (gs : List Goroutine) (m : Schedule) (r : Goroutine) → AllFit script gs m → AllFit script (gs ++ r ∷ []) (with_new m)
+fit-begins script gs m r all =
+    let child : ℕ = length m.statuses + 1 in
+    let in_state : child ≡ length gs + 1 = ap (λ n. n + 1) all.as_many in
+    let in_marks : child ≡ length m.marks + 1 = ap (λ n. n + 1) (sym all.marks) in
+    record {
+      as_many = length-append m.statuses (RunStatus.Queued ∷ []) ∙ (ap (λ n. n + 1) all.as_many ∙ sym (length-append gs (r ∷ [])));
+      marks = length-append m.marks ([] ∷ []) ∙ (ap (λ n. n + 1) all.marks ∙ sym (length-append m.statuses (RunStatus.Queued ∷ [])));
+      each = λ h. elim (cases_eq h child) [
+        | inl e ↦
+            subst (λ k. FitIn script (gs ++ r ∷ []) (with_new m) k) (sym e)
+            (fit-is (marks_at (with_new m) child) [] (awaited_in script (numbered (gs ++ r ∷ []) child)) (awaited_in script (numbered (gs ++ r ∷ []) child)) (status_of (with_new m) child) (Some RunStatus.Queued)
+            (ap (λ (o : Option (List ℕ)). list_or_none o) (numbered-push_same m.marks [] child in_marks)) refl (numbered-push_same m.statuses RunStatus.Queued child refl) (omega arith))
+        | inr k ↦
+            fit-is (marks_at (with_new m) h) (marks_at m h) (awaited_in script (numbered (gs ++ r ∷ []) h)) (awaited_in script (numbered gs h)) (status_of (with_new m) h) (status_of m h)
+            (ap (λ (o : Option (List ℕ)). list_or_none o) (numbered-push_other m.marks [] h (λ e. k (e ∙ sym in_marks))))
+            (ap (awaited_in script) (numbered-push_other gs r h (λ e. k (e ∙ sym in_state))))
+            (numbered-push_other m.statuses RunStatus.Queued h k)
+            (all.each h)
+      ];
+    }
+  where
+    list_or_none : Option (List ℕ) → List ℕ
+    list_or_none None = []
+    list_or_none (Some ts) = ts
+
+fit-begun : (script : Script) (s : State) (gs : List Goroutine) (m : Schedule) (starts : List Start) → AllFit script gs m → AllFit script (with_starts script s gs starts) (begun_by m starts)
+fit-begun script s gs m [] all = all
+fit-begun script s gs m (x ∷ xs) all = fit-begun script s (gs ++ started_by script s x ∷ []) (with_new m) xs (fit-begins script gs m (started_by script s x) all)
+
+fit-changed : (script : Script) (s : State) (m : Schedule) (c : Change) → AllFit script s.goroutines m → ServedBy m c.mover → AllFit script (changed script s c).goroutines (rescheduled m c)
+fit-changed script s m c all served = fit-begun script s (with_mover script s.goroutines c.mover) (moved_by m c.mover) c.starts (fit-moved script s.goroutines m c.mover all served)
+
+-- ---- entries
+
+-- who is woken was parked, and goes on
+record Goer (o : Option (ℕ × Move)) (g : ℕ) : Type 0 where
+  case_no : ℕ
+  is : o ≡ Some (g, Move.GoesOn case_no)
+
+goer-is : (o : Option (ℕ × Move)) (g : ℕ) → goer o ≡ Some g → Goer o g
+goer-is None g e = cc
+goer-is (Some (h, Move.GoesOn case_no)) g e = let is : h ≡ g = cc in record { case_no = case_no; is = ap (λ k. Some (k, Move.GoesOn case_no)) is }
+goer-is (Some (h, Move.FallsAsleep until)) g e = cc
+goer-is (Some (h, Move.Ends)) g e = cc
+
+maker-goer : (b : Bool) (o : Option ℕ) (g : ℕ) → Rattle.std.proofs.Common.cond b o None ≡ Some g → o ≡ Some g
+maker-goer true o g e = e
+maker-goer false o g e = cc
+
+parked-may : (o : Option RunStatus) → is_parked o ≡ true → IsTrue (is_in_hand o || is_parked o)
+parked-may o h = either (is_in_hand o) (is_parked o) h
+  where
+    either : (a b : Bool) → b ≡ true → (a || b) ≡ true
+    either true b h = refl
+    either false b h = h
+
+woken-served : (m : Schedule) (e : Entry) (g : ℕ) → maker e ≡ Some g → is_parked (status_of m g) ≡ true → ServedBy m (change_of e).mover
+woken-served m e g is parked =
+    let goes : Goer (change_of e).mover g = goer-is (change_of e).mover g (maker-goer (is_move (change_of e)) (goer (change_of e).mover) g is) in
+    subst (ServedBy m) (sym goes.is) (parked-may (status_of m g) parked)
+
+fit-finished : (script : Script) (s : State) (m : Schedule) (o : Option Outcome) → AllFit script s.goroutines m
+    → AllFit script (state_after script s (finish_by o)).goroutines (schedule_after m (finish_by o))
+fit-finished script s m None all = all
+fit-finished script s m (Some outcome) all = fit-changed script s m (change_of (Entry.Finish outcome)) all tt
+
+fit-woken : (script : Script) (s : State) (m : Schedule) (h : List Entry) (o : Option Outcome) → AreWoken script s m h → AllFit script s.goroutines m
+    → AllFit script (state_after script s (h ++ finish_by o)).goroutines (schedule_after m (h ++ finish_by o))
+fit-woken script s m [] o woken all = fit-finished script s m o all
+fit-woken script s m (e ∷ h) o woken all =
+    elim (maker e) as (λ x. maker e ≡ x → (elim x as (λ _. Type 0) [ None ↦ ⊥ | Some g ↦ IsTrue (is_parked (status_of m g)) × IsTrue (is_firm_at script s g) ])
+    → AllFit script (state_after script (after script s e) (h ++ finish_by o)).goroutines (schedule_after (scheduled m e) (h ++ finish_by o))) [
+      | None ↦ λ q k. absurd k
+      | Some g ↦ λ q k. fit-woken script (after script s e) (scheduled m e) h o woken.1 (fit-changed script s m (change_of e) all (woken-served m e g q k.0))
+    ] refl woken.0
+
+-- everybody's marks fit in a book
+abbrev pub MarksFit : BookView → Type 0
+MarksFit b = (g : ℕ) → MarkFitsAt b.script b.state b.schedule g
+
+pub fit-enters : (old : BookView) (e : Entry) (new : BookView) → IsLawful old → length old.schedule.marks ≡ length old.schedule.statuses → Enters old e new
+    → ServedBy old.schedule (change_of e).mover → MarksFit old → MarksFit new
+fit-enters old e new lawful marks enters served fit =
+    let all : AllFit old.script old.state.goroutines old.schedule = record { as_many = lawful.fits.as_many; marks = marks; each = fit } in
+    let first : AllFit old.script (after old.script old.state e).goroutines (scheduled old.schedule e) = fit-changed old.script old.state old.schedule (change_of e) all served in
+    let done = fit-woken old.script (after old.script old.state e) (scheduled old.schedule e) enters.woken
+    (due_outcome old.limits (state_after old.script old.state (e ∷ enters.woken))) enters.each_woken first in
+    subst MarksFit (sym enters.is) done.each

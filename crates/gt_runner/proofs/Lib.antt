@@ -1,0 +1,4 @@
+pub mod Passes
+pub mod Turning
+pub mod Marks
+pub mod Fitting
