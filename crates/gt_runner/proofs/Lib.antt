@@ -6,3 +6,4 @@ pub mod Leaving
 pub mod Tending
 pub mod Watching
 pub mod Needing
+pub mod Touching

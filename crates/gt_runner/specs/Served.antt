@@ -1,5 +1,5 @@
 -- What a run on one worker keeps between two whole calls: its records and its heap agree with the book.
-use Rattle.std.specs.Prelude.{ℕ, ◌+◌, ◌<◌, ◌≤◌, ◌≡◌, ◌≢◌, true, Bool, List, [], ◌∷◌, length, slice_get, count_by, is_some, IsSome, IsSomeAnd}
+use Rattle.std.specs.Prelude.{ℕ, ◌+◌, ◌<◌, ◌≤◌, ◌≡◌, ◌≢◌, min, nat_lt, cond, ◌&&◌, true, Bool, List, [], ◌∷◌, length, slice_get, count_by, is_some, IsSome, IsSomeAnd}
 use Rattle.std.specs.declared.option.Option.{Option}
 use Rattle.std.specs.declared.option.Option.TheVariants.{None, Some}
 use Rattle.gt_model.specs.declared.script.Script.{Script}
@@ -41,6 +41,22 @@ pub record IsAt (b : BookView) (h : LazyHeap) (noted : Option ℕ) (id : ℕ) (r
 abbrev pub AtNumber : BookView → LazyHeap → Option ℕ → ℕ → Option Rec → Type 0
 AtNumber b h noted id (Some r) = IsAt b h noted id r
 AtNumber b h noted id None = (due_by b.script b.state id ≡ None) × (slot_with h.slots id ≡ None)
+
+-- the due time of a record that is in a heap under a later key
+abbrev pub early_due : Rec → Option ℕ
+early_due r = elim r.when [ None ↦ None | Some w ↦ cond (is_some r.heaped && nat_lt w r.key) (Some w) None ]
+
+-- what is noted once such a time was noted too
+abbrev pub least_of : Option ℕ → ℕ → ℕ
+least_of None w = w
+least_of (Some v) w = min v w
+
+abbrev pub noted_with : Option ℕ → Option ℕ → Option ℕ
+noted_with noted None = noted
+noted_with noted (Some w) = Some (least_of noted w)
+
+abbrev pub noted_at : Option ℕ → Rec → Option ℕ
+noted_at noted r = noted_with noted (early_due r)
 
 -- ---- marks
 
