@@ -7,3 +7,4 @@ pub mod Tending
 pub mod Watching
 pub mod Needing
 pub mod Touching
+pub mod Cleanings

@@ -70,19 +70,19 @@ number-stays b b' h h' noted noted' id (Some r) st keeps at = record {
 
 -- ---- one record changes
 
-get-set_same : {X : Type 0} (xs : List X) (i : ℕ) (x y : X) → slice_get xs i ≡ Some x → slice_get (set xs i y) i ≡ Some y
+pub get-set_same : {X : Type 0} (xs : List X) (i : ℕ) (x y : X) → slice_get xs i ≡ Some x → slice_get (set xs i y) i ≡ Some y
 get-set_same [] i x y e = cc
 get-set_same (z ∷ zs) zero x y e = refl
 get-set_same (z ∷ zs) (suc i) x y e = get-set_same zs i x y e
 
-get-set_other : {X : Type 0} (xs : List X) (i j : ℕ) (y : X) → j ≢ i → slice_get (set xs i y) j ≡ slice_get xs j
+pub get-set_other : {X : Type 0} (xs : List X) (i j : ℕ) (y : X) → j ≢ i → slice_get (set xs i y) j ≡ slice_get xs j
 get-set_other [] i j y n = refl
 get-set_other (z ∷ zs) zero zero y n = absurd (n refl)
 get-set_other (z ∷ zs) zero (suc j) y n = refl
 get-set_other (z ∷ zs) (suc i) zero y n = refl
 get-set_other (z ∷ zs) (suc i) (suc j) y n = get-set_other zs i j y (λ e. n (ap suc e))
 
-count-set : {X : Type 0} (p : X → Bool) (xs : List X) (i : ℕ) (x y : X) → slice_get xs i ≡ Some x → count_by p (set xs i y) + as_number (p x) ≡ count_by p xs + as_number (p y)
+pub count-set : {X : Type 0} (p : X → Bool) (xs : List X) (i : ℕ) (x y : X) → slice_get xs i ≡ Some x → count_by p (set xs i y) + as_number (p x) ≡ count_by p xs + as_number (p y)
 count-set p [] i x y e = cc
 count-set p (z ∷ zs) zero x y e =
     let same : as_number (p z) ≡ as_number (p x) = (let is : z ≡ x = cc in ap (λ z. as_number (p z)) is) in

@@ -36,7 +36,7 @@ stays-enters old e new h h' j lawful enters leaves slot number_is = record {
 }
 
 -- a watched record stays one of a kind
-at-kind : (x' : Runner) (id : ℕ) (r' : Rec) → r'.id ≡ id → IsWatched x'.book x'.heap x'.noted r' → IsAt x'.book x'.heap x'.noted id r'
+pub at-kind : (x' : Runner) (id : ℕ) (r' : Rec) → r'.id ≡ id → IsWatched x'.book x'.heap x'.noted r' → IsAt x'.book x'.heap x'.noted id r'
 at-kind x' id r' is watched = record {
   id_is = is;
   watched = subst (AtKind x'.book x'.heap x'.noted id r') (sym (ap (kind_by x'.book.script) (sym is) ∙ watched.kept.rec.agrees.kind)) watched;

@@ -2,5 +2,7 @@
 #![tactic(auto)]
 
 mod runner;
+mod settling;
 
 pub use runner::Runner;
+pub use settling::settle;
