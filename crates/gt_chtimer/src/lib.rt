@@ -1,2 +1,6 @@
 //! The sections of timers with records: each changes a timer's record, the caller's heap and the book together, as one step.
 #![tactic(auto)]
+
+mod unblock;
+
+pub use unblock::sec_unblock;
