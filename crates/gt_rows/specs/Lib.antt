@@ -1,3 +1,4 @@
 pub mod Agrees
 pub mod Lent
 pub mod Rows
+pub mod Frames

@@ -1,0 +1,335 @@
+-- What a change by an entry leaves of due times, periods, the program's clock, marks and statuses.
+use Rattle.std.proofs.Common.{◌≡◌, ◌≢◌, ◌⊎◌, inl, inr, ℕ, zero, suc, ◌+◌, ◌-◌, ◌<◌, ◌≤◌, ◌==◌, ◌||◌, eqb, cond, List, [], ◌∷◌, ◌++◌, length, set, refl, sym, ap, subst, ◌∙◌, arith, Option, None, Some, Bool, true, false, IsTrue, IsSome, IsSomeAnd, is_some, is_none, nat_lt, slice_get, slice_index, option_map}
+use Rattle.std.proofs.lemmas.Bool.{cases_eq, eq-eqb, ne_eqb}
+use Rattle.gt_model.specs.declared.script.Script.{Script}
+use Rattle.gt_model.specs.declared.script.Instr.{Instr}
+use Rattle.gt_model.specs.declared.entry.Entry.{Entry}
+use Rattle.gt_model.specs.declared.entry.Limits.{Limits}
+use Rattle.gt_model.specs.declared.entry.Outcome.{Outcome}
+use Rattle.gt_model.specs.declared.entry.Reason.{Reason}
+use Rattle.gt_model.specs.declared.state.Ending.{Ending}
+use Rattle.gt_model.specs.declared.state.Goroutine.{Goroutine}
+use Rattle.gt_model.specs.declared.state.Mode.{Mode}
+use Rattle.gt_model.specs.declared.state.Timer.{Timer}
+use Rattle.gt_model.specs.Good.{IsGood}
+use Rattle.gt_model.specs.Script.{instr_at}
+use Rattle.gt_model.specs.Tables.{numbered, at, change_numbered}
+use Rattle.gt_model.proofs.Items.{at-set_same, at-set_other, at-change_same, at-change_other, numbered-change_same, numbered-change_other, numbered-push_same, numbered-push_other, numbered-next, HasNumber}
+use Rattle.gt_rules.specs.State.{State, goroutine_at, stands_at, timer_at, due_of, sleeps_until, until_of, clock, clock_of}
+use Rattle.gt_rules.specs.After.{after, changed, moved, set_due, set_again, with_mover, with_starts, started_by, with_retimed, with_clock, retimed, number_of}
+use Rattle.gt_rules.specs.Change.{Change, change_of, on, ending_with}
+use Rattle.gt_rules.specs.Finish.{Legal}
+use Rattle.gt_rules.specs.History.{AllLegal, state_after}
+use Rattle.gt_rules.specs.Legal.{May, Does, Receives}
+use Rattle.gt_rules.specs.Panics.{fault, fault_at, panic_at, when}
+use Rattle.gt_rules.specs.Ready.{is_firm, is_due, goes_on}
+use Rattle.gt_rules.specs.declared.change.Move.{Move}
+use Rattle.gt_rules.specs.declared.change.Setting.{Setting}
+use Rattle.gt_rules.specs.declared.change.Start.{Start}
+use Rattle.gt_facts.specs.Formed.{IsFormed}
+use Rattle.gt_facts.proofs.Lookups.{Standing, standing, Asleep, sleeper, AtOperation, at_operation}
+use Rattle.gt_facts.proofs.Named.{names-Does}
+use Rattle.gt_facts.proofs.Still.{panic_stands}
+use Rattle.gt_facts.proofs.Within.{setting_within}
+use Rattle.gt_book.proofs.Passing.{enters-script}
+use Rattle.gt_schedule.specs.declared.status.RunStatus.{RunStatus}
+use Rattle.gt_schedule.specs.Schedule.{Schedule, status_of, is_parked, scheduled, schedule_after}
+use Rattle.gt_book.specs.View.{BookView, Enters, AreWoken, IsLawful, finish_by, finish_due, is_firm_at, maker}
+use Rattle.gt_machine.specs.Outcomes.{due_outcome}
+use Rattle.gt_rows.specs.Agrees.{due_by, period_by}
+use Rattle.gt_rows.specs.Frames.{due_after, until_after, timer_touched, sleep_touched, touched, period_touched, clock_touched, status_turned, IsUnmoved, StaysOrRuns}
+
+-- ---- the entries of goroutines that are woken
+
+-- an entry of a goroutine that is woken is a mere move of one that was parked and firmly ready
+record IsWoken (script : Script) (s : State) (m : Schedule) (e : Entry) : Type 0 where
+  g : ℕ
+  change : change_of e ≡ on g
+  parked : is_parked (status_of m g) ≡ true
+  firm : is_firm_at script s g ≡ true
+
+same-cond : {X : Type 0} (b : Bool) (x : X) → cond b x x ≡ x
+same-cond true x = refl
+same-cond false x = refl
+
+woken-is : (script : Script) (s : State) (m : Schedule) (e : Entry) (h : List Entry) → AreWoken script s m (e ∷ h) → IsWoken script s m e
+woken-is script s m (Entry.Say g n) h woken = record { g = g; change = refl; parked = woken.0.0; firm = woken.0.1 }
+woken-is script s m (Entry.Now g now) h woken = record { g = g; change = refl; parked = woken.0.0; firm = woken.0.1 }
+woken-is script s m (Entry.Go g child f) h woken = absurd woken.0
+woken-is script s m (Entry.End g) h woken = let none = rw (same-cond {X = Option ℕ} (is_none (ending_with g)) None) at woken in absurd none.0
+woken-is script s m (Entry.Sleep g None) h woken = record { g = g; change = refl; parked = woken.0.0; firm = woken.0.1 }
+woken-is script s m (Entry.Sleep g (Some until)) h woken = absurd woken.0
+woken-is script s m (Entry.Wake g) h woken = record { g = g; change = refl; parked = woken.0.0; firm = woken.0.1 }
+woken-is script s m (Entry.New g t due) h woken = absurd woken.0
+woken-is script s m (Entry.Stop g t was) h woken = absurd woken.0
+woken-is script s m (Entry.Reset g t was due) h woken = absurd woken.0
+woken-is script s m (Entry.TRecv p t due next) h woken = absurd woken.0
+woken-is script s m (Entry.FireFunc t child) h woken = absurd woken.0
+woken-is script s m (Entry.Clock world to) h woken = absurd woken.0
+woken-is script s m (Entry.Panic p reason) h woken = absurd woken.0
+woken-is script s m (Entry.Finish outcome) h woken = absurd woken.0
+
+-- what neither such an entry nor a finish changes
+record IsFrame {X : Type 0} (script : Script) (F : State → X) : Type 0 where
+  woken : (s : State) (m : Schedule) (e : Entry) → IsWoken script s m e → F (after script s e) ≡ F s
+  finish : (s : State) (outcome : Outcome) → F (after script s (Entry.Finish outcome)) ≡ F s
+
+frame-woken : {X : Type 0} (script : Script) (F : State → X) → IsFrame script F → (s : State) (m : Schedule) (h : List Entry) → AreWoken script s m h
+    → F (state_after script s h) ≡ F s
+frame-woken script F frame s m [] woken = refl
+frame-woken script F frame s m (e ∷ h) woken =
+    frame-woken script F frame (after script s e) (scheduled m e) h woken.1 ∙ frame.woken s m e (woken-is script s m e h woken)
+
+frame-finish : {X : Type 0} (script : Script) (F : State → X) → IsFrame script F → (s : State) (o : Option Outcome) → F (state_after script s (finish_by o)) ≡ F s
+frame-finish script F frame s None = refl
+frame-finish script F frame s (Some outcome) = frame.finish s outcome
+
+state-append : (script : Script) (s : State) (h k : List Entry) → state_after script s (h ++ k) ≡ state_after script (state_after script s h) k
+state-append script s [] k = refl
+state-append script s (e ∷ h) k = state-append script (after script s e) h k
+
+enters-frame : {X : Type 0} (old : BookView) (e : Entry) (new : BookView) (F : State → X) → IsFrame old.script F → Enters old e new
+    → F new.state ≡ F (after old.script old.state e)
+enters-frame old e new F frame enters =
+    let first : State = after old.script old.state e in
+    let last : State = state_after old.script first enters.woken in
+    ap (λ (b : BookView). F b.state) enters.is
+    ∙ (ap F (state-append old.script old.state (e ∷ enters.woken) (finish_due old.limits last))
+    ∙ (frame-finish old.script F frame last (due_outcome old.limits last)
+    ∙ frame-woken old.script F frame first (scheduled old.schedule e) enters.woken enters.each_woken))
+
+after-woken : (script : Script) (s : State) (m : Schedule) (e : Entry) (w : IsWoken script s m e) → after script s e ≡ changed script s (on w.g)
+after-woken script s m e w = ap (changed script s) w.change
+
+-- ---- sleeps
+
+abbrev asleep : Option Goroutine → Option ℕ
+asleep o = elim (option_map (λ (r : Goroutine). r.mode) o) as (λ o. Option ℕ) [ None ↦ None | Some mode ↦ until_of mode ]
+
+abbrev MoverIsThere : List Goroutine → Option (ℕ × Move) → Type 0
+MoverIsThere gs None = Unit {0}
+MoverIsThere gs (Some x) = HasNumber gs x.0
+
+asleep-move : (script : Script) (move : Move) (r : Goroutine) → asleep (Some (moved script move r)) ≡ until_after move
+asleep-move script (Move.GoesOn n) r = refl
+asleep-move script (Move.FallsAsleep until) r = refl
+asleep-move script Move.Ends r = refl
+
+asleep-moved : (script : Script) (gs : List Goroutine) (o : Option (ℕ × Move)) (h : ℕ) → MoverIsThere gs o
+    → asleep (numbered (with_mover script gs o) h) ≡ sleep_touched o h (asleep (numbered gs h))
+asleep-moved script gs None h there = refl
+asleep-moved script gs (Some x) h there =
+    elim (cases_eq h x.0) [
+      | inl is ↦
+          let now : numbered (change_numbered gs x.0 (moved script x.1)) h ≡ Some (moved script x.1 there.item) =
+          ap (numbered (change_numbered gs x.0 (moved script x.1))) is ∙ numbered-change_same gs x.0 (moved script x.1) there.item there.there in
+          ap asleep now ∙ (asleep-move script x.1 there.item ∙ ap (λ b. cond b (until_after x.1) (asleep (numbered gs h))) (sym (eq-eqb h x.0 is)))
+      | inr other ↦
+          ap asleep (numbered-change_other gs x.0 h (moved script x.1) other)
+          ∙ ap (λ b. cond b (until_after x.1) (asleep (numbered gs h))) (sym (ne_eqb h x.0 other))
+    ]
+
+awake-begun : (script : Script) (s : State) (x : Start) → asleep (Some (started_by script s x)) ≡ None
+awake-begun script s (Start.ByGoroutine g f) = refl
+awake-begun script s (Start.ByTimer t) = refl
+
+asleep-begun : (script : Script) (s : State) (gs : List Goroutine) (starts : List Start) (h : ℕ) → asleep (numbered (with_starts script s gs starts) h) ≡ asleep (numbered gs h)
+asleep-begun script s gs [] h = refl
+asleep-begun script s gs (x ∷ xs) h =
+    asleep-begun script s (gs ++ started_by script s x ∷ []) xs h
+    ∙ elim (cases_eq h (length gs + 1)) as (λ _. asleep (numbered (gs ++ started_by script s x ∷ []) h) ≡ asleep (numbered gs h)) [
+      | inl is ↦ ap asleep (numbered-push_same gs (started_by script s x) h is) ∙ (awake-begun script s x ∙ ap asleep (sym (numbered-next gs h is)))
+      | inr other ↦ ap asleep (numbered-push_other gs (started_by script s x) h other)
+    ]
+
+sleeps-changed : (script : Script) (s : State) (c : Change) (h : ℕ) → MoverIsThere s.goroutines c.mover → sleeps_until (changed script s c) h ≡ sleep_touched c.mover h (sleeps_until s h)
+sleeps-changed script s c h there = asleep-begun script s (with_mover script s.goroutines c.mover) c.starts h ∙ asleep-moved script s.goroutines c.mover h there
+
+-- who is firmly ready does not sleep
+firm-awake : (script : Script) (s : State) (g : ℕ) → is_firm_at script s g ≡ true → sleeps_until s g ≡ None
+firm-awake script s g firm =
+    elim (goroutine_at s g) as (λ o. (elim o as (λ o. Bool) [ None ↦ false | Some r ↦ is_firm script s r ]) ≡ true → asleep o ≡ None) [
+      | None ↦ λ h. refl
+      | Some r ↦ λ h.
+          elim r.mode as (λ mode. (elim mode as (λ mode. Bool) [
+            | Mode.At ↦ elim (instr_at script r.place) [ None ↦ false | Some i ↦ is_some (fault script s i) || goes_on i ]
+            | _ ↦ false
+          ]) ≡ true → until_of mode ≡ None) [
+            | Mode.At ↦ λ k. refl
+            | Mode.Sleeping until ↦ λ k. cc
+            | Mode.Ended ↦ λ k. refl
+          ] h
+    ] firm
+
+-- ---- due times and periods of timers
+
+abbrev due_in : Option Timer → Option ℕ
+due_in o = elim o as (λ o. Option ℕ) [ None ↦ None | Some r ↦ r.due ]
+
+abbrev SettingIsRight : List (Option Timer) → Option (ℕ × Setting) → Type 0
+SettingIsRight ts None = Unit {0}
+SettingIsRight ts (Some (t, Setting.Made due)) = t < length ts
+SettingIsRight ts (Some (t, Setting.SetAnew due)) = is_some (at ts t) ≡ true
+SettingIsRight ts (Some (t, Setting.Ended next)) = is_some (at ts t) ≡ true
+
+due-set_again : (due period : ℕ) (o : Option Timer) → is_some o ≡ true → due_in (set_again due period o) ≡ Some due
+due-set_again due period None h = cc
+due-set_again due period (Some r) h = refl
+
+due-set_due : (next : Option ℕ) (o : Option Timer) → is_some o ≡ true → due_in (set_due next o) ≡ next
+due-set_due next None h = cc
+due-set_due next (Some r) h = refl
+
+-- by whether it is the timer of the change
+by-timer : (now : Option ℕ) (before after : Option ℕ) (t u : ℕ) → (u ≡ t → now ≡ after) → (u ≢ t → now ≡ before) → now ≡ cond (u == t) after before
+by-timer now before after t u same other =
+    elim (cases_eq u t) [
+      | inl is ↦ same is ∙ ap (λ b. cond b after before) (sym (eq-eqb u t is))
+      | inr n ↦ other n ∙ ap (λ b. cond b after before) (sym (ne_eqb u t n))
+    ]
+
+due-retimed : (script : Script) (s : State) (mover : Option (ℕ × Move)) (ts : List (Option Timer)) (c : Option (ℕ × Setting)) (u : ℕ) → SettingIsRight ts c
+    → due_in (at (with_retimed script s mover ts c) u) ≡ timer_touched c u (due_in (at ts u))
+due-retimed script s mover ts None u right = refl
+due-retimed script s mover ts (Some (t, Setting.Made due)) u right =
+    by-timer (due_in (at (retimed script s mover t ts (Setting.Made due)) u)) (due_in (at ts u)) (Some due) t u
+    (λ is. ap (λ v. due_in (at (retimed script s mover t ts (Setting.Made due)) v)) is ∙ ap due_in (at-set_same ts t _ right))
+    (λ n. ap due_in (at-set_other ts t u _ n))
+due-retimed script s mover ts (Some (t, Setting.SetAnew due)) u right =
+    by-timer (due_in (at (retimed script s mover t ts (Setting.SetAnew due)) u)) (due_in (at ts u)) (Some due) t u
+    (λ is. ap (λ v. due_in (at (retimed script s mover t ts (Setting.SetAnew due)) v)) is
+    ∙ (ap due_in (at-change_same ts t (set_again due 0) refl) ∙ due-set_again due 0 (at ts t) right))
+    (λ n. ap due_in (at-change_other ts t u (set_again due 0) n))
+due-retimed script s mover ts (Some (t, Setting.Ended next)) u right =
+    by-timer (due_in (at (retimed script s mover t ts (Setting.Ended next)) u)) (due_in (at ts u)) next t u
+    (λ is. ap (λ v. due_in (at (retimed script s mover t ts (Setting.Ended next)) v)) is
+    ∙ (ap due_in (at-change_same ts t (set_due next) refl) ∙ due-set_due next (at ts t) right))
+    (λ n. ap due_in (at-change_other ts t u (set_due next) n))
+
+abbrev period_in : Option Timer → ℕ
+period_in o = elim o as (λ o. ℕ) [ None ↦ 0 | Some r ↦ r.period ]
+
+-- ---- what an entry touches is there
+
+record TouchesRightly (s : State) (c : Change) : Type 0 where
+  mover : MoverIsThere s.goroutines c.mover
+  setting : SettingIsRight s.timers c.timer
+
+standing-there : (script : Script) (s : State) (g : ℕ) (i : Instr) → stands_at script s g ≡ Some i → HasNumber s.goroutines g
+standing-there script s g i stands =
+    let st : Standing script s g i = standing script s g i stands in
+    record { item = st.who; there = st.there }
+
+-- an instruction without a misuse
+no-reason : (o : Option Reason) → (elim o as (λ o. Option (ℕ × Reason)) [ None ↦ None | Some reason ↦ Some (0, reason) ]) ≡ None → o ≡ None
+no-reason None h = refl
+no-reason (Some reason) h = cc
+
+does-faultless : (script : Script) (s : State) (g : ℕ) (i : Instr) → Does script s g i → fault script s i ≡ None
+does-faultless script s g i does =
+    let here : fault_at script s i ≡ panic_at script s g =
+    ap (λ (o : Option Instr). elim o as (λ o. Option (ℕ × Reason)) [ None ↦ None | Some i ↦ fault_at script s i ]) (sym does.stands) ∙ panic_stands script s g in
+    no-reason (fault script s i) (here ∙ does.calm)
+
+made-unless : (o : Option Timer) → when (is_none o) Reason.Unmade ≡ None → is_some o ≡ true
+made-unless None h = cc
+made-unless (Some r) h = refl
+
+made-set : (o : Option Timer) (due : ℕ) → due_in o ≡ Some due → is_some o ≡ true
+made-set None due h = cc
+made-set (Some r) due h = refl
+
+made-and : (o : Option Timer) (P : Timer → Type 0) → IsSomeAnd o P → is_some o ≡ true
+made-and None P h = absurd h
+made-and (Some r) P h = refl
+
+touches-may : (script : Script) (s : State) (e : Entry) → IsGood script → IsFormed script s → May script s e → TouchesRightly s (change_of e)
+touches-may script s (Entry.Say g n) good formed may = record { mover = standing-there script s g (Instr.Say n) may.stands; setting = tt }
+touches-may script s (Entry.Now g now) good formed may = record { mover = standing-there script s g Instr.Now may.0.stands; setting = tt }
+touches-may script s (Entry.Go g child f) good formed may = record { mover = standing-there script s g (Instr.Go f) may.0.stands; setting = tt }
+touches-may script s (Entry.End g) good formed may = record { mover = standing-there script s g Instr.Finish may.stands; setting = tt }
+touches-may script s (Entry.Sleep g until) good formed may = record { mover = standing-there script s g (Instr.Sleep may.0) may.1.stands; setting = tt }
+touches-may script s (Entry.Wake g) good formed may =
+    let a : Asleep s g = sleeper s g (λ until. until ≤ clock_of s g) may in
+    record { mover = record { item = a.who; there = a.there }; setting = tt }
+touches-may script s (Entry.New g t due) good formed may = record {
+  mover = standing-there script s g (Instr.New t may.0) may.1.stands;
+  setting = setting_within script s t formed (names-Does script s g (Instr.New t may.0) good may.1).0;
+}
+touches-may script s (Entry.Stop g t was) good formed may = record {
+  mover = standing-there script s g (Instr.Stop t) may.0.stands;
+  setting = made-unless (timer_at s t) (does-faultless script s g (Instr.Stop t) may.0);
+}
+touches-may script s (Entry.Reset g t was due) good formed may = record {
+  mover = standing-there script s g (Instr.Reset t may.0) may.1.stands;
+  setting = made-unless (timer_at s t) (does-faultless script s g (Instr.Reset t may.0) may.1);
+}
+touches-may script s (Entry.TRecv p t due next) good formed may =
+    let on : AtOperation script s p t = at_operation script s p t may.0.stands in
+    record { mover = standing-there script s p.g on.instr on.stands; setting = made-set (timer_at s t) due may.2 }
+touches-may script s (Entry.FireFunc t child) good formed may = record { mover = tt; setting = made-and (timer_at s t) _ may.1 }
+touches-may script s (Entry.Clock world to) good formed may = record { mover = tt; setting = tt }
+touches-may script s (Entry.Panic p reason) good formed may = record { mover = tt; setting = tt }
+touches-may script s (Entry.Finish outcome) good formed may = absurd may
+
+touches-legal : (script : Script) (limits : Limits) (s : State) (e : Entry) → IsGood script → IsFormed script s → Legal script limits s e → TouchesRightly s (change_of e)
+touches-legal script limits s (Entry.Finish outcome) good formed legal = record { mover = tt; setting = tt }
+touches-legal script limits s e good formed legal = touches-may script s e good formed legal.1
+
+enters-touches : (old : BookView) (e : Entry) (new : BookView) → IsLawful old → Enters old e new → TouchesRightly old.state (change_of e)
+enters-touches old e new lawful enters = touches-legal old.script old.limits old.state e lawful.good lawful.formed enters.legal.0
+
+-- ---- the due times that records have to show
+
+cond-both : {X : Type 0} (b : Bool) (x y p q : X) → x ≡ p → y ≡ q → cond b x y ≡ cond b p q
+cond-both true x y p q e f = e
+cond-both false x y p q e f = f
+
+-- the parts of a condition's branches, where each is a condition too
+cond-parts : {X : Type 0} (b : Bool) (f g : X → X) (x y : X) → cond b (f x) (g y) ≡ cond b (f (cond b x y)) (g (cond b x y))
+cond-parts true f g x y = refl
+cond-parts false f g x y = refl
+
+dues-changed : (script : Script) (s : State) (c : Change) (id : ℕ) → TouchesRightly s c → due_by script (changed script s c) id ≡ touched c (length script.decls) id (due_by script s id)
+dues-changed script s c id right =
+    let below : Bool = nat_lt id (length script.decls) in
+    let g : ℕ = id - length script.decls in
+    cond-both below (due_of (changed script s c) id) (sleeps_until (changed script s c) g) (timer_touched c.timer id (due_of s id)) (sleep_touched c.mover g (sleeps_until s g))
+    (due-retimed script s c.mover s.timers c.timer id right.setting) (sleeps-changed script s c g right.mover)
+    ∙ cond-parts below (timer_touched c.timer id) (sleep_touched c.mover g) (due_of s id) (sleeps_until s g)
+
+-- who goes on and did not sleep still does not
+sleep-goes_on : (g x : ℕ) (before : Option ℕ) → (g ≡ x → before ≡ None) → cond (g == x) None before ≡ before
+sleep-goes_on g x before none =
+    elim (cases_eq g x) [
+      | inl is ↦ ap (λ b. cond b None before) (eq-eqb g x is) ∙ sym (none is)
+      | inr other ↦ ap (λ b. cond b None before) (ne_eqb g x other)
+    ]
+
+firm-there : (script : Script) (s : State) (g : ℕ) → is_firm_at script s g ≡ true → HasNumber s.goroutines g
+firm-there script s g firm =
+    elim (goroutine_at s g) as (λ o. goroutine_at s g ≡ o → (elim o as (λ o. Bool) [ None ↦ false | Some r ↦ is_firm script s r ]) ≡ true → HasNumber s.goroutines g) [
+      | None ↦ λ e h. cc
+      | Some r ↦ λ e h. record { item = r; there = e }
+    ] refl firm
+
+sleeps-woken : (script : Script) (s : State) (m : Schedule) (e : Entry) (g : ℕ) → IsWoken script s m e → sleeps_until (after script s e) g ≡ sleeps_until s g
+sleeps-woken script s m e g w =
+    ap (λ (s : State). sleeps_until s g) (after-woken script s m e w)
+    ∙ (sleeps-changed script s (on w.g) g (firm-there script s w.g w.firm)
+    ∙ sleep-goes_on g w.g (sleeps_until s g) (λ is. ap (sleeps_until s) is ∙ firm-awake script s w.g w.firm))
+
+dues-frame : (script : Script) (id : ℕ) → IsFrame script (λ s. due_by script s id)
+dues-frame script id = record {
+  woken = λ s m e w.
+      cond-both (nat_lt id (length script.decls)) _ _ _ _
+      (ap (λ (s : State). due_of s id) (after-woken script s m e w)) (sleeps-woken script s m e (id - length script.decls) w);
+  finish = λ s outcome. refl;
+}
+
+pub enters-dues : (old : BookView) (e : Entry) (new : BookView) → IsLawful old → Enters old e new → (id : ℕ)
+    → due_by new.script new.state id ≡ touched (change_of e) (length old.script.decls) id (due_by old.script old.state id)
+enters-dues old e new lawful enters id =
+    ap (λ (script : Script). due_by script new.state id) (enters-script old e new enters)
+    ∙ (enters-frame old e new (λ s. due_by old.script s id) (dues-frame old.script id) enters
+    ∙ dues-changed old.script old.state (change_of e) id (enters-touches old e new lawful enters))
