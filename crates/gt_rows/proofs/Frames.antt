@@ -33,11 +33,11 @@ use Rattle.gt_facts.proofs.Still.{panic_stands}
 use Rattle.gt_facts.proofs.Within.{setting_within}
 use Rattle.gt_book.proofs.Passing.{enters-script}
 use Rattle.gt_schedule.specs.declared.status.RunStatus.{RunStatus}
-use Rattle.gt_schedule.specs.Schedule.{Schedule, status_of, is_parked, scheduled, schedule_after}
+use Rattle.gt_schedule.specs.Schedule.{Schedule, status_of, is_parked, scheduled, schedule_after, marks_at, with_new, begun_by, gone_on, turned, moved_by, unparked}
 use Rattle.gt_book.specs.View.{BookView, Enters, AreWoken, IsLawful, finish_by, finish_due, is_firm_at, maker}
 use Rattle.gt_machine.specs.Outcomes.{due_outcome}
 use Rattle.gt_rows.specs.Agrees.{due_by, period_by}
-use Rattle.gt_rows.specs.Frames.{due_after, until_after, timer_touched, sleep_touched, touched, period_touched, clock_touched, status_turned, IsUnmoved, StaysOrRuns}
+use Rattle.gt_rows.specs.Frames.{due_after, until_after, timer_touched, sleep_touched, touched, timer_period_touched, period_touched, clock_touched, status_turned, IsUnmoved, StaysOrRuns}
 
 -- ---- the entries of goroutines that are woken
 
@@ -333,3 +333,122 @@ enters-dues old e new lawful enters id =
     ap (λ (script : Script). due_by script new.state id) (enters-script old e new enters)
     ∙ (enters-frame old e new (λ s. due_by old.script s id) (dues-frame old.script id) enters
     ∙ dues-changed old.script old.state (change_of e) id (enters-touches old e new lawful enters))
+
+-- ---- the periods of timers
+
+period-set_again : (due period : ℕ) (o : Option Timer) → is_some o ≡ true → period_in (set_again due period o) ≡ period
+period-set_again due period None h = cc
+period-set_again due period (Some r) h = refl
+
+period-set_due : (next : Option ℕ) (o : Option Timer) → period_in (set_due next o) ≡ period_in o
+period-set_due next None = refl
+period-set_due next (Some r) = refl
+
+by-period : (now before after t u : ℕ) → (u ≡ t → now ≡ after) → (u ≢ t → now ≡ before) → now ≡ cond (u == t) after before
+by-period now before after t u same other =
+    elim (cases_eq u t) [
+      | inl is ↦ same is ∙ ap (λ b. cond b after before) (sym (eq-eqb u t is))
+      | inr n ↦ other n ∙ ap (λ b. cond b after before) (sym (ne_eqb u t n))
+    ]
+
+period-retimed : (script : Script) (s : State) (c : Change) (u : ℕ) (o : Option (ℕ × Setting)) → SettingIsRight s.timers o
+    → period_in (at (with_retimed script s c.mover s.timers o) u) ≡ timer_period_touched script s c u (period_in (at s.timers u)) o
+period-retimed script s c u None right = refl
+period-retimed script s c u (Some (t, Setting.Made due)) right =
+    by-period (period_in (at (retimed script s c.mover t s.timers (Setting.Made due)) u)) (period_in (at s.timers u)) 0 t u
+    (λ is. ap (λ v. period_in (at (retimed script s c.mover t s.timers (Setting.Made due)) v)) is ∙ ap period_in (at-set_same s.timers t _ right))
+    (λ n. ap period_in (at-set_other s.timers t u _ n))
+period-retimed script s c u (Some (t, Setting.SetAnew due)) right =
+    by-period (period_in (at (retimed script s c.mover t s.timers (Setting.SetAnew due)) u)) (period_in (at s.timers u)) 0 t u
+    (λ is. ap (λ v. period_in (at (retimed script s c.mover t s.timers (Setting.SetAnew due)) v)) is
+    ∙ (ap period_in (at-change_same s.timers t (set_again due 0) refl) ∙ period-set_again due 0 (at s.timers t) right))
+    (λ n. ap period_in (at-change_other s.timers t u (set_again due 0) n))
+period-retimed script s c u (Some (t, Setting.Ended next)) right =
+    by-period (period_in (at (retimed script s c.mover t s.timers (Setting.Ended next)) u)) (period_in (at s.timers u)) (period_in (at s.timers u)) t u
+    (λ is. ap (λ v. period_in (at (retimed script s c.mover t s.timers (Setting.Ended next)) v)) is
+    ∙ (ap period_in (at-change_same s.timers t (set_due next) refl) ∙ (period-set_due next (at s.timers t) ∙ ap (λ v. period_in (at s.timers v)) (sym is))))
+    (λ n. ap period_in (at-change_other s.timers t u (set_due next) n))
+
+periods-frame : (script : Script) (id : ℕ) → IsFrame script (λ s. period_by script s id)
+periods-frame script id = record {
+  woken = λ s m e w. ap (λ (s : State). period_by script s id) (after-woken script s m e w);
+  finish = λ s outcome. refl;
+}
+
+cond-inside : (b : Bool) (f : ℕ → ℕ) (x y : ℕ) → cond b (f x) y ≡ cond b (f (cond b x y)) (cond b x y)
+cond-inside true f x y = refl
+cond-inside false f x y = refl
+
+periods-changed : (script : Script) (s : State) (c : Change) (id : ℕ) → TouchesRightly s c → period_by script (changed script s c) id ≡ period_touched script s c id (period_by script s id)
+periods-changed script s c id right =
+    let below : Bool = nat_lt id (length script.decls) in
+    ap (λ x. cond below x 0) (period-retimed script s c id c.timer right.setting)
+    ∙ cond-inside below (λ before. timer_period_touched script s c id before c.timer) (period_in (timer_at s id)) 0
+
+pub enters-periods : (old : BookView) (e : Entry) (new : BookView) → IsLawful old → Enters old e new → (id : ℕ)
+    → period_by new.script new.state id ≡ period_touched old.script old.state (change_of e) id (period_by old.script old.state id)
+enters-periods old e new lawful enters id =
+    ap (λ (script : Script). period_by script new.state id) (enters-script old e new enters)
+    ∙ (enters-frame old e new (λ s. period_by old.script s id) (periods-frame old.script id) enters
+    ∙ periods-changed old.script old.state (change_of e) id (enters-touches old e new lawful enters))
+
+-- ---- the program's clock
+
+clock-frame : (script : Script) → IsFrame script (λ s. clock s 0)
+clock-frame script = record {
+  woken = λ s m e w. ap (λ (s : State). clock s 0) (after-woken script s m e w);
+  finish = λ s outcome. refl;
+}
+
+clock-set : (cs : List ℕ) (c : ℕ) (o : Option (ℕ × ℕ)) → cs ≡ c ∷ [] → slice_index (with_clock cs o) 0 ≡ clock_touched o c
+clock-set cs c None is = ap (λ cs. slice_index cs 0) is
+clock-set cs c (Some (zero, to)) is = ap (λ cs. slice_index (set cs 0 to) 0) is
+clock-set cs c (Some (suc world, to)) is =
+    ap (λ cs. slice_index (set cs (suc world) to) 0) is ∙ ap (λ b. cond b to c) (sym (ne_eqb (suc world) 0 (λ e. cc)))
+
+pub enters-clock : (old : BookView) (e : Entry) (new : BookView) → IsLawful old → Enters old e new
+    → clock new.state 0 ≡ clock_touched (change_of e).clock (clock old.state 0)
+enters-clock old e new lawful enters =
+    enters-frame old e new (λ s. clock s 0) (clock-frame old.script) enters
+    ∙ clock-set old.state.clocks (clock old.state 0) (change_of e).clock lawful.formed.one_clock
+
+-- ---- marks
+
+marks-push : (m : Schedule) (g : ℕ) → marks_at (with_new m) g ≡ marks_at m g
+marks-push m g =
+    elim (cases_eq g (length m.marks + 1)) [
+      | inl is ↦
+          let now : numbered (m.marks ++ [] ∷ []) g ≡ Some [] = numbered-push_same m.marks [] g is in
+          let before : numbered m.marks g ≡ None = numbered-next m.marks g is in
+          rw (now, before) refl
+      | inr other ↦
+          let same : numbered (m.marks ++ [] ∷ []) g ≡ numbered m.marks g = numbered-push_other m.marks [] g other in
+          rw same refl
+    ]
+
+marks-begun : (m : Schedule) (starts : List Start) (g : ℕ) → marks_at (begun_by m starts) g ≡ marks_at m g
+marks-begun m [] g = refl
+marks-begun m (x ∷ xs) g = marks-begun (with_new m) xs g ∙ marks-push m g
+
+marks-gone_on : (m : Schedule) (x g : ℕ) (waits : Bool) → marks_at (gone_on m x waits) g ≡ marks_at m g
+marks-gone_on m x g true = refl
+marks-gone_on m x g false = refl
+
+marks-turned : (m : Schedule) (x : ℕ) (move : Move) (g : ℕ) → marks_at (turned m x move) g ≡ marks_at m g
+marks-turned m x (Move.GoesOn n) g = marks-gone_on m x g (is_parked (status_of m x))
+marks-turned m x (Move.FallsAsleep until) g = refl
+marks-turned m x Move.Ends g = refl
+
+marks-moved : (m : Schedule) (o : Option (ℕ × Move)) (g : ℕ) → marks_at (moved_by m o) g ≡ marks_at m g
+marks-moved m None g = refl
+marks-moved m (Some x) g = marks-turned m x.0 x.1 g
+
+marks-after : (m : Schedule) (h : List Entry) (g : ℕ) → marks_at (schedule_after m h) g ≡ marks_at m g
+marks-after m [] g = refl
+marks-after m (e ∷ h) g =
+    marks-after (scheduled m e) h g ∙ (marks-begun (moved_by m (change_of e).mover) (change_of e).starts g ∙ marks-moved m (change_of e).mover g)
+
+pub enters-marks : (old : BookView) (e : Entry) (new : BookView) → Enters old e new → (g : ℕ) → marks_at new.schedule g ≡ marks_at old.schedule g
+enters-marks old e new enters g =
+    ap (λ (b : BookView). marks_at b.schedule g) enters.is
+    ∙ marks-after old.schedule ((e ∷ enters.woken) ++ finish_due old.limits (state_after old.script old.state (e ∷ enters.woken))) g
