@@ -1,6 +1,8 @@
 //! The sections of timers with records: each changes a timer's record, the caller's heap and the book together, as one step.
 #![tactic(auto)]
 
+mod stop;
 mod unblock;
 
+pub use stop::sec_stop;
 pub use unblock::sec_unblock;

@@ -1,0 +1,4 @@
+pub mod Asking
+pub mod Committing
+pub mod Keeping
+pub mod Stopping
