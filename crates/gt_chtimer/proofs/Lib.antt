@@ -2,3 +2,5 @@ pub mod Asking
 pub mod Committing
 pub mod Keeping
 pub mod Stopping
+pub mod Receiving
+pub mod Delivering
