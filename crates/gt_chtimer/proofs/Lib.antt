@@ -4,3 +4,4 @@ pub mod Keeping
 pub mod Stopping
 pub mod Receiving
 pub mod Delivering
+pub mod Blocking

@@ -1,11 +1,14 @@
 //! The sections of timers with records: each changes a timer's record, the caller's heap and the book together, as one step.
 #![tactic(auto)]
 
+mod block;
 mod deliver;
+mod join;
 mod receive;
 mod stop;
 mod unblock;
 
+pub use block::sec_block;
 pub use deliver::sec_deliver;
 pub use stop::sec_stop;
 pub use unblock::sec_unblock;
