@@ -5,3 +5,4 @@ pub mod Stopping
 pub mod Receiving
 pub mod Delivering
 pub mod Blocking
+pub mod Setting

@@ -5,10 +5,12 @@ mod block;
 mod deliver;
 mod join;
 mod receive;
+mod set;
 mod stop;
 mod unblock;
 
 pub use block::sec_block;
 pub use deliver::sec_deliver;
+pub use set::sec_set;
 pub use stop::sec_stop;
 pub use unblock::sec_unblock;
