@@ -1,9 +1,9 @@
 -- A goroutine that comes to wait at a timer.
-use Rattle.std.proofs.Common.{◌≡◌, ℕ, ◌<◌, refl, sym, ap, subst, ◌∙◌, Option, None, Some, MatchOption}
+use Rattle.std.proofs.Common.{◌≡◌, ℕ, refl, sym, subst, Option, None, Some, MatchOption}
 use Rattle.gt_model.specs.declared.entry.Party.{Party}
 use Rattle.gt_rules.specs.State.{clock}
 use Rattle.gt_rec.specs.Rec.{Rec}
-use Rattle.gt_rec.specs.Changes.{received, taken}
+use Rattle.gt_rec.specs.Changes.{received}
 use Rattle.gt_lazy.specs.Slots.{LazyHeap}
 use Rattle.gt_schedule.specs.Schedule.{plainly, IsLive}
 use Rattle.gt_schedule.specs.declared.status.Ticket.{Ticket}

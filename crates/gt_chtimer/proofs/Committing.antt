@@ -1,9 +1,9 @@
 -- What comes of an operation that is committed while the run goes on.
-use Rattle.std.proofs.Common.{◌≡◌, ◌⊎◌, inl, inr, sym, subst, Option, None, Some, MatchOption, Bool, false}
+use Rattle.std.proofs.Common.{◌≡◌, ◌⊎◌, inl, inr, sym, subst, None, Some, MatchOption, false}
 use Rattle.gt_model.specs.declared.entry.Outcome.{Outcome}
 use Rattle.gt_book.specs.declared.answers.Commit.{Commit}
 use Rattle.gt_book.specs.declared.answers.Op.{Op}
-use Rattle.gt_book.specs.Steps.{Commits, DidCommit, entry_of, is_gone}
+use Rattle.gt_book.specs.Steps.{Commits, entry_of, is_gone}
 use Rattle.gt_book.specs.View.{BookView, Enters, outcome_of}
 use Rattle.gt_rows.specs.Rows.{Answers}
 

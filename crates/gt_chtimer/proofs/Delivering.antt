@@ -1,7 +1,6 @@
 -- The end of a send.
-use Rattle.std.proofs.Common.{◌≡◌, ℕ, ◌<◌, ◌==◌, ◌&&◌, IsNone, IsSome, is_none, is_some, length, refl, sym, ap, subst, ◌∙◌, Option, None, Some, Bool, true, false, not, MatchOption, slice_get}
+use Rattle.std.proofs.Common.{◌≡◌, ℕ, ◌==◌, ◌&&◌, IsNone, IsSome, is_none, is_some, refl, sym, ap, subst, Option, None, Some, Bool, true, false, not, MatchOption, slice_get}
 use Rattle.std.proofs.lemmas.Bool.{eq-eqb}
-use Rattle.gt_model.specs.declared.entry.Outcome.{Outcome}
 use Rattle.gt_model.specs.declared.entry.Party.{Party}
 use Rattle.gt_rules.specs.State.{clock}
 use Rattle.gt_rec.specs.Rec.{Rec, in_flight, is_awaited}

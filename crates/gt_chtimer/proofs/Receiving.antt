@@ -1,5 +1,5 @@
 -- The receive of a timer's value.
-use Rattle.std.proofs.Common.{◌≡◌, ℕ, ◌<◌, ◌≤◌, ◌&&◌, length, slice_get, refl, sym, ap, subst, ◌∙◌, Option, None, Some, option_map, option_and_then, IsTrue, Bool, true, false, nat_le, if◌then◌else◌}
+use Rattle.std.proofs.Common.{◌≡◌, ℕ, ◌<◌, ◌≤◌, length, slice_get, refl, sym, ap, subst, ◌∙◌, Option, None, Some, option_map, option_and_then, Bool, true, false, nat_le, if◌then◌else◌}
 use Rattle.std.proofs.lemmas.Bool.{leb-true}
 use Rattle.gt_model.specs.declared.entry.Entry.{Entry}
 use Rattle.gt_model.specs.declared.entry.Party.{Party}

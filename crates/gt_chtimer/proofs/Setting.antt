@@ -1,14 +1,11 @@
 -- A new setting of a timer.
-use Rattle.std.proofs.Common.{◌≡◌, ◌⊎◌, ℕ, ◌+◌, ◌<◌, min, length, IsTrue, refl, sym, ap, subst, ◌∙◌, Option, None, Some, MatchOption, Bool, true, false, is_some}
+use Rattle.std.proofs.Common.{◌≡◌, ◌⊎◌, ℕ, ◌+◌, ◌<◌, min, length, IsTrue, refl, sym, ap, subst, ◌∙◌, None, Some, MatchOption, Bool, true, false, is_some}
 use Rattle.gt_model.specs.Times.{greatest_time}
 use Rattle.gt_model.specs.declared.entry.Entry.{Entry}
-use Rattle.gt_model.specs.declared.entry.Outcome.{Outcome}
 use Rattle.gt_model.specs.declared.script.Instr.{Instr}
 use Rattle.gt_model.specs.declared.script.Script.{Script}
 use Rattle.gt_model.specs.Good.{is_setting, NamesRightly}
-use Rattle.gt_rules.specs.State.{State, stands_at, clock, clock_of, due_of}
-use Rattle.gt_rules.specs.After.{new_period, number_of}
-use Rattle.gt_rules.specs.Change.{change_of}
+use Rattle.gt_rules.specs.State.{stands_at, clock, clock_of, due_of}
 use Rattle.gt_rules.specs.Legal.{due_at}
 use Rattle.gt_rules.specs.declared.change.Setting.{Setting}
 use Rattle.gt_facts.proofs.Formed.{world_of-zero}
@@ -25,12 +22,11 @@ use Rattle.gt_book.specs.declared.answers.Op.{Op}
 use Rattle.gt_book.specs.declared.answers.TimerOp.{TimerOp}
 use Rattle.gt_book.specs.declared.step.Step.{Step}
 use Rattle.gt_book.specs.Steps.{Steps, MayCommit, is_gone}
-use Rattle.gt_book.specs.View.{BookView, Enters, IsLawful, outcome_of}
+use Rattle.gt_book.specs.View.{BookView, IsLawful, outcome_of}
 use Rattle.gt_book.proofs.Committing.{may-reset}
 use Rattle.gt_rows.specs.declared.answers.SetDone.{SetDone}
 use Rattle.gt_rows.specs.Lent.{IsLentRec, Settles, joins}
 use Rattle.gt_rows.specs.Rows.{Parts, Arms, sets, SetsAt, SetsBy, SetRow, next_of}
-use Rattle.gt_rows.proofs.Frames.{enters-dues}
 use Rattle.gt_chtimer.proofs.Asking.{Panics, panic-or-needs, Echoes, Panicked, panicked, IsOver, is-over, Asked, asked}
 use Rattle.gt_chtimer.proofs.Keeping.{agrees-panicked, agrees-set, shown-declared}
 

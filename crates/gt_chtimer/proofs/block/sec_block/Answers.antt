@@ -1,10 +1,10 @@
-use Rattle.std.proofs.Common.{◌≡◌, ℕ, Option, None, Some, IsTrue, sym, ap, subst, ◌∙◌, rules, refl}
+use Rattle.std.proofs.Common.{◌≡◌, None, IsTrue, sym, subst, rules, refl}
 use Rattle.gt_rules.specs.State.{clock}
 use Rattle.gt_rec.specs.Rec.{Rec}
 use Rattle.gt_rec.specs.Changes.{received}
 use Rattle.gt_schedule.specs.Schedule.{plainly, IsLive, HasMarkRoom}
 use Rattle.gt_book.specs.View.{BookView, is_at_receive, outcome_of}
-use Rattle.gt_rows.specs.Lent.{IsLent, IsPlaced}
+use Rattle.gt_rows.specs.Lent.{IsLent}
 use Rattle.gt_rows.specs.declared.answers.BlockDone.{BlockDone}
 use Rattle.gt_chtimer.specs.Receive.{ReceivesBy}
 use Rattle.gt_chtimer.proofs.Committing.{tells-over, tells-fine}

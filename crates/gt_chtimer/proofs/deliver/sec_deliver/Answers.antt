@@ -1,9 +1,6 @@
-use Rattle.std.proofs.Common.{◌≡◌, IsNone, IsSome, ℕ, Option, None, Some, sym, ap, ◌∙◌, rules, Bool, true, refl, slice_get, subst}
+use Rattle.std.proofs.Common.{◌≡◌, IsNone, IsSome, ℕ, None, Some, sym, ap, ◌∙◌, rules, true, refl, slice_get, subst}
 use Rattle.gt_rec.specs.Rec.{Rec, in_flight, is_awaited}
-use Rattle.gt_rec.specs.Fields.{rec_of}
-use Rattle.gt_rec.specs.Changes.{ended}
 use Rattle.gt_schedule.specs.Schedule.{parties_at}
-use Rattle.gt_book.specs.declared.answers.Commit.{Commit}
 use Rattle.gt_book.specs.View.{is_parked_at, outcome_of}
 use Rattle.gt_book.proofs.Committing.{parked-first}
 use Rattle.gt_rows.specs.declared.answers.Delivered.{Delivered}

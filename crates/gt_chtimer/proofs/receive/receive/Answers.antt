@@ -1,4 +1,4 @@
-use Rattle.std.proofs.Common.{◌≡◌, ℕ, Option, Some, sym, ap, ◌∙◌, rules}
+use Rattle.std.proofs.Common.{◌≡◌, Some, sym, ap, ◌∙◌, rules}
 use Rattle.gt_rules.specs.State.{clock}
 use Rattle.gt_rec.specs.Rec.{Rec}
 use Rattle.gt_rec.specs.Fields.{rec_of}

@@ -1,8 +1,6 @@
-use Rattle.std.proofs.Common.{◌≡◌, ℕ, ◌+◌, min, Option, None, Some, Bool, is_some, sym, ap, subst, ◌∙◌, rules, refl}
-use Rattle.gt_model.specs.Times.{greatest_time}
+use Rattle.std.proofs.Common.{◌≡◌, Some, is_some, ap, ◌∙◌, refl}
 use Rattle.gt_model.specs.declared.entry.Entry.{Entry}
-use Rattle.gt_rules.specs.State.{clock}
-use Rattle.gt_rec.specs.Rec.{Rec, shown}
+use Rattle.gt_rec.specs.Rec.{shown}
 use Rattle.gt_book.specs.declared.answers.TimerOp.{TimerOp}
 use Rattle.gt_rows.specs.declared.answers.SetDone.{SetDone}
 use Rattle.gt_rows.specs.Rows.{Parts, Arms}

@@ -1,21 +1,18 @@
-use Rattle.std.proofs.Common.{rules, ◌≡◌, ℕ, None, Some, Bool, false, sym, ap, subst, ◌∙◌, is_some, refl}
+use Rattle.std.proofs.Common.{◌≡◌, ℕ, Some, Bool, sym, ap, subst, ◌∙◌, is_some, refl}
 use Rattle.gt_model.specs.declared.entry.Entry.{Entry}
 use Rattle.gt_rec.specs.Rec.{Rec, BitsRight, shown}
 use Rattle.gt_rec.specs.Fields.{rec_of}
 use Rattle.gt_rec.specs.Changes.{disarmed}
-use Rattle.gt_rules.specs.State.{due_of}
 use Rattle.gt_book.specs.View.{BookView, IsLawful}
-use Rattle.gt_book.specs.Steps.{Steps, MayCommit, is_gone}
-use Rattle.gt_book.specs.declared.answers.Op.{Op}
+use Rattle.gt_book.specs.Steps.{Steps}
 use Rattle.gt_book.specs.declared.answers.Did.{Did}
 use Rattle.gt_schedule.specs.declared.status.RunStatus.{RunStatus}
 use Rattle.gt_schedule.specs.Schedule.{status_of}
 use Rattle.gt_book.specs.declared.answers.TimerOp.{TimerOp}
 use Rattle.gt_rows.specs.Lent.{IsLentRec}
-use Rattle.gt_rows.specs.Rows.{Pair, Stops, StopsAt, StopRow}
+use Rattle.gt_rows.specs.Rows.{Pair, Stops, StopsAt}
 use Rattle.gt_rows.specs.declared.answers.StopDone.{StopDone}
-use Rattle.gt_chtimer.proofs.Asking.{Asked, asked}
-use Rattle.gt_chtimer.proofs.Committing.{Tells, Came, came, tells-over, tells-fine}
+use Rattle.gt_chtimer.proofs.Committing.{Tells, tells-over, tells-fine}
 use Rattle.gt_chtimer.proofs.Stopping.{StopComes, stop-comes, stop-came, stop-row, stop-kept, plain-kept}
 use Rattle.gt_chtimer.proofs.stop.sec_stop.Goals as goal
 use Rattle.gt_chtimer.proofs.stop.sec_stop.Goals.{in-Over-commit, in-Entered-commit}

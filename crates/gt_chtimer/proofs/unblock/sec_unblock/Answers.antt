@@ -1,4 +1,4 @@
-use Rattle.std.proofs.Common.{◌≡◌, ◌<◌, ◌+◌, ℕ, Some, drop, slice_get, sym, ap, subst, ◌∙◌, arith}
+use Rattle.std.proofs.Common.{◌≡◌, ◌+◌, Some, drop, slice_get, sym, ap, ◌∙◌, arith}
 use Rattle.gt_rec.specs.Rec.{Rec}
 use Rattle.gt_schedule.specs.Schedule.{marks_at}
 use Rattle.gt_schedule.specs.Counts.{times}
