@@ -1,2 +1,16 @@
 //! The sections of timers with records: each changes a timer's record, the caller's heap and the book together, as one step.
 #![tactic(auto)]
+
+mod block;
+mod deliver;
+mod join;
+mod receive;
+mod set;
+mod stop;
+mod unblock;
+
+pub use block::sec_block;
+pub use deliver::sec_deliver;
+pub use set::sec_set;
+pub use stop::sec_stop;
+pub use unblock::sec_unblock;

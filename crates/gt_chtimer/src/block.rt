@@ -1,0 +1,61 @@
+//! A goroutine that comes to wait at a timer.
+
+ghost use Rattle.std.specs.Prelude.{◌≡◌, ◌<◌, IsNone, IsTrue, None};
+ghost use Rattle.gt_rules.specs.State as at;
+ghost use Rattle.gt_rec.specs.Rec.{has_channel};
+ghost use Rattle.gt_rec.specs.Changes.{received};
+ghost use Rattle.gt_schedule.specs.Schedule.{HasMarkRoom, IsLive};
+ghost use Rattle.gt_schedule.specs.Schedule as schedule;
+ghost use Rattle.gt_book.specs.View.{is_at_receive, outcome_of};
+ghost use Rattle.gt_rows.specs.Lent.{IsKept, IsLent};
+ghost use Rattle.gt_rows.specs.Rows.{BlockRow, Blocks};
+
+use crate::join::join;
+use crate::receive::receive;
+use gt_book::{Book, Commit};
+use gt_lazy::Lazy;
+use gt_rec::TimerRec;
+use gt_rows::BlockDone;
+use gt_schedule::{Ticket, plainly};
+
+/// A goroutine that was parked with this ticket at a receive from this timer: where the timer's value has come it receives it, and else the record
+/// counts it. The record joins the caller's heap where it needs one and is in none (Go 1.23, runtime/time.go).
+pub fn sec_block(heap: &mut Lazy, rec: &mut TimerRec, book: &mut Book, ticket: Ticket) -> BlockDone
+    requires lent { IsLent book.old heap.old rec.old }
+    requires channel { IsTrue (has_channel rec.old.kind) }
+    requires waits { IsLive book.old.schedule ticket → IsTrue (is_at_receive book.old.script book.old.state (schedule.plainly ticket.g) rec.old.id) }
+    requires room { IsLive book.old.schedule ticket → HasMarkRoom book.old.schedule ticket.g }
+    ensures row { BlockRow (record { heap = heap.old; rec = rec.old; book = book.old }) ticket (record { heap = heap.new; rec = rec.new; book = book.new }) result }
+    ensures kept { IsKept book.new heap.new rec.new }
+{
+    if let Some(outcome) = book.outcome() {
+        return BlockDone::Over(outcome);
+    }
+    if !book.live(ticket) {
+        return BlockDone::Gone;
+    }
+    let Some(commit) = receive(rec, book, plainly(ticket.g)) else {
+        return count(heap, rec, book, ticket);
+    };
+    match commit {
+        Commit::Over(outcome) => BlockDone::Over(outcome),
+        Commit::Entered | Commit::Gone => BlockDone::Received,
+    }
+}
+
+/// Counts the goroutine of a ticket among those that wait at the timer.
+fn count(heap: &mut Lazy, rec: &mut TimerRec, book: &mut Book, ticket: Ticket) -> BlockDone
+    requires lent { IsLent book.old heap.old rec.old }
+    requires live { IsLive book.old.schedule ticket }
+    requires waits { IsTrue (is_at_receive book.old.script book.old.state (schedule.plainly ticket.g) rec.old.id) }
+    requires room { HasMarkRoom book.old.schedule ticket.g }
+    ensures row { Blocks (record { heap = heap.old; rec = rec.old; book = book.old }) ticket.g (record { heap = heap.new; rec = rec.new; book = book.new }) result }
+    ensures kept { IsKept book.new heap.new rec.new }
+{
+    rec.raise_blocked();
+    book.mark_blocked(ticket, rec.id);
+    let joined = join(heap, rec);
+    BlockDone::Blocked {
+        lower: if joined { rec.when } else { None },
+    }
+}

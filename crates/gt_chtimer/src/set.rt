@@ -1,0 +1,125 @@
+//! Setting a timer.
+
+ghost use Rattle.std.specs.Prelude.{◌≡◌, ◌+◌, ◌<◌, ◌≤◌, ◌≢◌, IsNone, Some, false, min};
+ghost use Rattle.gt_model.specs.Times.{greatest_time};
+ghost use Rattle.gt_rules.specs.State as at;
+ghost use Rattle.gt_rec.specs.Rec.{BitsRight, shown};
+ghost use Rattle.gt_rec.specs.Changes.{armed};
+ghost use Rattle.gt_rec.specs.declared.RecKind.{RecKind};
+ghost use Rattle.gt_schedule.specs.declared.status.RunStatus.{RunStatus};
+ghost use Rattle.gt_schedule.specs.Schedule.{status_of};
+ghost use Rattle.gt_book.specs.Steps.{MayCommit, entry_of, is_gone};
+ghost use Rattle.gt_rows.specs.Lent.{IsKept, IsLent, IsPlaced, Settles, joins};
+ghost use Rattle.gt_rows.specs.Rows.{Arms, SetsAt, SetRow, set_answer};
+
+use crate::join::join;
+use gt_book::{Book, Commit, Did, Op, TimerOp};
+use gt_lazy::{Lazy, change};
+use gt_model::CAP;
+use gt_rec::TimerRec;
+use gt_rows::SetDone;
+
+/// The world of the program.
+const PROGRAM: u32 = 0;
+
+/// `new` or `reset` of goroutine `g`, which the caller has in hand and which stands at one of this timer. The record joins the caller's heap where it
+/// needs one and is in none (Go 1.23, runtime/time.go); where another heap has it under a later due time, the answer says so. Making a timer twice, or
+/// setting one that was not made, is a panic of `g`.
+pub fn sec_set(heap: &mut Lazy, rec: &mut TimerRec, book: &mut Book, g: u32) -> SetDone
+    requires lent { IsLent book.old heap.old rec.old }
+    requires in_hand { status_of book.old.schedule g ≡ Some RunStatus.InHand }
+    requires stands { SetsAt book.old g rec.old.id }
+    ensures row { SetRow (record { heap = heap.old; rec = rec.old; book = book.old }) g (record { heap = heap.new; rec = rec.new; book = book.new }) result }
+    ensures kept { IsKept book.new heap.new rec.new }
+{
+    book.lawful();
+    match book.step_plain(g) {
+        Did::Entered => SetDone::Done,
+        Did::Over(outcome) => SetDone::Over(outcome),
+        Did::Timer(TimerOp::New { t, d }) => {
+            let due = due_after(book, d);
+            arm(
+                heap,
+                rec,
+                book,
+                Op::New {
+                    g,
+                    t,
+                    due,
+                    period: 0,
+                },
+                due,
+            )
+        }
+        Did::Timer(TimerOp::Reset { t, d }) => {
+            let was = rec.shown_due().is_some();
+            let due = due_after(book, d);
+            arm(
+                heap,
+                rec,
+                book,
+                Op::Reset {
+                    g,
+                    t,
+                    was,
+                    due,
+                    period: 0,
+                },
+                due,
+            )
+        }
+        Did::Timer(TimerOp::Stop(_) | TimerOp::Enrolled(_) | TimerOp::Sleep(_)) => unreachable!(),
+    }
+}
+
+/// The due time of a setting that is made now with a duration.
+fn due_after(book: &Book, d: u64) -> u64
+    ensures { result ≡ min (at.clock book.now.state 0 + d) greatest_time }
+{
+    book.lawful();
+    book.clock_of(PROGRAM).saturating_add(d).min(CAP)
+}
+
+/// Gives the record a new setting with its entry.
+fn arm(heap: &mut Lazy, rec: &mut TimerRec, book: &mut Book, op: Op, due: u64) -> SetDone
+    requires placed { IsPlaced heap.old rec.old }
+    requires room { IsNone rec.old.heaped → 0 < heap.old.spare }
+    requires due { due ≤ greatest_time }
+    requires once { rec.old.kind ≢ RecKind.Ticker }
+    requires may { MayCommit book.old op }
+    requires in_time { is_gone book.old op ≡ false }
+    ensures arms { Arms (record { heap = heap.old; rec = rec.old; book = book.old }) (entry_of book.old.state op) due 0
+        (record { heap = heap.new; rec = rec.new; book = book.new }) result }
+    ensures placed { IsPlaced heap.new rec.new }
+    ensures bits { BitsRight rec.new }
+    ensures shows { shown rec.new ≡ Some due }
+{
+    let answer = place(heap, rec, due);
+    match book.commit(op) {
+        Commit::Over(outcome) => SetDone::Over(outcome),
+        Commit::Entered | Commit::Gone => answer,
+    }
+}
+
+/// Gives the record a new setting, lets it join the heap where it needs one and is in none, and answers what has to be told.
+fn place(heap: &mut Lazy, rec: &mut TimerRec, due: u64) -> SetDone
+    requires placed { IsPlaced heap.old rec.old }
+    requires room { IsNone rec.old.heaped → 0 < heap.old.spare }
+    requires due { due ≤ greatest_time }
+    requires once { rec.old.kind ≢ RecKind.Ticker }
+    ensures answer { result ≡ set_answer rec.old due 0 }
+    ensures place { Settles heap.old (armed rec.old due 0) heap.new rec.new (joins (armed rec.old due 0)) }
+    ensures placed { IsPlaced heap.new rec.new }
+    ensures bits { BitsRight rec.new }
+    ensures shows { shown rec.new ≡ Some due }
+{
+    let heaped = rec.heaped;
+    let told = change(rec, due, 0);
+    if join(heap, rec) {
+        return SetDone::Lower(due);
+    }
+    match (told, heaped) {
+        (Some(when), Some(heap)) => SetDone::Note { heap, when },
+        _ => SetDone::Done,
+    }
+}
