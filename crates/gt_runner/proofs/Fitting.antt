@@ -18,8 +18,8 @@ use Rattle.gt_rules.specs.declared.change.Move.{Move}
 use Rattle.gt_rules.specs.declared.change.Start.{Start}
 use Rattle.gt_machine.specs.Outcomes.{due_outcome}
 use Rattle.gt_schedule.specs.declared.status.RunStatus.{RunStatus}
-use Rattle.gt_schedule.specs.Schedule.{Schedule, status_of, is_in_hand, is_parked, marks_at, gone_on, turned, moved_by, begun_by, with_new, rescheduled, scheduled, schedule_after, MayMove, ServedBy}
-use Rattle.gt_book.specs.View.{BookView, Enters, AreWoken, IsLawful, is_move, goer, maker, finish_by, finish_due, is_firm_at}
+use Rattle.gt_schedule.specs.Schedule.{Schedule, plainly, status_of, is_in_hand, is_parked, marks_at, gone_on, turned, moved_by, begun_by, with_new, rescheduled, scheduled, schedule_after, MayMove, ServedBy}
+use Rattle.gt_book.specs.View.{BookView, Enters, AreWoken, IsLawful, with_schedule, is_move, goer, maker, finish_by, finish_due, is_firm_at}
 use Rattle.gt_runner.specs.Served.{timers_of, awaited_by, MarkFits, MarkFitsAt}
 
 -- ---- the timers that a goroutine awaits
@@ -73,15 +73,16 @@ in_hand-only (Some RunStatus.InHand) e h = refl
 in_hand-only (Some (RunStatus.Parked since)) e h = cc
 in_hand-only (Some RunStatus.Ended) e h = cc
 
--- it gets a status x, for which its marks are right
-fit-status : (script : Script) (gs : List Goroutine) (m n : Schedule) (g : ℕ) (f : Goroutine → Goroutine) (was x : RunStatus) → AllFit script gs m
+-- it gets a status x, for which its marks are right; the others' fit
+fit-one : (script : Script) (gs : List Goroutine) (m n : Schedule) (g : ℕ) (f : Goroutine → Goroutine) (was x : RunStatus) → length m.statuses ≡ length gs → length m.marks ≡ length m.statuses
+    → ((h : ℕ) → h ≢ g → FitIn script gs m h)
     → status_of m g ≡ Some was → n.statuses ≡ change_numbered m.statuses g (λ _. x) → n.marks ≡ m.marks
     → ((r : Goroutine) → numbered gs g ≡ Some r → MarkFits (marks_at m g) (awaited_in script (Some (f r))) (Some x)) → AllFit script (change_numbered gs g f) n
-fit-status script gs m n g f was x all at statuses marks own =
-    let there : HasNumber gs g = has_number m.statuses gs g was all.as_many at in
+fit-one script gs m n g f was x as_many same_marks others at statuses marks own =
+    let there : HasNumber gs g = has_number m.statuses gs g was as_many at in
     record {
-      as_many = ap length statuses ∙ (length-change_numbered m.statuses g (λ _. x) ∙ (all.as_many ∙ sym (length-change_numbered gs g f)));
-      marks = ap length marks ∙ (all.marks ∙ sym (ap length statuses ∙ length-change_numbered m.statuses g (λ _. x)));
+      as_many = ap length statuses ∙ (length-change_numbered m.statuses g (λ _. x) ∙ (as_many ∙ sym (length-change_numbered gs g f)));
+      marks = ap length marks ∙ (same_marks ∙ sym (ap length statuses ∙ length-change_numbered m.statuses g (λ _. x)));
       each = λ h. elim (cases_eq h g) [
         | inl e ↦
             subst (λ k. FitIn script (change_numbered gs g f) n k) (sym e)
@@ -95,9 +96,14 @@ fit-status script gs m n g f was x all at statuses marks own =
             (ap (λ xs. marks_at (record m { marks = xs }) h) marks)
             (ap (awaited_in script) (numbered-change_other gs g h f k))
             (ap (λ xs. numbered xs h) statuses ∙ numbered-change_other m.statuses g h (λ _. x) k)
-            (all.each h)
+            (others h k)
       ];
     }
+
+fit-status : (script : Script) (gs : List Goroutine) (m n : Schedule) (g : ℕ) (f : Goroutine → Goroutine) (was x : RunStatus) → AllFit script gs m
+    → status_of m g ≡ Some was → n.statuses ≡ change_numbered m.statuses g (λ _. x) → n.marks ≡ m.marks
+    → ((r : Goroutine) → numbered gs g ≡ Some r → MarkFits (marks_at m g) (awaited_in script (Some (f r))) (Some x)) → AllFit script (change_numbered gs g f) n
+fit-status script gs m n g f was x all at statuses marks own = fit-one script gs m n g f was x all.as_many all.marks (λ h k. all.each h) at statuses marks own
 
 marks-in_hand : (script : Script) (gs : List Goroutine) (m : Schedule) (g : ℕ) → AllFit script gs m → status_of m g ≡ Some RunStatus.InHand → marks_at m g ≡ []
 marks-in_hand script gs m g all at = subst (MarkFits (marks_at m g) (awaited_in script (numbered gs g))) at (all.each g)
@@ -230,3 +236,38 @@ fit-enters old e new lawful marks enters served fit =
     let done = fit-woken old.script (after old.script old.state e) (scheduled old.schedule e) enters.woken
     (due_outcome old.limits (state_after old.script old.state (e ∷ enters.woken))) enters.each_woken first in
     subst MarksFit (sym enters.is) done.each
+
+-- ---- the marks of one goroutine
+
+-- who is parked and receives is to be taken, with what marks it has
+pub fit-receives : (old : BookView) (g t due : ℕ) (next : Option ℕ) (new : BookView) → IsLawful old → length old.schedule.marks ≡ length old.schedule.statuses
+    → Enters old (Entry.TRecv (plainly g) t due next) new → is_parked (status_of old.schedule g) ≡ true → ((h : ℕ) → h ≢ g → MarkFitsAt old.script old.state old.schedule h)
+    → length (marks_at old.schedule g) ≤ 1 → MarksFit new
+fit-receives old g t due next new lawful marks enters parked others few =
+    let was = parked-some (status_of old.schedule g) parked in
+    let e : Entry = Entry.TRecv (plainly g) t due next in
+    let one : AllFit old.script (change_numbered old.state.goroutines g (moved old.script (Move.GoesOn 0))) (gone_on old.schedule g true) =
+    fit-one old.script old.state.goroutines old.schedule (gone_on old.schedule g true) g (moved old.script (Move.GoesOn 0)) (RunStatus.Parked was.0) RunStatus.Queued
+    lawful.fits.as_many marks others was.1 refl refl (λ r k. few) in
+    let first : AllFit old.script (after old.script old.state e).goroutines (scheduled old.schedule e) =
+    subst (λ b. AllFit old.script (change_numbered old.state.goroutines g (moved old.script (Move.GoesOn 0))) (gone_on old.schedule g b)) (sym parked) one in
+    let done = fit-woken old.script (after old.script old.state e) (scheduled old.schedule e) enters.woken
+    (due_outcome old.limits (state_after old.script old.state (e ∷ enters.woken))) enters.each_woken first in
+    subst MarksFit (sym enters.is) done.each
+
+-- the marks of g become others, which fit it
+pub fit-remarked : (v : BookView) (g : ℕ) (f : List ℕ → List ℕ) (ts : List ℕ) → numbered v.schedule.marks g ≡ Some ts
+    → ((h : ℕ) → h ≢ g → MarkFitsAt v.script v.state v.schedule h) → MarkFits (f ts) (awaited_by v.script v.state g) (status_of v.schedule g)
+    → MarksFit (with_schedule v (record v.schedule { marks = change_numbered v.schedule.marks g f }))
+fit-remarked v g f ts there others own h =
+    elim (cases_eq h g) [
+      | inl e ↦
+          subst (λ k. MarkFitsAt v.script v.state (record v.schedule { marks = change_numbered v.schedule.marks g f }) k) (sym e)
+          (subst (λ ts. MarkFits ts (awaited_by v.script v.state g) (status_of v.schedule g)) (sym (ap list_or_none (numbered-change_same v.schedule.marks g f ts there))) own)
+      | inr n ↦
+          subst (λ ts. MarkFits ts (awaited_by v.script v.state h) (status_of v.schedule h)) (sym (ap list_or_none (numbered-change_other v.schedule.marks g h f n))) (others h n)
+    ]
+  where
+    list_or_none : Option (List ℕ) → List ℕ
+    list_or_none None = []
+    list_or_none (Some ts) = ts

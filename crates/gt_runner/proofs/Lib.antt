@@ -8,3 +8,5 @@ pub mod Watching
 pub mod Needing
 pub mod Touching
 pub mod Cleanings
+pub mod Calling
+pub mod Waiting

@@ -79,7 +79,7 @@ calm-no_clock script s g (Instr.Reset t d) e h = cc
 calm-no_clock script s g (Instr.Recv o) e h = cc
 calm-no_clock script s g Instr.Finish e h = let is : Entry.End g ≡ e = cc in subst (ClockJumps script 0 s) is tt
 
-makes-no_clock : (old : BookView) (g : ℕ) (e : Entry) → step_of old.script old.state old.schedule g ≡ Some (Step.Makes e) → ClockJumps old.script 0 old.state e
+pub makes-no_clock : (old : BookView) (g : ℕ) (e : Entry) → step_of old.script old.state old.schedule g ≡ Some (Step.Makes e) → ClockJumps old.script 0 old.state e
 makes-no_clock old g e h =
     let step : IsStep old.script old.state g (Step.Makes e) = step-is old.script old.state old.schedule g (Step.Makes e) h in
     elim (fault old.script old.state step.instr) as (λ o. step_or_panic old.state g step.instr o ≡ Step.Makes e → ClockJumps old.script 0 old.state e) [

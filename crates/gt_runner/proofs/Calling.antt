@@ -1,0 +1,380 @@
+-- What a whole call of a goroutine in hand does to a run.
+use Rattle.std.proofs.Common.{◌≡◌, ◌≢◌, ◌⊎◌, ℕ, zero, suc, ◌+◌, ◌-◌, ◌^◌, ◌<◌, ◌≤◌, List, [], ◌∷◌, length, set, slice_get, count_by, refl, sym, ap, subst, ◌∙◌, arith, Option, None, Some, IsSome, IsNone, IfSome, MatchOption, Bool, true, false, not, ◌||◌, is_some, is_none, inl, inr}
+use Rattle.std.specs.Option.{option_map}
+use Rattle.std.proofs.lemmas.Option.{slice_get_within}
+use Rattle.gt_model.specs.declared.script.Script.{Script}
+use Rattle.gt_model.specs.declared.script.Decl.{Decl}
+use Rattle.gt_model.specs.declared.script.What.{What}
+use Rattle.gt_model.specs.declared.script.Instr.{Instr}
+use Rattle.gt_model.specs.declared.entry.Entry.{Entry}
+use Rattle.gt_model.specs.declared.entry.Reason.{Reason}
+use Rattle.gt_model.specs.declared.state.Goroutine.{Goroutine}
+use Rattle.gt_model.specs.declared.state.Mode.{Mode}
+use Rattle.gt_model.specs.Script.{what_at, names_timer, names_func}
+use Rattle.gt_model.specs.Good.{is_setting, NamesRightly}
+use Rattle.gt_model.specs.declared.entry.Outcome.{Outcome}
+use Rattle.gt_model.proofs.Declared.{setting_declared, timer_setting}
+use Rattle.gt_rules.specs.State.{State, goroutine_at, stands_at, until_of, sleeps_until, clock_of}
+use Rattle.gt_rules.specs.Panics.{fault}
+use Rattle.gt_rules.specs.Change.{Change, change_of}
+use Rattle.gt_rules.specs.History.{ClockJumps}
+use Rattle.gt_facts.proofs.Lookups.{Standing, standing}
+use Rattle.gt_facts.proofs.Named.{names-instr_at}
+use Rattle.gt_rec.specs.declared.RecKind.{RecKind}
+use Rattle.gt_rec.specs.Rec.{Rec, needs_heap, has_channel}
+use Rattle.gt_rows.specs.Agrees.{kind_by, kind_of_what, of_declaration}
+use Rattle.gt_rows.specs.declared.answers.SetDone.{SetDone}
+use Rattle.gt_rows.specs.Lent.{IsLent, IsLentRec, IsKept}
+use Rattle.gt_rows.specs.Rows.{Parts, sets, SetsAt, SetsBy, SetRow, Arms, UnlessOver, stops, StopsAt, next_of}
+use Rattle.gt_schedule.specs.declared.status.RunStatus.{RunStatus}
+use Rattle.gt_schedule.specs.Schedule.{Schedule, plainly, status_of, ServedBy}
+use Rattle.gt_schedule.proofs.Counting.{count-cons}
+use Rattle.gt_schedule.specs.Counts.{as_number}
+use Rattle.gt_book.specs.declared.step.Step.{Step}
+use Rattle.gt_book.specs.declared.answers.TimerOp.{TimerOp}
+use Rattle.gt_book.specs.Steps.{step_of, step_of_instr, step_or_panic}
+use Rattle.gt_book.specs.View.{BookView, Enters, IsLawful, Agrees, outcome_of}
+use Rattle.gt_book.proofs.Fitting.{Known, known}
+use Rattle.gt_book.proofs.Going.{IsStep, step-is, in_hand-goes, makes-served}
+use Rattle.gt_book.proofs.Passing.{enters-script, enters-limits}
+use Rattle.gt_runner.specs.declared.runner.Runner.{Runner}
+use Rattle.gt_runner.specs.Run.{IsAlone, Goes}
+use Rattle.gt_runner.specs.Served.{IsWatched, AtKind, IsAt, AtNumber, IsTended, IsServed, is_heaped, record_count, noted_at}
+use Rattle.gt_runner.proofs.Fitting.{fit-enters}
+use Rattle.gt_runner.proofs.Leaving.{Leaves}
+use Rattle.gt_runner.proofs.Tending.{Spares, tended-spared, Touches, tended-touched}
+use Rattle.gt_runner.proofs.Touching.{stays-enters, sets-touches}
+use Rattle.gt_runner.proofs.Passes.{goes-enters, makes-no_clock}
+
+-- ---- who is in hand is awake
+
+awake-mode : (mode : Mode) → Agrees mode RunStatus.InHand → until_of mode ≡ None
+awake-mode Mode.At h = refl
+awake-mode (Mode.Sleeping until) h = absurd h
+awake-mode Mode.Ended h = absurd h
+
+pub in_hand-awake : (v : BookView) (g : ℕ) → IsLawful v → status_of v.schedule g ≡ Some RunStatus.InHand → sleeps_until v.state g ≡ None
+in_hand-awake v g lawful e =
+    let k : Known v.script v.state v.schedule g RunStatus.InHand = known v.script v.state v.schedule g RunStatus.InHand lawful.fits e in
+    ap (λ (o : Option Goroutine). elim (option_map (λ (r : Goroutine). r.mode) o) as (λ _. Option ℕ) [ None ↦ None | Some mode ↦ until_of mode ]) k.there ∙ awake-mode k.who.mode k.agrees
+
+standing-awake : (v : BookView) (g : ℕ) (i : Instr) → stands_at v.script v.state g ≡ Some i → sleeps_until v.state g ≡ None
+standing-awake v g i e =
+    let st : Standing v.script v.state g i = standing v.script v.state g i e in
+    ap (λ (o : Option Goroutine). elim (option_map (λ (r : Goroutine). r.mode) o) as (λ _. Option ℕ) [ None ↦ None | Some mode ↦ until_of mode ]) st.there ∙ ap until_of st.at
+
+pub stands-awake : (v : BookView) (g : ℕ) (i : Instr) → stands_at v.script v.state g ≡ Some i → sleeps_until v.state g ≡ None
+stands-awake v g i e = standing-awake v g i e
+
+-- ---- the instruction that asks for a record
+
+asks-new : (s : State) (g : ℕ) (i : Instr) (t d : ℕ) → step_of_instr s g i ≡ Step.Needs (TimerOp.New t d) → i ≡ Instr.New t d
+asks-new s g (Instr.New u c) t d h = (let a : u ≡ t = cc in let b : c ≡ d = cc in ap (λ u. Instr.New u c) a ∙ ap (Instr.New t) b)
+asks-new s g (Instr.Sleep zero) t d h = cc
+asks-new s g (Instr.Sleep (suc c)) t d h = cc
+asks-new s g _ t d h = cc
+
+asks-reset : (s : State) (g : ℕ) (i : Instr) (t d : ℕ) → step_of_instr s g i ≡ Step.Needs (TimerOp.Reset t d) → i ≡ Instr.Reset t d
+asks-reset s g (Instr.Reset u c) t d h = (let a : u ≡ t = cc in let b : c ≡ d = cc in ap (λ u. Instr.Reset u c) a ∙ ap (Instr.Reset t) b)
+asks-reset s g (Instr.Sleep zero) t d h = cc
+asks-reset s g (Instr.Sleep (suc c)) t d h = cc
+asks-reset s g _ t d h = cc
+
+asks-stop : (s : State) (g : ℕ) (i : Instr) (t : ℕ) → step_of_instr s g i ≡ Step.Needs (TimerOp.Stop t) → i ≡ Instr.Stop t
+asks-stop s g (Instr.Stop u) t h = (let a : u ≡ t = cc in ap Instr.Stop a)
+asks-stop s g (Instr.Sleep zero) t h = cc
+asks-stop s g (Instr.Sleep (suc c)) t h = cc
+asks-stop s g _ t h = cc
+
+asks-sleep : (s : State) (g : ℕ) (i : Instr) (d : ℕ) → step_of_instr s g i ≡ Step.Needs (TimerOp.Sleep d) → (k : ℕ) × (i ≡ Instr.Sleep (suc k))
+asks-sleep s g (Instr.Sleep zero) d h = cc
+asks-sleep s g (Instr.Sleep (suc c)) d h = (c, refl)
+asks-sleep s g _ d h = cc
+
+asks-recv : (s : State) (g : ℕ) (i : Instr) (t : ℕ) → step_of_instr s g i ≡ Step.Waits t → i ≡ Instr.Recv t
+asks-recv s g (Instr.Recv u) t h = (let a : u ≡ t = cc in ap Instr.Recv a)
+asks-recv s g (Instr.Sleep zero) t h = cc
+asks-recv s g (Instr.Sleep (suc c)) t h = cc
+asks-recv s g _ t h = cc
+
+-- no panic asks for a record
+no-panic : (s : State) (g : ℕ) (i : Instr) (o : Option Reason) (step : Step) (P : Type 0) → step_or_panic s g i o ≡ step → ((e : Entry) → Step.Makes e ≡ step → P)
+    → (step_of_instr s g i ≡ step → P) → P
+no-panic s g i None step P h panics calm = calm h
+no-panic s g i (Some reason) step P h panics calm = panics (Entry.Panic (plainly g) reason) h
+
+pub stands-new : (v : BookView) (g t d : ℕ) → next_of v g ≡ Some (Step.Needs (TimerOp.New t d)) → stands_at v.script v.state g ≡ Some (Instr.New t d)
+stands-new v g t d e =
+    let st : IsStep v.script v.state g (Step.Needs (TimerOp.New t d)) = step-is v.script v.state v.schedule g (Step.Needs (TimerOp.New t d)) e in
+    no-panic v.state g st.instr (fault v.script v.state st.instr) (Step.Needs (TimerOp.New t d)) (stands_at v.script v.state g ≡ Some (Instr.New t d)) st.is (λ x h. cc)
+    (λ h. st.stands ∙ ap Some (asks-new v.state g st.instr t d h))
+
+pub stands-reset : (v : BookView) (g t d : ℕ) → next_of v g ≡ Some (Step.Needs (TimerOp.Reset t d)) → stands_at v.script v.state g ≡ Some (Instr.Reset t d)
+stands-reset v g t d e =
+    let st : IsStep v.script v.state g (Step.Needs (TimerOp.Reset t d)) = step-is v.script v.state v.schedule g (Step.Needs (TimerOp.Reset t d)) e in
+    no-panic v.state g st.instr (fault v.script v.state st.instr) (Step.Needs (TimerOp.Reset t d)) (stands_at v.script v.state g ≡ Some (Instr.Reset t d)) st.is (λ x h. cc)
+    (λ h. st.stands ∙ ap Some (asks-reset v.state g st.instr t d h))
+
+pub stands-stop : (v : BookView) (g t : ℕ) → next_of v g ≡ Some (Step.Needs (TimerOp.Stop t)) → stands_at v.script v.state g ≡ Some (Instr.Stop t)
+stands-stop v g t e =
+    let st : IsStep v.script v.state g (Step.Needs (TimerOp.Stop t)) = step-is v.script v.state v.schedule g (Step.Needs (TimerOp.Stop t)) e in
+    no-panic v.state g st.instr (fault v.script v.state st.instr) (Step.Needs (TimerOp.Stop t)) (stands_at v.script v.state g ≡ Some (Instr.Stop t)) st.is (λ x h. cc)
+    (λ h. st.stands ∙ ap Some (asks-stop v.state g st.instr t h))
+
+pub stands-sleep : (v : BookView) (g d : ℕ) → next_of v g ≡ Some (Step.Needs (TimerOp.Sleep d)) → (k : ℕ) × (stands_at v.script v.state g ≡ Some (Instr.Sleep (suc k)))
+stands-sleep v g d e =
+    let st : IsStep v.script v.state g (Step.Needs (TimerOp.Sleep d)) = step-is v.script v.state v.schedule g (Step.Needs (TimerOp.Sleep d)) e in
+    no-panic v.state g st.instr (fault v.script v.state st.instr) (Step.Needs (TimerOp.Sleep d)) ((k : ℕ) × (stands_at v.script v.state g ≡ Some (Instr.Sleep (suc k)))) st.is (λ x h. cc)
+    (λ h. let found = asks-sleep v.state g st.instr d h in (found.0, st.stands ∙ ap Some found.1))
+
+pub stands-recv : (v : BookView) (g t : ℕ) → next_of v g ≡ Some (Step.Waits t) → stands_at v.script v.state g ≡ Some (Instr.Recv t)
+stands-recv v g t e =
+    let st : IsStep v.script v.state g (Step.Waits t) = step-is v.script v.state v.schedule g (Step.Waits t) e in
+    no-panic v.state g st.instr (fault v.script v.state st.instr) (Step.Waits t) (stands_at v.script v.state g ≡ Some (Instr.Recv t)) st.is (λ x h. cc)
+    (λ h. st.stands ∙ ap Some (asks-recv v.state g st.instr t h))
+
+-- ---- the records of timers
+
+-- a record of the run that is watched
+pub record HasRecord (x : Runner) (id : ℕ) : Type 0 where
+  pub rec : Rec
+  pub there : slice_get x.records.items id ≡ Some rec
+  pub id_is : rec.id ≡ id
+  pub watched : IsWatched x.book x.heap x.noted rec
+
+some-kind : (o : Option Decl) → (names_timer (option_map (λ (d : Decl). d.what) o) || names_func (option_map (λ (d : Decl). d.what) o)) ≡ true
+    → (kind : RecKind) × ((elim o as (λ _. Option RecKind) [ None ↦ Some RecKind.Sleep | Some decl ↦ kind_of_what decl.what ]) ≡ Some kind)
+some-kind None h = cc
+some-kind (Some decl) h = of_what decl.what h
+  where
+    of_what : (w : What) → (names_timer (Some w) || names_func (Some w)) ≡ true → (kind : RecKind) × (kind_of_what w ≡ Some kind)
+    of_what What.Timer h = (RecKind.Timer, refl)
+    of_what (What.AfterFunc f) h = (RecKind.Func, refl)
+    of_what What.Function h = cc
+
+get-some : {X : Type 0} (xs : List X) (i : ℕ) → i < length xs → (x : X) × (slice_get xs i ≡ Some x)
+get-some [] i h = absurd (omega arith)
+get-some (x ∷ xs) zero h = (x, refl)
+get-some (x ∷ xs) (suc i) h = get-some xs i (omega arith)
+
+kind-record : (x : Runner) (id : ℕ) (r : Rec) (kind : RecKind) → kind_by x.book.script id ≡ Some kind → slice_get x.records.items id ≡ Some r → IsAt x.book x.heap x.noted id r → HasRecord x id
+kind-record x id r kind is there at = record { rec = r; there = there; id_is = at.id_is; watched = subst (AtKind x.book x.heap x.noted id r) is at.watched }
+
+pub setting-record : (x : Runner) (t : ℕ) → IsTended x → is_setting x.book.script t ≡ true → HasRecord x t
+setting-record x t tended setting =
+    let within : t < length x.book.script.decls = setting_declared x.book.script t setting in
+    let declared : length x.book.script.decls ≤ length x.records.items = tended.declared in
+    let found = get-some x.records.items t (omega arith) in
+    let kind = some-kind (of_declaration x.book.script t) setting in
+    kind-record x t found.0 kind.0 kind.1 found.1 (subst (AtNumber x.book x.heap x.noted t) found.1 (tended.at t))
+
+beyond : {X : Type 0} (xs : List X) (i : ℕ) → length xs ≤ i → slice_get xs i ≡ None
+beyond [] i h = refl
+beyond (x ∷ xs) zero h = absurd (omega arith)
+beyond (x ∷ xs) (suc i) h = beyond xs i (omega arith)
+
+pub sleep-record : (x : Runner) (id : ℕ) → IsTended x → length x.book.script.decls ≤ id → id < length x.records.items → HasRecord x id
+sleep-record x id tended behind within =
+    let found = get-some x.records.items id within in
+    let kind : kind_by x.book.script id ≡ Some RecKind.Sleep =
+    ap (λ (o : Option Decl). elim o as (λ _. Option RecKind) [ None ↦ Some RecKind.Sleep | Some decl ↦ kind_of_what decl.what ]) (beyond x.book.script.decls id behind) in
+    kind-record x id found.0 RecKind.Sleep kind found.1 (subst (AtNumber x.book x.heap x.noted id) found.1 (tended.at id))
+
+pub record-within : (x : Runner) (id : ℕ) → HasRecord x id → id < length x.records.items
+record-within x id h = slice_get_within x.records.items id h.rec h.there
+
+-- ---- room in the heap
+
+count-most : (xs : List Rec) → count_by is_heaped xs ≤ length xs
+count-most [] = omega arith
+count-most (r ∷ rs) =
+    let sum : count_by is_heaped (r ∷ rs) ≡ as_number (is_heaped r) + count_by is_heaped rs = count-cons is_heaped r rs in
+    let rest : count_by is_heaped rs ≤ length rs = count-most rs in
+    let one : as_number (is_heaped r) ≤ 1 = at_most (is_heaped r) in
+    omega arith
+  where
+    at_most : (b : Bool) → as_number b ≤ 1
+    at_most true = omega arith
+    at_most false = omega arith
+
+count-less : (xs : List Rec) (i : ℕ) (r : Rec) → slice_get xs i ≡ Some r → is_heaped r ≡ false → count_by is_heaped xs < length xs
+count-less [] i r e h = cc
+count-less (s ∷ rs) zero r e h =
+    let sum : count_by is_heaped (s ∷ rs) ≡ as_number (is_heaped s) + count_by is_heaped rs = count-cons is_heaped s rs in
+    let none : as_number (is_heaped s) ≡ 0 = (let is : s ≡ r = cc in ap (λ s. as_number (is_heaped s)) is ∙ ap as_number h) in
+    let rest : count_by is_heaped rs ≤ length rs = count-most rs in
+    omega arith
+count-less (s ∷ rs) (suc i) r e h =
+    let sum : count_by is_heaped (s ∷ rs) ≡ as_number (is_heaped s) + count_by is_heaped rs = count-cons is_heaped s rs in
+    let rest : count_by is_heaped rs < length rs = count-less rs i r e h in
+    let one : as_number (is_heaped s) ≤ 1 = at_most (is_heaped s) in
+    omega arith
+  where
+    at_most : (b : Bool) → as_number b ≤ 1
+    at_most true = omega arith
+    at_most false = omega arith
+
+none-is_some : (o : Option ℕ) → IsNone o → is_some o ≡ false
+none-is_some None h = refl
+none-is_some (Some q) h = cc
+
+pub record-lent : (x : Runner) (id : ℕ) (r : Rec) → IsTended x → (h : HasRecord x id) → slice_get x.records.items id ≡ Some r → IsLent x.book x.heap r
+record-lent x id r tended h there =
+    let is : h.rec ≡ r = (let own = h.there in cc) in
+    let w : IsWatched x.book x.heap x.noted r = subst (IsWatched x.book x.heap x.noted) is h.watched in
+    record {
+      rec = w.kept.rec;
+      placed = w.kept.placed;
+      room = λ none.
+          let fewer : count_by is_heaped x.records.items < length x.records.items = count-less x.records.items id r there (none-is_some r.heaped none) in
+          let all : length x.records.items + x.records.spare ≡ record_count x.book = tended.record_room in
+          let heap : record_count x.book ≤ x.heap.spare + count_by is_heaped x.records.items = tended.heap_room in
+          omega arith;
+    }
+
+pub record-is : (x : Runner) (id : ℕ) (r : Rec) → (h : HasRecord x id) → slice_get x.records.items id ≡ Some r → HasRecord x id × (r.id ≡ id) × IsWatched x.book x.heap x.noted r
+record-is x id r h there =
+    let is : h.rec ≡ r = (let own = h.there in cc) in
+    (h, subst (λ (r : Rec). r.id ≡ id) is h.id_is, subst (IsWatched x.book x.heap x.noted) is h.watched)
+
+-- ---- after an entry of a goroutine in hand
+
+-- what a whole call leaves
+pub record After (x x' : Runner) (g : ℕ) : Type 0 where
+  pub goes : Goes g x.book x'.book
+  pub served : IsServed x'
+
+-- a run in which g may make its call
+pub record Ready (x : Runner) (g : ℕ) : Type 0 where
+  pub served : IsServed x
+  pub lawful : IsLawful x.book
+  pub marks : length x.book.schedule.marks ≡ length x.book.schedule.statuses
+  pub alone : IsAlone x.book g
+  pub running : outcome_of x.book ≡ None
+
+pub after-enters : (x x' : Runner) (g : ℕ) (e : Entry) → Ready x g → Enters x.book e x'.book → ServedBy x.book.schedule (change_of e).mover
+    → ClockJumps x.book.script 0 x.book.state e → IsTended x' → After x x' g
+after-enters x x' g e ready enters served clock tended = record {
+  goes = goes-enters x.book e x'.book g ready.lawful enters clock ready.alone;
+  served = record { tended = tended; marks = fit-enters x.book e x'.book ready.lawful ready.marks enters served ready.served.marks };
+}
+
+-- an entry that touches no record
+pub tended-plain : (x x' : Runner) (e : Entry) → IsTended x → IsLawful x.book → Enters x.book e x'.book → ((j : ℕ) → Leaves x.book (change_of e) j)
+    → x'.records ≡ x.records → x'.heap ≡ x.heap → x'.noted ≡ x.noted → IsTended x'
+tended-plain x x' e tended lawful enters leaves records_are heap_is noted_is =
+    tended-spared x x' tended (record {
+      records_are = records_are; heap_is = heap_is; noted_is = noted_is;
+      limits = enters-limits x.book e x'.book enters;
+      script_is = enters-script x.book e x'.book enters;
+      stays = λ j. stays-enters x.book e x'.book x.heap x.heap j lawful enters (leaves j) refl refl;
+    })
+
+-- what a step makes touches no record
+calm-leaves : (v : BookView) (g : ℕ) (i : Instr) (e : Entry) (j : ℕ) → sleeps_until v.state g ≡ None → step_of_instr v.state g i ≡ Step.Makes e → Leaves v (change_of e) j
+calm-leaves v g (Instr.Say n) e j awake h = let is : Entry.Say g n ≡ e = cc in subst (λ e. Leaves v (change_of e) j) is (record { timer = tt; mover = inr (awake, refl) })
+calm-leaves v g Instr.Now e j awake h = let is : Entry.Now g (clock_of v.state g) ≡ e = cc in subst (λ e. Leaves v (change_of e) j) is (record { timer = tt; mover = inr (awake, refl) })
+calm-leaves v g (Instr.Sleep zero) e j awake h = let is : Entry.Sleep g None ≡ e = cc in subst (λ e. Leaves v (change_of e) j) is (record { timer = tt; mover = inr (awake, refl) })
+calm-leaves v g (Instr.Sleep (suc d)) e j awake h = cc
+calm-leaves v g (Instr.Go f) e j awake h = let is : Entry.Go g (length v.state.goroutines + 1) f ≡ e = cc in subst (λ e. Leaves v (change_of e) j) is (record { timer = tt; mover = inr (awake, refl) })
+calm-leaves v g Instr.Finish e j awake h = let is : Entry.End g ≡ e = cc in subst (λ e. Leaves v (change_of e) j) is (record { timer = tt; mover = inr (awake, refl) })
+calm-leaves v g _ e j awake h = cc
+
+pub makes-leaves : (v : BookView) (g : ℕ) (e : Entry) (j : ℕ) → sleeps_until v.state g ≡ None → next_of v g ≡ Some (Step.Makes e) → Leaves v (change_of e) j
+makes-leaves v g e j awake h =
+    let st : IsStep v.script v.state g (Step.Makes e) = step-is v.script v.state v.schedule g (Step.Makes e) h in
+    elim (fault v.script v.state st.instr) as (λ o. step_or_panic v.state g st.instr o ≡ Step.Makes e → Leaves v (change_of e) j) [
+      | None ↦ λ k. calm-leaves v g st.instr e j awake k
+      | Some reason ↦ λ k. let is : Entry.Panic (plainly g) reason ≡ e = cc in subst (λ e. Leaves v (change_of e) j) is (record { timer = tt; mover = tt })
+    ] st.is
+
+-- ---- the calls, one by one
+
+pub after-makes : (x x' : Runner) (g : ℕ) (e : Entry) → Ready x g → next_of x.book g ≡ Some (Step.Makes e) → Enters x.book e x'.book
+    → x'.records ≡ x.records → x'.heap ≡ x.heap → x'.noted ≡ x.noted → After x x' g
+after-makes x x' g e ready next enters records_are heap_is noted_is =
+    after-enters x x' g e ready enters (makes-served x.book.script x.book.state x.book.schedule g e next ready.alone.in_hand)
+    (makes-no_clock x.book g e next)
+    (tended-plain x x' e ready.served.tended ready.lawful enters
+    (λ j. makes-leaves x.book g e j (in_hand-awake x.book g ready.lawful ready.alone.in_hand) next) records_are heap_is noted_is)
+
+-- a section that arms a record
+pub record Armed (x x' : Runner) (g id : ℕ) (r r' : Rec) (e : Entry) (due period : ℕ) (done : SetDone) : Type 0 where
+  pub there : slice_get x.records.items id ≡ Some r
+  pub id_is : r.id ≡ id
+  pub watched : IsWatched x.book x.heap x.noted r
+  pub records_are : x'.records.items ≡ set x.records.items id r'
+  pub spare : x'.records.spare ≡ x.records.spare
+  pub noted_is : x'.noted ≡ noted_at x.noted r'
+  pub arms : Arms (record { heap = x.heap; rec = r; book = x.book }) e due period (record { heap = x'.heap; rec = r'; book = x'.book }) done
+  pub kept : IsKept x'.book x'.heap r'
+  pub leaves : (j : ℕ) → j ≢ id → Leaves x.book (change_of e) j
+  pub served : ServedBy x.book.schedule (change_of e).mover
+  pub clock : ClockJumps x.book.script 0 x.book.state e
+
+pub after-armed : (x x' : Runner) (g id : ℕ) (r r' : Rec) (e : Entry) (due period : ℕ) (done : SetDone) → Ready x g → Armed x x' g id r r' e due period done → After x x' g
+after-armed x x' g id r r' e due period done ready a =
+    after-enters x x' g e ready a.arms.entered a.served a.clock
+    (tended-touched x x' id r r' ready.served.tended
+    (sets-touches x x' id r r' e due period done ready.lawful (record {
+      there = a.there; id_is = a.id_is; watched = a.watched; records_are = a.records_are; spare = a.spare; noted_is = a.noted_is;
+      arms = a.arms; leaves = a.leaves; kept = a.kept;
+    })))
+
+-- what g wants of timer t's record
+pub record WantsSet (b : BookView) (g t : ℕ) : Type 0 where
+  pub d : ℕ
+  pub wants : (next_of b g ≡ Some (Step.Needs (TimerOp.New t d))) ⊎ (next_of b g ≡ Some (Step.Needs (TimerOp.Reset t d)))
+
+names-standing : (v : BookView) (g : ℕ) (i : Instr) → IsLawful v → stands_at v.script v.state g ≡ Some i → NamesRightly v.script i
+names-standing v g i lawful e =
+    let st : Standing v.script v.state g i = standing v.script v.state g i e in
+    names-instr_at v.script st.who.place i lawful.good st.on
+
+pub wants-setting : (v : BookView) (g t : ℕ) → IsLawful v → WantsSet v g t → is_setting v.script t ≡ true
+wants-setting v g t lawful w =
+    elim w.wants [
+      | inl e ↦ (names-standing v g (Instr.New t w.d) lawful (stands-new v g t w.d e)).0
+      | inr e ↦ (names-standing v g (Instr.Reset t w.d) lawful (stands-reset v g t w.d e)).0
+    ]
+
+pub wants-sets : (v : BookView) (g t : ℕ) → WantsSet v g t → SetsAt v g t
+wants-sets v g t w =
+    elim w.wants [
+      | inl e ↦ subst (λ o. elim o as (λ _. Type 0) [ None ↦ ⊥ | Some i ↦ sets i ≡ Some t ]) (sym (stands-new v g t w.d e)) refl
+      | inr e ↦ subst (λ o. elim o as (λ _. Type 0) [ None ↦ ⊥ | Some i ↦ sets i ≡ Some t ]) (sym (stands-reset v g t w.d e)) refl
+    ]
+
+-- ---- new, and reset
+
+pub running-row : {Done : Type 0} (b : BookView) (over : Outcome → Done) (done : Done) (Same Row : Type 0) → outcome_of b ≡ None → UnlessOver b over done Same Row → Row
+running-row b over done Same Row none h = subst (λ (o : Option Outcome). MatchOption o Row (λ outcome. (done ≡ over outcome) × Same)) none h
+
+pub after-set : (x x' : Runner) (g t : ℕ) (r r' : Rec) (done : SetDone) → Ready x g → WantsSet x.book g t → (h : HasRecord x t) → slice_get x.records.items t ≡ Some r
+    → x'.records.items ≡ set x.records.items t r' → x'.records.spare ≡ x.records.spare → x'.noted ≡ noted_at x.noted r'
+    → SetRow (record { heap = x.heap; rec = r; book = x.book }) g (record { heap = x'.heap; rec = r'; book = x'.book }) done → IsKept x'.book x'.heap r' → After x x' g
+after-set x x' g t r r' done ready wants h there records_are spare noted_is row kept =
+    let own = record-is x t r h there in
+    let awake = in_hand-awake x.book g ready.lawful ready.alone.in_hand in
+    let goes = in_hand-goes (status_of x.book.schedule g) ready.alone.in_hand in
+    let old : Parts = record { heap = x.heap; rec = r; book = x.book } in
+    let new : Parts = record { heap = x'.heap; rec = r'; book = x'.book } in
+    let by : SetsBy old g new done (next_of x.book g) = running-row x.book SetDone.Over done (new ≡ old) (SetsBy old g new done (next_of x.book g)) ready.running row in
+    elim wants.wants [
+      | inl e ↦
+          let arms = subst (SetsBy old g new done) e by in
+          after-armed x x' g t r r' _ _ _ done ready (record {
+            there = there; id_is = own.1; watched = own.2; records_are = records_are; spare = spare; noted_is = noted_is; arms = arms; kept = kept;
+            leaves = λ j n. record { timer = λ e. n (sym e); mover = inr (awake, refl) };
+            served = goes;
+            clock = tt;
+          })
+      | inr e ↦
+          let arms = subst (SetsBy old g new done) e by in
+          after-armed x x' g t r r' _ _ _ done ready (record {
+            there = there; id_is = own.1; watched = own.2; records_are = records_are; spare = spare; noted_is = noted_is; arms = arms; kept = kept;
+            leaves = λ j n. record { timer = λ e. n (sym e); mover = inr (awake, refl) };
+            served = goes;
+            clock = tt;
+          })
+    ]

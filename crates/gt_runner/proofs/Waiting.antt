@@ -1,0 +1,216 @@
+-- What a whole call does that stops a timer, falls asleep or waits.
+use Rattle.std.proofs.Common.{◌≡◌, ◌≢◌, ◌⊎◌, ℕ, zero, suc, ◌+◌, ◌-◌, ◌^◌, ◌<◌, ◌≤◌, nat_le, if◌then◌else◌, min, List, [], ◌∷◌, ◌++◌, length, set, slice_get, refl, sym, ap, subst, ◌∙◌, arith, Option, None, Some, IsSome, IsTrue, MatchOption, Bool, true, false, is_some, inl, inr}
+use Rattle.std.specs.Option.{option_and_then}
+use Rattle.gt_model.specs.declared.script.Instr.{Instr}
+use Rattle.gt_model.specs.declared.entry.Entry.{Entry}
+use Rattle.gt_model.specs.declared.entry.Outcome.{Outcome}
+use Rattle.gt_model.specs.Tables.{numbered}
+use Rattle.gt_rules.specs.State.{stands_at, clock, clock_of}
+use Rattle.gt_rules.specs.Legal.{due_at}
+use Rattle.gt_rules.specs.Change.{change_of}
+use Rattle.gt_rec.specs.declared.RecKind.{RecKind}
+use Rattle.gt_rec.specs.Ticks.{due_left}
+use Rattle.gt_rec.specs.Rec.{Rec, needs_heap, has_channel, shown}
+use Rattle.gt_rec.specs.Changes.{disarmed, received, taken, more_blocked, less_blocked}
+use Rattle.gt_lazy.specs.Slots.{LazyHeap}
+use Rattle.gt_rows.specs.declared.answers.SetDone.{SetDone}
+use Rattle.gt_rows.specs.declared.answers.StopDone.{StopDone}
+use Rattle.gt_rows.specs.declared.answers.BlockDone.{BlockDone}
+use Rattle.gt_rows.specs.Agrees.{kind_by}
+use Rattle.gt_rows.specs.Lent.{IsLentRec, IsPlaced, IsKept}
+use Rattle.gt_rows.specs.Rows.{Pair, Parts, UnlessOver, StopRow, StopsBy, Stops, SleepRow, SleepsBy, BlockRow, BlockCases, BlocksBy, ReceivesAtOnce, Blocks, stops, StopsAt, next_of}
+use Rattle.gt_schedule.specs.declared.status.RunStatus.{RunStatus}
+use Rattle.gt_schedule.specs.declared.status.Ticket.{Ticket}
+use Rattle.gt_schedule.specs.Schedule.{Schedule, plainly, status_of, is_parked, marks_at, mark_count, marked, IsLive}
+use Rattle.gt_book.specs.declared.step.Step.{Step}
+use Rattle.gt_book.specs.declared.answers.TimerOp.{TimerOp}
+use Rattle.gt_book.specs.View.{BookView, Enters, IsLawful, outcome_of, with_schedule}
+use Rattle.gt_book.proofs.Going.{in_hand-goes}
+use Rattle.gt_runner.specs.declared.runner.Runner.{Runner}
+use Rattle.gt_runner.specs.Served.{IsWatched, IsTended, IsServed, IsServedBut, MarkFits, awaited_by, timers_of, is_heaped, noted_at}
+use Rattle.gt_runner.proofs.Fitting.{fit-receives, fit-remarked}
+use Rattle.gt_runner.proofs.Needing.{never-ticker}
+use Rattle.gt_runner.proofs.Leaving.{Leaves}
+use Rattle.gt_runner.proofs.Tending.{Touches, tended-touched}
+use Rattle.gt_runner.proofs.Touching.{Rests, rests-touches, Counts, counts-touches}
+use Rattle.gt_runner.proofs.Calling.{After, Ready, HasRecord, Armed, record-is, after-enters, after-armed, in_hand-awake, stands-awake, stands-stop, stands-sleep, running-row}
+
+-- where the record stays is where it was
+pub placed-same : (h : LazyHeap) (r r' : Rec) → r'.id ≡ r.id → r'.heaped ≡ r.heaped → r'.key ≡ r.key → IsPlaced h r → IsPlaced h r'
+placed-same h r r' id heaped key p = record {
+  here = λ e. subst (λ k. Rattle.std.proofs.Common.IsSomeAnd (Rattle.gt_lazy.specs.Slots.slot_with h.slots r'.id) (λ s. s.key ≡ k)) (sym key)
+      (subst (λ i. Rattle.std.proofs.Common.IsSomeAnd (Rattle.gt_lazy.specs.Slots.slot_with h.slots i) (λ s. s.key ≡ r.key)) (sym id) (p.here (sym heaped ∙ e)));
+  elsewhere = λ n. ap (Rattle.gt_lazy.specs.Slots.slot_with h.slots) id ∙ p.elsewhere (λ e. n (heaped ∙ e));
+}
+
+-- ---- stop
+
+pub stop-stops : (v : BookView) (g t : ℕ) → next_of v g ≡ Some (Step.Needs (TimerOp.Stop t)) → StopsAt v g t
+stop-stops v g t e = subst (λ o. elim o as (λ _. Type 0) [ None ↦ ⊥ | Some i ↦ stops i ≡ Some t ]) (sym (stands-stop v g t e)) refl
+
+pub after-stop : (x x' : Runner) (g t : ℕ) (r r' : Rec) (done : StopDone) → Ready x g → next_of x.book g ≡ Some (Step.Needs (TimerOp.Stop t)) → (h : HasRecord x t)
+    → slice_get x.records.items t ≡ Some r → x'.records.items ≡ set x.records.items t r' → x'.records.spare ≡ x.records.spare → x'.noted ≡ x.noted → x'.heap ≡ x.heap
+    → StopRow (record { rec = r; book = x.book }) g (record { rec = r'; book = x'.book }) done → IsLentRec x'.book r' → After x x' g
+after-stop x x' g t r r' done ready next h there records_are spare noted_is heap_is row lent =
+    let own = record-is x t r h there in
+    let old : Pair = record { rec = r; book = x.book } in
+    let new : Pair = record { rec = r'; book = x'.book } in
+    let by : StopsBy old g new done (next_of x.book g) = running-row x.book StopDone.Over done (new ≡ old) (StopsBy old g new done (next_of x.book g)) ready.running row in
+    let s = subst (StopsBy old g new done) next by in
+    let same_heaped : r'.heaped ≡ r.heaped = ap (λ (r : Rec). r.heaped) s.rec in
+    let same_id : r'.id ≡ r.id = ap (λ (r : Rec). r.id) s.rec in
+    let number_is : x'.heap.number ≡ x.heap.number = ap (λ (h : LazyHeap). h.number) heap_is in
+    after-enters x x' g _ ready s.entered (in_hand-goes (status_of x.book.schedule g) ready.alone.in_hand) tt
+    (tended-touched x x' t r r' ready.served.tended (rests-touches x x' t r r' _ ready.lawful (record {
+      there = there; id_is = own.1; watched = own.2; records_are = records_are; spare = spare; noted_is = noted_is;
+      enters = s.entered;
+      leaves = λ j n. record { timer = λ e. n (sym e); mover = inr (in_hand-awake x.book g ready.lawful ready.alone.in_hand, refl) };
+      slots = λ j n. ap (λ (h : LazyHeap). Rattle.gt_lazy.specs.Slots.slot_with h.slots j) heap_is;
+      number_is = number_is;
+      room = (let heaped = ap (λ (r : Rec). Rattle.gt_schedule.specs.Counts.as_number (is_heaped r)) s.rec in let free = ap (λ (h : LazyHeap). h.spare) heap_is in rw (heaped, free) refl);
+      kept = record { rec = lent; placed = subst (λ h. IsPlaced h r') (sym heap_is) (placed-same x.heap r r' same_id same_heaped (ap (λ (r : Rec). r.key) s.rec) own.2.kept.placed) };
+      same_id = same_id;
+      same_kind = ap (λ (r : Rec). r.kind) s.rec;
+      same_blocked = ap (λ (r : Rec). r.blocked) s.rec;
+      inside = λ some. same_heaped ∙ (own.2.inside (subst IsSome same_heaped some) ∙ ap Some (sym number_is));
+      needs_not = ap needs_heap s.rec;
+      none_ready = ap (λ (r : Rec). r.ready) s.rec;
+      none_sent = ap (λ (r : Rec). r.sending) s.rec;
+    })))
+
+-- ---- sleep
+
+pub sleep-sleeps : (v : BookView) (g d : ℕ) → next_of v g ≡ Some (Step.Needs (TimerOp.Sleep d)) → Rattle.gt_rows.specs.Rows.StandsAtSleep v g
+sleep-sleeps v g d e =
+    let found = stands-sleep v g d e in
+    subst (λ o. elim o as (λ _. Type 0) [ None ↦ ⊥ | Some i ↦ Rattle.gt_rows.specs.Rows.sleeps i ≡ true ]) (sym found.1) refl
+
+pub after-sleep : (x x' : Runner) (g d id : ℕ) (r r' : Rec) (done : SetDone) → Ready x g → next_of x.book g ≡ Some (Step.Needs (TimerOp.Sleep d)) → id ≡ length x.book.script.decls + g → (h : HasRecord x id)
+    → slice_get x.records.items id ≡ Some r → x'.records.items ≡ set x.records.items id r' → x'.records.spare ≡ x.records.spare → x'.noted ≡ noted_at x.noted r'
+    → SleepRow (record { heap = x.heap; rec = r; book = x.book }) g (record { heap = x'.heap; rec = r'; book = x'.book }) done → IsKept x'.book x'.heap r' → After x x' g
+after-sleep x x' g d id r r' done ready next its h there records_are spare noted_is row kept =
+    let own = record-is x id r h there in
+    let old : Parts = record { heap = x.heap; rec = r; book = x.book } in
+    let new : Parts = record { heap = x'.heap; rec = r'; book = x'.book } in
+    let by : SleepsBy old g new done (next_of x.book g) = running-row x.book SetDone.Over done (new ≡ old) (SleepsBy old g new done (next_of x.book g)) ready.running row in
+    let arms = subst (SleepsBy old g new done) next by in
+    after-armed x x' g id r r' _ _ _ done ready (record {
+      there = there; id_is = own.1; watched = own.2; records_are = records_are; spare = spare; noted_is = noted_is; arms = arms; kept = kept;
+      leaves = λ j n. record { timer = tt; mover = inl (λ e. n (sym e ∙ sym its)) };
+      served = ready.alone.in_hand;
+      clock = tt;
+    })
+
+-- ---- a receive
+
+left-none : (kind : RecKind) (period due now : ℕ) → (kind ≡ RecKind.Ticker → ⊥) → due_left kind period due now ≡ None
+left-none RecKind.Timer period due now n = refl
+left-none RecKind.Ticker period due now n = absurd (n refl)
+left-none RecKind.Func period due now n = refl
+left-none RecKind.Sleep period due now n = refl
+left-none RecKind.Deadline period due now n = refl
+
+-- a timer that ticks once has no due time after a receive
+pub received-none : (r : Rec) (now : ℕ) (got : ℕ × Option ℕ) → (r.kind ≡ RecKind.Ticker → ⊥) → received r now ≡ Some got → got.1 ≡ None
+received-none r now got n e =
+    elim (shown r) as (λ o. option_and_then (λ due. if nat_le due now then Some (due, due_left r.kind r.period due now) else None) o ≡ Some got → got.1 ≡ None) [
+      | None ↦ λ k. cc
+      | Some due ↦ λ k. by (nat_le due now) due k
+    ] e
+  where
+    by : (b : Bool) (due : ℕ) → (if b then Some (due, due_left r.kind r.period due now) else None) ≡ Some got → got.1 ≡ None
+    by true due k =
+        let is : (due, due_left r.kind r.period due now) ≡ got = cc in
+        sym (ap (λ (x : ℕ × Option ℕ). x.1) is) ∙ left-none r.kind r.period due now n
+    by false due k = cc
+
+-- a run in which g was parked at a receive from t, and is not counted there yet
+pub record IsEnrolled (x : Runner) (ticket : Ticket) (t : ℕ) : Type 0 where
+  pub but : IsServedBut x ticket.g
+  pub lawful : IsLawful x.book
+  pub marks_many : length x.book.schedule.marks ≡ length x.book.schedule.statuses
+  pub live : IsLive x.book.schedule ticket
+  pub waits : stands_at x.book.script x.book.state ticket.g ≡ Some (Instr.Recv t)
+  pub unmarked : numbered x.book.schedule.marks ticket.g ≡ Some []
+  pub running : outcome_of x.book ≡ None
+
+-- it is counted, or has received
+abbrev pub CountedOrGone : BookView → ℕ → ℕ → BookView → Type 0
+CountedOrGone old g t new = (new ≡ with_schedule old (marked old.schedule g t)) ⊎ ((due : ℕ) × ((next : Option ℕ) × Enters old (Entry.TRecv (plainly g) t due next) new))
+
+pub record Enrols (x x' : Runner) (g t : ℕ) : Type 0 where
+  pub does : CountedOrGone x.book g t x'.book
+  pub served : IsServed x'
+
+no-marks : (v : BookView) (g : ℕ) → numbered v.schedule.marks g ≡ Some [] → marks_at v.schedule g ≡ []
+no-marks v g e = rw e refl
+
+blocks-enrols : (x x' : Runner) (ticket : Ticket) (t : ℕ) (r r' : Rec) (done : BlockDone) (o : Option (ℕ × Option ℕ)) → IsEnrolled x ticket t → (h : HasRecord x t) → has_channel r.kind ≡ true
+    → slice_get x.records.items t ≡ Some r → x'.records.items ≡ set x.records.items t r' → x'.records.spare ≡ x.records.spare → x'.noted ≡ noted_at x.noted r'
+    → mark_count x.book.schedule t + 1 ≤ 2 ^ 32 - 1
+    → received r (clock x.book.state 0) ≡ o → BlocksBy (record { heap = x.heap; rec = r; book = x.book }) ticket.g (record { heap = x'.heap; rec = r'; book = x'.book }) done o
+    → IsKept x'.book x'.heap r' → Enrols x x' ticket.g t
+blocks-enrols x x' ticket t r r' done (Some got) en h channel there records_are spare noted_is few is row kept =
+    let own = record-is x t r h there in
+    let g : ℕ = ticket.g in
+    let never : r.kind ≡ RecKind.Ticker → ⊥ = never-ticker x.book.script r.id r own.2.kept.rec.agrees.kind in
+    let none : got.1 ≡ None = received-none r (clock x.book.state 0) got never is in
+    let rec_is : r' ≡ taken r None = row.rec ∙ ap (taken r) none in
+    let same_heaped : r'.heaped ≡ r.heaped = ap (λ (r : Rec). r.heaped) rec_is in
+    let same_id : r'.id ≡ r.id = ap (λ (r : Rec). r.id) rec_is in
+    let number_is : x'.heap.number ≡ x.heap.number = ap (λ (h : LazyHeap). h.number) row.heap in
+    let enters : Enters x.book (Entry.TRecv (plainly g) t got.0 got.1) x'.book = subst (λ i. Enters x.book (Entry.TRecv (plainly g) i got.0 got.1) x'.book) own.1 row.entered in
+    let unnoted : x'.noted ≡ x.noted = noted_is ∙ ap (noted_at x.noted) rec_is in
+    record {
+      does = inr (got.0, (got.1, enters));
+      served = record {
+        tended = tended-touched x x' t r r' en.but.tended (rests-touches x x' t r r' _ en.lawful (record {
+          there = there; id_is = own.1; watched = own.2; records_are = records_are; spare = spare; noted_is = unnoted;
+          enters = enters;
+          leaves = λ j n. record { timer = λ e. n (sym e); mover = inr (stands-awake x.book g (Instr.Recv t) en.waits, refl) };
+          slots = λ j n. ap (λ (h : LazyHeap). Rattle.gt_lazy.specs.Slots.slot_with h.slots j) row.heap;
+          number_is = number_is;
+          room = (let heaped = ap (λ (r : Rec). Rattle.gt_schedule.specs.Counts.as_number (is_heaped r)) rec_is in let free = ap (λ (h : LazyHeap). h.spare) row.heap in rw (heaped, free) refl);
+          kept = kept;
+          same_id = same_id;
+          same_kind = ap (λ (r : Rec). r.kind) rec_is;
+          same_blocked = ap (λ (r : Rec). r.blocked) rec_is;
+          inside = λ some. same_heaped ∙ (own.2.inside (subst IsSome same_heaped some) ∙ ap Some (sym number_is));
+          needs_not = ap needs_heap rec_is;
+          none_ready = ap (λ (r : Rec). r.ready) rec_is;
+          none_sent = ap (λ (r : Rec). r.sending) rec_is;
+        }));
+        marks = fit-receives x.book g t got.0 got.1 x'.book en.lawful en.marks_many enters (ap is_parked en.live) en.but.marks
+            (subst (λ ts. length ts ≤ 1) (sym (no-marks x.book g en.unmarked)) (omega arith));
+      };
+    }
+blocks-enrols x x' ticket t r r' done None en h channel there records_are spare noted_is few is row kept =
+    let own = record-is x t r h there in
+    let g : ℕ = ticket.g in
+    let book_is : x'.book ≡ with_schedule x.book (marked x.book.schedule g t) = row.book ∙ ap (λ i. with_schedule x.book (marked x.book.schedule g i)) own.1 in
+    let awaited : awaited_by x.book.script x.book.state g ≡ t ∷ [] =
+    ap (λ (o : Option Instr). elim o as (λ _. List ℕ) [ None ↦ [] | Some i ↦ timers_of i ]) en.waits in
+    record {
+      does = inl book_is;
+      served = record {
+        tended = tended-touched x x' t r r' en.but.tended (counts-touches x x' t g r r' (record {
+          there = there; id_is = own.1; watched = own.2; records_are = records_are; spare = spare; noted_is = noted_is;
+          book_is = row.book; place = row.place; unmarked = en.unmarked;
+          few = subst (λ i. mark_count x.book.schedule i + 1 ≤ 2 ^ 32 - 1) (sym own.1) few;
+          kept = kept;
+        }));
+        marks = subst (λ (b : BookView). (h : ℕ) → Rattle.gt_runner.specs.Served.MarkFitsAt b.script b.state b.schedule h) (sym book_is)
+            (fit-remarked x.book g (λ ts. ts ++ t ∷ []) [] en.unmarked en.but.marks
+            (subst (MarkFits (t ∷ []) (awaited_by x.book.script x.book.state g)) (sym en.live) (sym awaited)));
+      };
+    }
+
+pub block-enrols : (x x' : Runner) (ticket : Ticket) (t : ℕ) (r r' : Rec) (done : BlockDone) → IsEnrolled x ticket t → (h : HasRecord x t) → has_channel r.kind ≡ true
+    → slice_get x.records.items t ≡ Some r → x'.records.items ≡ set x.records.items t r' → x'.records.spare ≡ x.records.spare → x'.noted ≡ noted_at x.noted r'
+    → mark_count x.book.schedule t + 1 ≤ 2 ^ 32 - 1
+    → BlockRow (record { heap = x.heap; rec = r; book = x.book }) ticket (record { heap = x'.heap; rec = r'; book = x'.book }) done → IsKept x'.book x'.heap r' → Enrols x x' ticket.g t
+block-enrols x x' ticket t r r' done en h channel there records_are spare noted_is few row kept =
+    let old : Parts = record { heap = x.heap; rec = r; book = x.book } in
+    let new : Parts = record { heap = x'.heap; rec = r'; book = x'.book } in
+    let cases : BlockCases old ticket new done = running-row x.book BlockDone.Over done (new ≡ old) (BlockCases old ticket new done) en.running row in
+    blocks-enrols x x' ticket t r r' done (received r (clock x.book.state 0)) en h channel there records_are spare noted_is few refl (cases.live en.live) kept
