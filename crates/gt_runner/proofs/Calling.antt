@@ -27,18 +27,20 @@ use Rattle.gt_rows.specs.declared.answers.SetDone.{SetDone}
 use Rattle.gt_rows.specs.Lent.{IsLent, IsLentRec, IsKept}
 use Rattle.gt_rows.specs.Rows.{Parts, sets, SetsAt, SetsBy, SetRow, Arms, UnlessOver, stops, StopsAt, next_of}
 use Rattle.gt_schedule.specs.declared.status.RunStatus.{RunStatus}
-use Rattle.gt_schedule.specs.Schedule.{Schedule, plainly, status_of, ServedBy}
+use Rattle.gt_schedule.specs.Schedule.{Schedule, plainly, status_of, ticket_of, ServedBy}
 use Rattle.gt_schedule.proofs.Counting.{count-cons}
 use Rattle.gt_schedule.specs.Counts.{as_number}
 use Rattle.gt_book.specs.declared.step.Step.{Step}
 use Rattle.gt_book.specs.declared.answers.TimerOp.{TimerOp}
-use Rattle.gt_book.specs.Steps.{step_of, step_of_instr, step_or_panic}
+use Rattle.gt_book.specs.declared.answers.Did.{Did}
+use Rattle.gt_book.specs.Steps.{step_of, step_of_instr, step_or_panic, Does, Steps}
 use Rattle.gt_book.specs.View.{BookView, Enters, IsLawful, Agrees, outcome_of}
 use Rattle.gt_book.proofs.Fitting.{Known, known}
 use Rattle.gt_book.proofs.Going.{IsStep, step-is, in_hand-goes, makes-served}
 use Rattle.gt_book.proofs.Passing.{enters-script, enters-limits}
 use Rattle.gt_runner.specs.declared.runner.Runner.{Runner}
 use Rattle.gt_runner.specs.Run.{IsAlone, Goes}
+use Rattle.gt_runner.specs.Calls.{HasRecord, After, Ready, WantsSet}
 use Rattle.gt_runner.specs.Served.{IsWatched, AtKind, IsAt, AtNumber, IsTended, IsServed, is_heaped, record_count, noted_at}
 use Rattle.gt_runner.proofs.Fitting.{fit-enters}
 use Rattle.gt_runner.proofs.Leaving.{Leaves}
@@ -134,13 +136,6 @@ stands-recv v g t e =
     (λ h. st.stands ∙ ap Some (asks-recv v.state g st.instr t h))
 
 -- ---- the records of timers
-
--- a record of the run that is watched
-pub record HasRecord (x : Runner) (id : ℕ) : Type 0 where
-  pub rec : Rec
-  pub there : slice_get x.records.items id ≡ Some rec
-  pub id_is : rec.id ≡ id
-  pub watched : IsWatched x.book x.heap x.noted rec
 
 some-kind : (o : Option Decl) → (names_timer (option_map (λ (d : Decl). d.what) o) || names_func (option_map (λ (d : Decl). d.what) o)) ≡ true
     → (kind : RecKind) × ((elim o as (λ _. Option RecKind) [ None ↦ Some RecKind.Sleep | Some decl ↦ kind_of_what decl.what ]) ≡ Some kind)
@@ -239,19 +234,6 @@ record-is x id r h there =
 
 -- ---- after an entry of a goroutine in hand
 
--- what a whole call leaves
-pub record After (x x' : Runner) (g : ℕ) : Type 0 where
-  pub goes : Goes g x.book x'.book
-  pub served : IsServed x'
-
--- a run in which g may make its call
-pub record Ready (x : Runner) (g : ℕ) : Type 0 where
-  pub served : IsServed x
-  pub lawful : IsLawful x.book
-  pub marks : length x.book.schedule.marks ≡ length x.book.schedule.statuses
-  pub alone : IsAlone x.book g
-  pub running : outcome_of x.book ≡ None
-
 pub after-enters : (x x' : Runner) (g : ℕ) (e : Entry) → Ready x g → Enters x.book e x'.book → ServedBy x.book.schedule (change_of e).mover
     → ClockJumps x.book.script 0 x.book.state e → IsTended x' → After x x' g
 after-enters x x' g e ready enters served clock tended = record {
@@ -321,12 +303,7 @@ after-armed x x' g id r r' e due period done ready a =
       arms = a.arms; leaves = a.leaves; kept = a.kept;
     })))
 
--- what g wants of timer t's record
-pub record WantsSet (b : BookView) (g t : ℕ) : Type 0 where
-  pub d : ℕ
-  pub wants : (next_of b g ≡ Some (Step.Needs (TimerOp.New t d))) ⊎ (next_of b g ≡ Some (Step.Needs (TimerOp.Reset t d)))
-
-names-standing : (v : BookView) (g : ℕ) (i : Instr) → IsLawful v → stands_at v.script v.state g ≡ Some i → NamesRightly v.script i
+pub names-standing : (v : BookView) (g : ℕ) (i : Instr) → IsLawful v → stands_at v.script v.state g ≡ Some i → NamesRightly v.script i
 names-standing v g i lawful e =
     let st : Standing v.script v.state g i = standing v.script v.state g i e in
     names-instr_at v.script st.who.place i lawful.good st.on
@@ -378,3 +355,20 @@ after-set x x' g t r r' done ready wants h there records_are spare noted_is row 
             clock = tt;
           })
     ]
+
+-- a step that asks for no record
+does-after : (x x' : Runner) (g : ℕ) (step : Step) (did : Did) → Ready x g → next_of x.book g ≡ Some step → Does x.book g step x'.book did → ((w : TimerOp) → did ≡ Did.Timer w → ⊥)
+    → x'.records ≡ x.records → x'.heap ≡ x.heap → x'.noted ≡ x.noted → After x x' g
+does-after x x' g (Step.Makes e) did ready next does other records_are heap_is noted_is = after-makes x x' g e ready next does.0 records_are heap_is noted_is
+does-after x x' g (Step.Waits t) did ready next does other records_are heap_is noted_is = absurd (other (TimerOp.Enrolled (ticket_of x.book.schedule g)) does.1)
+does-after x x' g (Step.Needs op) did ready next does other records_are heap_is noted_is = absurd (other op does.1)
+
+pub steps-after : (x x' : Runner) (g : ℕ) (did : Did) → Ready x g → Steps x.book g x'.book did → ((w : TimerOp) → did ≡ Did.Timer w → ⊥)
+    → x'.records ≡ x.records → x'.heap ≡ x.heap → x'.noted ≡ x.noted → After x x' g
+steps-after x x' g did ready h other records_are heap_is noted_is =
+    let does : MatchOption (next_of x.book g) ⊥ (λ step. Does x.book g step x'.book did) =
+    subst (λ (o : Option Outcome). MatchOption o (MatchOption (next_of x.book g) ⊥ (λ step. Does x.book g step x'.book did)) (λ outcome. (did ≡ Did.Over outcome) × (x'.book ≡ x.book))) ready.running h in
+    elim (next_of x.book g) as (λ o. next_of x.book g ≡ o → MatchOption o ⊥ (λ step. Does x.book g step x'.book did) → After x x' g) [
+      | None ↦ λ q k. absurd k
+      | Some step ↦ λ q k. does-after x x' g step did ready q k other records_are heap_is noted_is
+    ] refl does

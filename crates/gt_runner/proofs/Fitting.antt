@@ -271,3 +271,11 @@ fit-remarked v g f ts there others own h =
     list_or_none : Option (List ℕ) → List ℕ
     list_or_none None = []
     list_or_none (Some ts) = ts
+
+-- nobody has more than one mark
+pub fit-few : (marks awaited : List ℕ) (o : Option RunStatus) → length awaited ≤ 1 → MarkFits marks awaited o → length marks ≤ 1
+fit-few marks awaited (Some (RunStatus.Parked since)) h fit = subst (λ ts. length ts ≤ 1) (sym fit) h
+fit-few marks awaited (Some RunStatus.Queued) h fit = fit
+fit-few marks awaited (Some RunStatus.InHand) h fit = subst (λ ts. length ts ≤ 1) (sym fit) (omega arith)
+fit-few marks awaited (Some RunStatus.Ended) h fit = subst (λ ts. length ts ≤ 1) (sym fit) (omega arith)
+fit-few marks awaited None h fit = subst (λ ts. length ts ≤ 1) (sym fit) (omega arith)

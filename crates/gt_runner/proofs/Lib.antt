@@ -10,3 +10,4 @@ pub mod Touching
 pub mod Cleanings
 pub mod Calling
 pub mod Waiting
+pub mod Growing

@@ -16,24 +16,36 @@ use Rattle.gt_lazy.specs.Slots.{LazyHeap}
 use Rattle.gt_rows.specs.declared.answers.SetDone.{SetDone}
 use Rattle.gt_rows.specs.declared.answers.StopDone.{StopDone}
 use Rattle.gt_rows.specs.declared.answers.BlockDone.{BlockDone}
-use Rattle.gt_rows.specs.Agrees.{kind_by}
+use Rattle.gt_rows.specs.Agrees.{kind_by, kind_of_what, of_declaration}
 use Rattle.gt_rows.specs.Lent.{IsLentRec, IsPlaced, IsKept}
 use Rattle.gt_rows.specs.Rows.{Pair, Parts, UnlessOver, StopRow, StopsBy, Stops, SleepRow, SleepsBy, BlockRow, BlockCases, BlocksBy, ReceivesAtOnce, Blocks, stops, StopsAt, next_of}
 use Rattle.gt_schedule.specs.declared.status.RunStatus.{RunStatus}
 use Rattle.gt_schedule.specs.declared.status.Ticket.{Ticket}
-use Rattle.gt_schedule.specs.Schedule.{Schedule, plainly, status_of, is_parked, marks_at, mark_count, marked, IsLive}
+use Rattle.gt_schedule.specs.Schedule.{Schedule, plainly, status_of, is_parked, marks_at, mark_count, marked, parked_at, ticket_of, IsLive}
 use Rattle.gt_book.specs.declared.step.Step.{Step}
 use Rattle.gt_book.specs.declared.answers.TimerOp.{TimerOp}
 use Rattle.gt_book.specs.View.{BookView, Enters, IsLawful, outcome_of, with_schedule}
 use Rattle.gt_book.proofs.Going.{in_hand-goes}
 use Rattle.gt_runner.specs.declared.runner.Runner.{Runner}
 use Rattle.gt_runner.specs.Served.{IsWatched, IsTended, IsServed, IsServedBut, MarkFits, awaited_by, timers_of, is_heaped, noted_at}
-use Rattle.gt_runner.proofs.Fitting.{fit-receives, fit-remarked}
+use Rattle.std.specs.Option.{option_map}
+use Rattle.std.proofs.lemmas.Bool.{cases_eq}
+use Rattle.gt_model.specs.declared.script.Decl.{Decl}
+use Rattle.gt_model.specs.declared.script.What.{What}
+use Rattle.gt_model.specs.Script.{names_timer}
+use Rattle.gt_model.proofs.Declared.{timer_setting}
+use Rattle.gt_runner.proofs.Marks.{count-few}
+use Rattle.gt_runner.proofs.Fitting.{fit-receives, fit-remarked, fit-few, one-awaited}
 use Rattle.gt_runner.proofs.Needing.{never-ticker}
 use Rattle.gt_runner.proofs.Leaving.{Leaves}
-use Rattle.gt_runner.proofs.Tending.{Touches, tended-touched}
+use Rattle.gt_book.proofs.Passing.{enters-script, enters-limits, enters-jumps, enters-longer, enters-hands, parked_at-leaves_hand, parked_at-hands, parked_at-queued_count}
+use Rattle.gt_model.proofs.Items.{numbered-change_same, numbered-change_other}
+use Rattle.gt_schedule.proofs.Keeping.{numbered-le}
+use Rattle.gt_runner.specs.Run.{Goes, Jumps}
+use Rattle.gt_runner.proofs.Tending.{Touches, tended-touched, Spares, tended-spared, Stays}
 use Rattle.gt_runner.proofs.Touching.{Rests, rests-touches, Counts, counts-touches}
-use Rattle.gt_runner.proofs.Calling.{After, Ready, HasRecord, Armed, record-is, after-enters, after-armed, in_hand-awake, stands-awake, stands-stop, stands-sleep, running-row}
+use Rattle.gt_runner.specs.Calls.{HasRecord, After, Ready, IsEnrolled, CountedOrGone, Enrols, WaitsSomewhere, EnrolsSomewhere, Grows}
+use Rattle.gt_runner.proofs.Calling.{Armed, record-is, after-enters, after-armed, in_hand-awake, stands-awake, stands-stop, stands-sleep, running-row, setting-record, names-standing}
 
 -- where the record stays is where it was
 pub placed-same : (h : LazyHeap) (r r' : Rec) → r'.id ≡ r.id → r'.heaped ≡ r.heaped → r'.key ≡ r.key → IsPlaced h r → IsPlaced h r'
@@ -124,24 +136,6 @@ received-none r now got n e =
         sym (ap (λ (x : ℕ × Option ℕ). x.1) is) ∙ left-none r.kind r.period due now n
     by false due k = cc
 
--- a run in which g was parked at a receive from t, and is not counted there yet
-pub record IsEnrolled (x : Runner) (ticket : Ticket) (t : ℕ) : Type 0 where
-  pub but : IsServedBut x ticket.g
-  pub lawful : IsLawful x.book
-  pub marks_many : length x.book.schedule.marks ≡ length x.book.schedule.statuses
-  pub live : IsLive x.book.schedule ticket
-  pub waits : stands_at x.book.script x.book.state ticket.g ≡ Some (Instr.Recv t)
-  pub unmarked : numbered x.book.schedule.marks ticket.g ≡ Some []
-  pub running : outcome_of x.book ≡ None
-
--- it is counted, or has received
-abbrev pub CountedOrGone : BookView → ℕ → ℕ → BookView → Type 0
-CountedOrGone old g t new = (new ≡ with_schedule old (marked old.schedule g t)) ⊎ ((due : ℕ) × ((next : Option ℕ) × Enters old (Entry.TRecv (plainly g) t due next) new))
-
-pub record Enrols (x x' : Runner) (g t : ℕ) : Type 0 where
-  pub does : CountedOrGone x.book g t x'.book
-  pub served : IsServed x'
-
 no-marks : (v : BookView) (g : ℕ) → numbered v.schedule.marks g ≡ Some [] → marks_at v.schedule g ≡ []
 no-marks v g e = rw e refl
 
@@ -214,3 +208,125 @@ block-enrols x x' ticket t r r' done en h channel there records_are spare noted_
     let new : Parts = record { heap = x'.heap; rec = r'; book = x'.book } in
     let cases : BlockCases old ticket new done = running-row x.book BlockDone.Over done (new ≡ old) (BlockCases old ticket new done) en.running row in
     blocks-enrols x x' ticket t r r' done (received r (clock x.book.state 0)) en h channel there records_are spare noted_is few refl (cases.live en.live) kept
+
+-- ---- parked, and then counted or gone
+
+parked-jumps : (old new : BookView) (m : Schedule) → new ≡ with_schedule old m → Jumps old → Jumps new
+parked-jumps old new m is jumps = subst Jumps (sym is) jumps
+
+goes-parked : (x x1 x' : Runner) (g t : ℕ) → Ready x g → x1.book ≡ with_schedule x.book (parked_at x.book.schedule (plainly g) t) → IsLawful x1.book → CountedOrGone x1.book g t x'.book → Goes g x.book x'.book
+goes-parked x x1 x' g t ready parked lawful (inl is) =
+    let m : Schedule = parked_at x.book.schedule (plainly g) t in
+    let both : x'.book ≡ with_schedule x.book (marked m g t) = is ∙ ap (λ (b : BookView). with_schedule b (marked b.schedule g t)) parked in
+    subst (Goes g x.book) (sym both) (record {
+      script = refl;
+      limits = refl;
+      jumps = λ jumps. jumps;
+      hands = λ h q. ready.alone.alone h (parked_at-hands x.book.schedule (plainly g) t h q);
+      goes = inr (refl, parked_at-queued_count x.book.schedule (plainly g) t ready.alone.in_hand, parked_at-leaves_hand x.book.schedule (plainly g) t ready.alone.in_hand);
+    })
+goes-parked x x1 x' g t ready parked lawful (inr got) =
+    let e : Entry = Entry.TRecv (plainly g) t got.0 got.1.0 in
+    let enters : Enters x1.book e x'.book = got.1.1 in
+    record {
+      script = enters-script x1.book e x'.book enters ∙ ap (λ (b : BookView). b.script) parked;
+      limits = enters-limits x1.book e x'.book enters ∙ ap (λ (b : BookView). b.limits) parked;
+      jumps = λ jumps. enters-jumps x1.book e x'.book enters lawful.reached tt (parked-jumps x.book x1.book (parked_at x.book.schedule (plainly g) t) parked jumps);
+      hands = λ h q. ready.alone.alone h (parked_at-hands x.book.schedule (plainly g) t h
+          (subst (λ (b : BookView). status_of b.schedule h ≡ Some RunStatus.InHand) parked (enters-hands x1.book e x'.book h enters q)));
+      goes = inl (subst (λ (b : BookView). length b.history < length x'.book.history) parked (enters-longer x1.book e x'.book enters));
+    }
+
+pub after-enrols : (x x1 x' : Runner) (g t : ℕ) → Ready x g → x1.book ≡ with_schedule x.book (parked_at x.book.schedule (plainly g) t) → IsLawful x1.book → Enrols x1 x' g t → After x x' g
+after-enrols x x1 x' g t ready parked lawful e = record { goes = goes-parked x x1 x' g t ready parked lawful e.does; served = e.served }
+
+-- who was parked is enrolled
+numbered-some : {X : Type 0} (xs : List X) (g : ℕ) → 1 ≤ g → g ≤ length xs → (x : X) × (numbered xs g ≡ Some x)
+numbered-some xs zero a b = absurd (omega arith)
+numbered-some [] (suc i) a b = absurd (omega arith)
+numbered-some (x ∷ xs) (suc zero) a b = (x, refl)
+numbered-some (x ∷ xs) (suc (suc i)) a b = numbered-some xs (suc i) (omega arith) (omega arith)
+
+empty-marks : (m : Schedule) (g : ℕ) → length m.marks ≡ length m.statuses → status_of m g ≡ Some RunStatus.InHand → marks_at m g ≡ [] → numbered m.marks g ≡ Some []
+empty-marks m g many e none =
+    let last : g ≤ length m.statuses = numbered-le m.statuses g RunStatus.InHand e in
+    let first : 1 ≤ g = positive g e in
+    let found = numbered-some m.marks g first (omega arith) in
+    found.1 ∙ ap Some (sym (ap list_or_none found.1) ∙ none)
+  where
+    positive : (g : ℕ) → status_of m g ≡ Some RunStatus.InHand → 1 ≤ g
+    positive zero e = cc
+    positive (suc i) e = omega arith
+
+    list_or_none : Option (List ℕ) → List ℕ
+    list_or_none None = []
+    list_or_none (Some ts) = ts
+
+spares-parked : (x x1 : Runner) (m : Schedule) → x1.book ≡ with_schedule x.book m → m.marks ≡ x.book.schedule.marks → x1.records ≡ x.records → x1.heap ≡ x.heap → x1.noted ≡ x.noted → Spares x x1
+spares-parked x x1 m is marks records_are heap_is noted_is = record {
+  records_are = records_are; heap_is = heap_is; noted_is = noted_is;
+  limits = ap (λ (b : BookView). b.limits) is;
+  script_is = ap (λ (b : BookView). b.script) is;
+  stays = λ j. subst (λ b'. Stays x.book b' x.heap x.heap j) (sym is) (record {
+    script_is = refl; due = refl; period = refl;
+    count = ap (λ xs. mark_count (record x.book.schedule { marks = xs }) j) marks;
+    slot = refl; number_is = refl;
+  });
+}
+
+pub parked-enrolled : (x x1 : Runner) (g t : ℕ) → Ready x g → stands_at x.book.script x.book.state g ≡ Some (Instr.Recv t)
+    → x1.book ≡ with_schedule x.book (parked_at x.book.schedule (plainly g) t) → x1.records ≡ x.records → x1.heap ≡ x.heap → x1.noted ≡ x.noted
+    → IsLawful x1.book → length x1.book.schedule.marks ≡ length x1.book.schedule.statuses → IsEnrolled x1 (ticket_of x.book.schedule g) t
+parked-enrolled x x1 g t ready stands is records_are heap_is noted_is lawful many =
+    let m : Schedule = parked_at x.book.schedule (plainly g) t in
+    let status : RunStatus = RunStatus.Parked x.book.schedule.parks in
+    let marks_none : marks_at x.book.schedule g ≡ [] =
+    subst (MarkFits (marks_at x.book.schedule g) (awaited_by x.book.script x.book.state g)) ready.alone.in_hand (ready.served.marks g) in
+    record {
+      but = record {
+        tended = tended-spared x x1 ready.served.tended (spares-parked x x1 m is refl records_are heap_is noted_is);
+        marks = λ h n. subst (λ (b : BookView). Rattle.gt_runner.specs.Served.MarkFitsAt b.script b.state b.schedule h) (sym is)
+            (subst (MarkFits (marks_at x.book.schedule h) (awaited_by x.book.script x.book.state h)) (sym (numbered-change_other x.book.schedule.statuses g h (λ _. status) n)) (ready.served.marks h));
+      };
+      lawful = lawful;
+      marks_many = many;
+      live = subst (λ (b : BookView). status_of b.schedule g ≡ Some status) (sym is) (numbered-change_same x.book.schedule.statuses g (λ _. status) RunStatus.InHand ready.alone.in_hand);
+      waits = subst (λ (b : BookView). stands_at b.script b.state g ≡ Some (Instr.Recv t)) (sym is) stands;
+      unmarked = subst (λ (b : BookView). numbered b.schedule.marks g ≡ Some []) (sym is) (empty-marks x.book.schedule g ready.marks ready.alone.in_hand marks_none);
+      running = subst (λ (b : BookView). outcome_of b ≡ None) (sym is) ready.running;
+    }
+
+-- the timer at which a goroutine waits has a record with a channel
+pub waits-record : (x : Runner) (ticket : Ticket) (t : ℕ) → IsEnrolled x ticket t → HasRecord x t
+waits-record x ticket t en =
+    setting-record x t en.but.tended (timer_setting x.book.script t (names-standing x.book ticket.g (Instr.Recv t) en.lawful en.waits))
+
+pub waits-channel : (x : Runner) (ticket : Ticket) (t : ℕ) (r : Rec) → IsEnrolled x ticket t → slice_get x.records.items t ≡ Some r → has_channel r.kind ≡ true
+waits-channel x ticket t r en there =
+    let own = record-is x t r (waits-record x ticket t en) there in
+    let kind : kind_by x.book.script t ≡ Some r.kind = ap (kind_by x.book.script) (sym own.1) ∙ own.2.kept.rec.agrees.kind in
+    timer-channel (of_declaration x.book.script t) r.kind (names-standing x.book ticket.g (Instr.Recv t) en.lawful en.waits) kind
+  where
+    timer-channel : (o : Option Decl) (kind : RecKind) → names_timer (option_map (λ (d : Decl). d.what) o) ≡ true
+        → (elim o as (λ _. Option RecKind) [ None ↦ Some RecKind.Sleep | Some decl ↦ kind_of_what decl.what ]) ≡ Some kind → has_channel kind ≡ true
+    timer-channel None kind h e = cc
+    timer-channel (Some decl) kind h e = of_what decl.what kind h e
+      where
+        of_what : (w : What) (kind : RecKind) → names_timer (Some w) ≡ true → kind_of_what w ≡ Some kind → has_channel kind ≡ true
+        of_what What.Timer kind h e = let is : RecKind.Timer ≡ kind = cc in ap has_channel (sym is)
+        of_what (What.AfterFunc f) kind h e = cc
+        of_what What.Function kind h e = cc
+
+-- few goroutines have marks
+marks-few : (x : Runner) (ticket : Ticket) (t : ℕ) → IsEnrolled x ticket t → (g : ℕ) → length (marks_at x.book.schedule g) ≤ 1
+marks-few x ticket t en g =
+    elim (cases_eq g ticket.g) [
+      | inl e ↦ subst (λ g. length (marks_at x.book.schedule g) ≤ 1) (sym e) (subst (λ ts. length ts ≤ 1) (sym (no-marks x.book ticket.g en.unmarked)) (omega arith))
+      | inr n ↦ fit-few (marks_at x.book.schedule g) (awaited_by x.book.script x.book.state g) (status_of x.book.schedule g) (one-awaited x.book.script x.book.state g) (en.but.marks g n)
+    ]
+
+pub count-room : (x : Runner) (ticket : Ticket) (t : ℕ) → IsEnrolled x ticket t → length x.book.schedule.statuses ≤ 200001 → mark_count x.book.schedule t + 1 ≤ 2 ^ 32 - 1
+count-room x ticket t en most =
+    let few : mark_count x.book.schedule t ≤ length x.book.schedule.marks = count-few x.book.schedule t (marks-few x ticket t en) in
+    let many : length x.book.schedule.marks ≡ length x.book.schedule.statuses = en.marks_many in
+    omega arith

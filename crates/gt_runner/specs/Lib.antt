@@ -1,3 +1,4 @@
 pub mod Run
 pub mod Served
 pub mod Settled
+pub mod Calls
