@@ -42,7 +42,7 @@ use Rattle.gt_runner.specs.declared.runner.Runner.{Runner}
 use Rattle.gt_runner.specs.Run.{IsAlone, Goes}
 use Rattle.gt_runner.specs.Calls.{HasRecord, After, Ready, WantsSet}
 use Rattle.gt_runner.specs.Served.{IsWatched, AtKind, IsAt, AtNumber, IsTended, IsServed, is_heaped, record_count, noted_at}
-use Rattle.gt_runner.proofs.Fitting.{fit-enters}
+use Rattle.gt_runner.proofs.Fitting.{fit-enters, named-enters}
 use Rattle.gt_runner.proofs.Leaving.{Leaves}
 use Rattle.gt_runner.proofs.Tending.{Spares, tended-spared, Touches, tended-touched}
 use Rattle.gt_runner.proofs.Touching.{stays-enters, sets-touches}
@@ -238,7 +238,7 @@ pub after-enters : (x x' : Runner) (g : ℕ) (e : Entry) → Ready x g → Enter
     → ClockJumps x.book.script 0 x.book.state e → IsTended x' → After x x' g
 after-enters x x' g e ready enters served clock tended = record {
   goes = goes-enters x.book e x'.book g ready.lawful enters clock ready.alone;
-  served = record { tended = tended; marks = fit-enters x.book e x'.book ready.lawful ready.marks enters served ready.served.marks };
+  served = record { tended = tended; marks = fit-enters x.book e x'.book ready.lawful ready.marks enters served ready.served.marks; named = named-enters x.book e x'.book enters ready.served.named };
 }
 
 -- an entry that touches no record

@@ -20,7 +20,13 @@ use Rattle.gt_machine.specs.Outcomes.{due_outcome}
 use Rattle.gt_schedule.specs.declared.status.RunStatus.{RunStatus}
 use Rattle.gt_schedule.specs.Schedule.{Schedule, plainly, status_of, is_in_hand, is_parked, marks_at, gone_on, turned, moved_by, begun_by, with_new, rescheduled, scheduled, schedule_after, MayMove, ServedBy}
 use Rattle.gt_book.specs.View.{BookView, Enters, AreWoken, IsLawful, with_schedule, is_move, goer, maker, finish_by, finish_due, is_firm_at}
-use Rattle.gt_runner.specs.Served.{timers_of, awaited_by, MarkFits, MarkFitsAt}
+use Rattle.std.proofs.Common.{eqb}
+use Rattle.std.proofs.lemmas.Bool.{eqb-true}
+use Rattle.gt_model.specs.Script.{is_timer}
+use Rattle.gt_schedule.specs.Counts.{as_number, times}
+use Rattle.gt_book.proofs.Passing.{enters-script}
+use Rattle.gt_rows.proofs.Frames.{enters-marks}
+use Rattle.gt_runner.specs.Served.{NamesTimers, timers_of, awaited_by, MarkFits, MarkFitsAt}
 
 -- ---- the timers that a goroutine awaits
 
@@ -279,3 +285,29 @@ fit-few marks awaited (Some RunStatus.Queued) h fit = fit
 fit-few marks awaited (Some RunStatus.InHand) h fit = subst (λ ts. length ts ≤ 1) (sym fit) (omega arith)
 fit-few marks awaited (Some RunStatus.Ended) h fit = subst (λ ts. length ts ≤ 1) (sym fit) (omega arith)
 fit-few marks awaited None h fit = subst (λ ts. length ts ≤ 1) (sym fit) (omega arith)
+
+-- ---- marks are of timers
+
+pub named-enters : (old : BookView) (e : Entry) (new : BookView) → Enters old e new → NamesTimers old → NamesTimers new
+named-enters old e new enters named g t h =
+    ap (λ script. is_timer script t) (enters-script old e new enters) ∙ named g t (subst (λ ts. 0 < times t ts) (enters-marks old e new enters g) h)
+
+one-of : (u t : ℕ) (b : Bool) → eqb u t ≡ b → 0 < as_number b + 0 → eqb u t ≡ true
+one-of u t true e h = e
+one-of u t false e h = absurd (omega arith)
+
+-- g gets other marks
+pub named-remarked : (v : BookView) (g : ℕ) (f : List ℕ → List ℕ) (ts : List ℕ) → numbered v.schedule.marks g ≡ Some ts → NamesTimers v
+    → ((t : ℕ) → 0 < times t (f ts) → is_timer v.script t ≡ true) → NamesTimers (with_schedule v (record v.schedule { marks = change_numbered v.schedule.marks g f }))
+named-remarked v g f ts there named own h t some =
+    elim (cases_eq h g) [
+      | inl e ↦ own t (subst (λ us. 0 < times t us) (ap list_or_none (numbered-change_same v.schedule.marks g f ts there)) (subst (λ k. 0 < times t (list_or_none (numbered (change_numbered v.schedule.marks g f) k))) e some))
+      | inr n ↦ named h t (subst (λ us. 0 < times t us) (ap list_or_none (numbered-change_other v.schedule.marks g h f n)) some)
+    ]
+  where
+    list_or_none : Option (List ℕ) → List ℕ
+    list_or_none None = []
+    list_or_none (Some ts) = ts
+
+pub named-one : (v : BookView) (t u : ℕ) → is_timer v.script t ≡ true → 0 < times u (t ∷ []) → is_timer v.script u ≡ true
+named-one v t u timer h = ap (is_timer v.script) (sym (eqb-true t u (one-of t u (eqb t u) refl h))) ∙ timer

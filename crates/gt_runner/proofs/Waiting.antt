@@ -27,7 +27,7 @@ use Rattle.gt_book.specs.declared.answers.TimerOp.{TimerOp}
 use Rattle.gt_book.specs.View.{BookView, Enters, IsLawful, outcome_of, with_schedule}
 use Rattle.gt_book.proofs.Going.{in_hand-goes}
 use Rattle.gt_runner.specs.declared.runner.Runner.{Runner}
-use Rattle.gt_runner.specs.Served.{IsWatched, IsTended, IsServed, IsServedBut, MarkFits, awaited_by, timers_of, is_heaped, noted_at}
+use Rattle.gt_runner.specs.Served.{NamesTimers, IsWatched, IsTended, IsServed, IsServedBut, MarkFits, awaited_by, timers_of, is_heaped, noted_at}
 use Rattle.std.specs.Option.{option_map}
 use Rattle.std.proofs.lemmas.Bool.{cases_eq}
 use Rattle.gt_model.specs.declared.script.Decl.{Decl}
@@ -35,7 +35,7 @@ use Rattle.gt_model.specs.declared.script.What.{What}
 use Rattle.gt_model.specs.Script.{names_timer}
 use Rattle.gt_model.proofs.Declared.{timer_setting}
 use Rattle.gt_runner.proofs.Marks.{count-few}
-use Rattle.gt_runner.proofs.Fitting.{fit-receives, fit-remarked, fit-few, one-awaited}
+use Rattle.gt_runner.proofs.Fitting.{fit-receives, fit-remarked, fit-few, one-awaited, named-enters, named-remarked, named-one}
 use Rattle.gt_runner.proofs.Needing.{never-ticker}
 use Rattle.gt_runner.proofs.Leaving.{Leaves}
 use Rattle.gt_book.proofs.Passing.{enters-script, enters-limits, enters-jumps, enters-longer, enters-hands, parked_at-leaves_hand, parked_at-hands, parked_at-queued_count}
@@ -176,6 +176,7 @@ blocks-enrols x x' ticket t r r' done (Some got) en h channel there records_are 
         }));
         marks = fit-receives x.book g t got.0 got.1 x'.book en.lawful en.marks_many enters (ap is_parked en.live) en.but.marks
             (subst (λ ts. length ts ≤ 1) (sym (no-marks x.book g en.unmarked)) (omega arith));
+        named = named-enters x.book (Entry.TRecv (plainly g) t got.0 got.1) x'.book enters en.but.named;
       };
     }
 blocks-enrols x x' ticket t r r' done None en h channel there records_are spare noted_is few is row kept =
@@ -196,6 +197,8 @@ blocks-enrols x x' ticket t r r' done None en h channel there records_are spare 
         marks = subst (λ (b : BookView). (h : ℕ) → Rattle.gt_runner.specs.Served.MarkFitsAt b.script b.state b.schedule h) (sym book_is)
             (fit-remarked x.book g (λ ts. ts ++ t ∷ []) [] en.unmarked en.but.marks
             (subst (MarkFits (t ∷ []) (awaited_by x.book.script x.book.state g)) (sym en.live) (sym awaited)));
+        named = subst NamesTimers (sym book_is) (named-remarked x.book g (λ ts. ts ++ t ∷ []) [] en.unmarked en.but.named
+            (λ u h. named-one x.book t u (names-standing x.book g (Instr.Recv t) en.lawful en.waits) h));
       };
     }
 
@@ -287,6 +290,7 @@ parked-enrolled x x1 g t ready stands is records_are heap_is noted_is lawful man
         tended = tended-spared x x1 ready.served.tended (spares-parked x x1 m is refl records_are heap_is noted_is);
         marks = λ h n. subst (λ (b : BookView). Rattle.gt_runner.specs.Served.MarkFitsAt b.script b.state b.schedule h) (sym is)
             (subst (MarkFits (marks_at x.book.schedule h) (awaited_by x.book.script x.book.state h)) (sym (numbered-change_other x.book.schedule.statuses g h (λ _. status) n)) (ready.served.marks h));
+        named = subst NamesTimers (sym is) ready.served.named;
       };
       lawful = lawful;
       marks_many = many;

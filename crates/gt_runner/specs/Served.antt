@@ -8,6 +8,8 @@ use Rattle.gt_rules.specs.State.{State, stands_at}
 use Rattle.gt_rec.specs.declared.RecKind.{RecKind}
 use Rattle.gt_rec.specs.Rec.{Rec, needs_heap, has_channel}
 use Rattle.gt_lazy.specs.Slots.{LazyHeap, slot_with}
+use Rattle.gt_model.specs.Script.{is_timer}
+use Rattle.gt_schedule.specs.Counts.{times}
 use Rattle.gt_schedule.specs.declared.status.RunStatus.{RunStatus}
 use Rattle.gt_schedule.specs.Schedule.{Schedule, status_of, marks_at, mark_count, most_goroutines}
 use Rattle.gt_book.specs.View.{BookView, outcome_of}
@@ -86,6 +88,10 @@ MarkFits marks awaited None = marks ≡ []
 abbrev pub MarkFitsAt : Script → State → Schedule → ℕ → Type 0
 MarkFitsAt script s m g = MarkFits (marks_at m g) (awaited_by script s g) (status_of m g)
 
+-- marks are of channel timers
+abbrev pub NamesTimers : BookView → Type 0
+NamesTimers b = (g t : ℕ) → 0 < times t (marks_at b.schedule g) → is_timer b.script t ≡ true
+
 -- ---- the run
 
 -- how many records a run has at most
@@ -105,8 +111,10 @@ pub record IsTended (x : Runner) : Type 0 where
 pub record IsServed (x : Runner) : Type 0 where
   pub tended : IsTended x
   pub marks : (g : ℕ) → MarkFitsAt x.book.script x.book.state x.book.schedule g
+  pub named : NamesTimers x.book
 
 -- the same but for the marks of g
 pub record IsServedBut (x : Runner) (g : ℕ) : Type 0 where
   pub tended : IsTended x
   pub marks : (h : ℕ) → h ≢ g → MarkFitsAt x.book.script x.book.state x.book.schedule h
+  pub named : NamesTimers x.book
