@@ -1,5 +1,5 @@
 -- What a change by an entry leaves of due times, periods, the program's clock, marks and statuses.
-use Rattle.std.proofs.Common.{◌≡◌, ◌≢◌, ◌⊎◌, inl, inr, ℕ, zero, suc, ◌+◌, ◌-◌, ◌<◌, ◌≤◌, ◌==◌, ◌||◌, eqb, cond, List, [], ◌∷◌, ◌++◌, length, set, refl, sym, ap, subst, ◌∙◌, arith, Option, None, Some, Bool, true, false, IsTrue, IsSome, IsSomeAnd, is_some, is_none, nat_lt, slice_get, slice_index, option_map}
+use Rattle.std.proofs.Common.{◌≡◌, ◌≢◌, inl, inr, ℕ, zero, suc, ◌+◌, ◌-◌, ◌<◌, ◌≤◌, ◌==◌, ◌||◌, cond, List, [], ◌∷◌, ◌++◌, length, set, refl, sym, ap, subst, ◌∙◌, Option, None, Some, Bool, true, false, IsSome, IsSomeAnd, is_some, is_none, nat_lt, slice_index, option_map}
 use Rattle.std.proofs.lemmas.Bool.{cases_eq, eq-eqb, ne_eqb}
 use Rattle.gt_model.specs.declared.script.Script.{Script}
 use Rattle.gt_model.specs.declared.script.Instr.{Instr}
@@ -7,7 +7,6 @@ use Rattle.gt_model.specs.declared.entry.Entry.{Entry}
 use Rattle.gt_model.specs.declared.entry.Limits.{Limits}
 use Rattle.gt_model.specs.declared.entry.Outcome.{Outcome}
 use Rattle.gt_model.specs.declared.entry.Reason.{Reason}
-use Rattle.gt_model.specs.declared.state.Ending.{Ending}
 use Rattle.gt_model.specs.declared.state.Goroutine.{Goroutine}
 use Rattle.gt_model.specs.declared.state.Mode.{Mode}
 use Rattle.gt_model.specs.declared.state.Timer.{Timer}
@@ -16,13 +15,13 @@ use Rattle.gt_model.specs.Script.{instr_at}
 use Rattle.gt_model.specs.Tables.{numbered, at, change_numbered}
 use Rattle.gt_model.proofs.Items.{at-set_same, at-set_other, at-change_same, at-change_other, numbered-change_same, numbered-change_other, numbered-push_same, numbered-push_other, numbered-next, HasNumber}
 use Rattle.gt_rules.specs.State.{State, goroutine_at, stands_at, timer_at, due_of, sleeps_until, until_of, clock, clock_of}
-use Rattle.gt_rules.specs.After.{after, changed, moved, set_due, set_again, with_mover, with_starts, started_by, with_retimed, with_clock, retimed, number_of}
+use Rattle.gt_rules.specs.After.{after, changed, moved, set_due, set_again, with_mover, with_starts, started_by, with_retimed, with_clock, retimed}
 use Rattle.gt_rules.specs.Change.{Change, change_of, on, ending_with}
 use Rattle.gt_rules.specs.Finish.{Legal}
-use Rattle.gt_rules.specs.History.{AllLegal, state_after}
-use Rattle.gt_rules.specs.Legal.{May, Does, Receives}
+use Rattle.gt_rules.specs.History.{state_after}
+use Rattle.gt_rules.specs.Legal.{May, Does}
 use Rattle.gt_rules.specs.Panics.{fault, fault_at, panic_at, when}
-use Rattle.gt_rules.specs.Ready.{is_firm, is_due, goes_on}
+use Rattle.gt_rules.specs.Ready.{is_firm, goes_on}
 use Rattle.gt_rules.specs.declared.change.Move.{Move}
 use Rattle.gt_rules.specs.declared.change.Setting.{Setting}
 use Rattle.gt_rules.specs.declared.change.Start.{Start}
@@ -33,11 +32,13 @@ use Rattle.gt_facts.proofs.Still.{panic_stands}
 use Rattle.gt_facts.proofs.Within.{setting_within}
 use Rattle.gt_book.proofs.Passing.{enters-script}
 use Rattle.gt_schedule.specs.declared.status.RunStatus.{RunStatus}
-use Rattle.gt_schedule.specs.Schedule.{Schedule, status_of, is_parked, scheduled, schedule_after, marks_at, with_new, begun_by, gone_on, turned, moved_by, unparked}
-use Rattle.gt_book.specs.View.{BookView, Enters, AreWoken, IsLawful, finish_by, finish_due, is_firm_at, maker}
+use Rattle.gt_schedule.proofs.Counting.{Parking, status-parked}
+use Rattle.gt_book.proofs.Fitting.{has_status}
+use Rattle.gt_schedule.specs.Schedule.{Schedule, status_of, is_parked, scheduled, rescheduled, schedule_after, marks_at, with_new, begun_by, gone_on, turned, moved_by}
+use Rattle.gt_book.specs.View.{BookView, Enters, AreWoken, IsLawful, finish_by, finish_due, is_firm_at}
 use Rattle.gt_machine.specs.Outcomes.{due_outcome}
 use Rattle.gt_rows.specs.Agrees.{due_by, period_by}
-use Rattle.gt_rows.specs.Frames.{due_after, until_after, timer_touched, sleep_touched, touched, timer_period_touched, period_touched, clock_touched, status_turned, IsUnmoved, StaysOrRuns}
+use Rattle.gt_rows.specs.Frames.{until_after, timer_touched, sleep_touched, touched, timer_period_touched, period_touched, clock_touched, status_turned, IsUnmoved, StaysOrRuns}
 
 -- ---- the entries of goroutines that are woken
 
@@ -452,3 +453,199 @@ pub enters-marks : (old : BookView) (e : Entry) (new : BookView) → Enters old 
 enters-marks old e new enters g =
     ap (λ (b : BookView). marks_at b.schedule g) enters.is
     ∙ marks-after old.schedule ((e ∷ enters.woken) ++ finish_due old.limits (state_after old.script old.state (e ∷ enters.woken))) g
+
+-- ---- where goroutines are
+
+stays-then : (a b c : Option RunStatus) → StaysOrRuns a b → StaysOrRuns b c → StaysOrRuns a c
+stays-then a b c (inl e) (inl f) = inl (f ∙ e)
+stays-then a b c (inl e) (inr f) = inr (f.0, ap (λ o. is_parked o || is_none o) (sym e) ∙ f.1)
+stays-then a b c (inr e) (inl f) = inr (f ∙ e.0, e.1)
+stays-then a b c (inr e) (inr f) = inr (f.0, e.1)
+
+stays-is : (a b c d : Option RunStatus) → b ≡ a → d ≡ c → StaysOrRuns a c → StaysOrRuns b d
+stays-is a b c d e f (inl g) = inl (f ∙ (g ∙ sym e))
+stays-is a b c d e f (inr g) = inr (f ∙ g.0, ap (λ o. is_parked o || is_none o) e ∙ g.1)
+
+-- who does not move has its status
+unmoved-gone_on : (m : Schedule) (x g : ℕ) (waits : Bool) → g ≢ x → status_of (gone_on m x waits) g ≡ status_of m g
+unmoved-gone_on m x g true other = numbered-change_other m.statuses x g (λ _. RunStatus.Queued) other
+unmoved-gone_on m x g false other = refl
+
+unmoved-turned : (m : Schedule) (x : ℕ) (move : Move) (g : ℕ) → g ≢ x → status_of (turned m x move) g ≡ status_of m g
+unmoved-turned m x (Move.GoesOn n) g other = unmoved-gone_on m x g (is_parked (status_of m x)) other
+unmoved-turned m x (Move.FallsAsleep until) g other = numbered-change_other m.statuses x g (λ _. RunStatus.Parked m.parks) other
+unmoved-turned m x Move.Ends g other = numbered-change_other m.statuses x g (λ _. RunStatus.Ended) other
+
+unmoved-moved : (m : Schedule) (o : Option (ℕ × Move)) (g : ℕ) → IsUnmoved o g → status_of (moved_by m o) g ≡ status_of m g
+unmoved-moved m None g other = refl
+unmoved-moved m (Some x) g other = unmoved-turned m x.0 x.1 g other
+
+-- who begins was nobody
+begun-one : (m : Schedule) (g : ℕ) → StaysOrRuns (status_of m g) (status_of (with_new m) g)
+begun-one m g =
+    elim (cases_eq g (length m.statuses + 1)) [
+      | inl is ↦ inr (numbered-push_same m.statuses RunStatus.Queued g is, ap (λ o. is_parked o || is_none o) (numbered-next m.statuses g is))
+      | inr other ↦ inl (numbered-push_other m.statuses RunStatus.Queued g other)
+    ]
+
+begun-all : (m : Schedule) (starts : List Start) (g : ℕ) → StaysOrRuns (status_of m g) (status_of (begun_by m starts) g)
+begun-all m [] g = inl refl
+begun-all m (x ∷ xs) g = stays-then (status_of m g) (status_of (with_new m) g) (status_of (begun_by (with_new m) xs) g) (begun-one m g) (begun-all (with_new m) xs g)
+
+-- who is there stays where it is
+begun-there : (m : Schedule) (starts : List Start) (g : ℕ) (x : RunStatus) → status_of m g ≡ Some x → status_of (begun_by m starts) g ≡ Some x
+begun-there m [] g x e = e
+begun-there m (y ∷ ys) g x e =
+    begun-there (with_new m) ys g x
+    (elim (cases_eq g (length m.statuses + 1)) [
+      | inl is ↦ (let none : status_of m g ≡ None = numbered-next m.statuses g is in absurd (cc))
+      | inr other ↦ numbered-push_other m.statuses RunStatus.Queued g other ∙ e
+    ])
+
+-- the schedule after the entry of a goroutine that is woken
+abbrev went_on : Schedule → ℕ → Schedule
+went_on m x = gone_on m x (is_parked (status_of m x))
+
+scheduled-woken : (script : Script) (s : State) (m : Schedule) (e : Entry) (w : IsWoken script s m e) → scheduled m e ≡ went_on m w.g
+scheduled-woken script s m e w = ap (rescheduled m) w.change
+
+went_on-one : (m : Schedule) (x g : ℕ) (waits : Bool) → is_parked (status_of m x) ≡ true → StaysOrRuns (status_of m g) (status_of (gone_on m x waits) g)
+went_on-one m x g false parked = inl refl
+went_on-one m x g true parked =
+    elim (cases_eq g x) [
+      | inl is ↦
+          let was : Parking (status_of m x) = status-parked (status_of m x) parked in
+          inr (
+            ap (numbered (change_numbered m.statuses x (λ _. RunStatus.Queued))) is ∙ numbered-change_same m.statuses x (λ _. RunStatus.Queued) (RunStatus.Parked was.since) was.is,
+            ap (λ g. is_parked (status_of m g) || is_none (status_of m g)) is ∙ ap (λ o. is_parked o || is_none o) was.is,
+          )
+      | inr other ↦ inl (numbered-change_other m.statuses x g (λ _. RunStatus.Queued) other)
+    ]
+
+woken-one : (script : Script) (s : State) (m : Schedule) (e : Entry) (g : ℕ) → IsWoken script s m e → StaysOrRuns (status_of m g) (status_of (scheduled m e) g)
+woken-one script s m e g w =
+    subst (λ (n : Schedule). StaysOrRuns (status_of m g) (status_of n g)) (sym (scheduled-woken script s m e w)) (went_on-one m w.g g (is_parked (status_of m w.g)) w.parked)
+
+woken-all : (script : Script) (s : State) (m : Schedule) (h : List Entry) (g : ℕ) → AreWoken script s m h → StaysOrRuns (status_of m g) (status_of (schedule_after m h) g)
+woken-all script s m [] g woken = inl refl
+woken-all script s m (e ∷ h) g woken =
+    stays-then (status_of m g) (status_of (scheduled m e) g) (status_of (schedule_after (scheduled m e) h) g) (woken-one script s m e g (woken-is script s m e h woken))
+    (woken-all script (after script s e) (scheduled m e) h g woken.1)
+
+-- a finish touches nobody
+finish-schedule : (m : Schedule) (o : Option Outcome) → schedule_after m (finish_by o) ≡ m
+finish-schedule m None = refl
+finish-schedule m (Some outcome) = refl
+
+schedule-append : (m : Schedule) (h k : List Entry) → schedule_after m (h ++ k) ≡ schedule_after (schedule_after m h) k
+schedule-append m [] k = refl
+schedule-append m (e ∷ h) k = schedule-append (scheduled m e) h k
+
+enters-schedule : (old : BookView) (e : Entry) (new : BookView) (enters : Enters old e new) → new.schedule ≡ schedule_after (scheduled old.schedule e) enters.woken
+enters-schedule old e new enters =
+    let last : State = state_after old.script (after old.script old.state e) enters.woken in
+    ap (λ (b : BookView). b.schedule) enters.is
+    ∙ (schedule-append old.schedule (e ∷ enters.woken) (finish_due old.limits last)
+    ∙ finish-schedule (schedule_after (scheduled old.schedule e) enters.woken) (due_outcome old.limits last))
+
+pub enters-statuses : (old : BookView) (e : Entry) (new : BookView) → Enters old e new → (g : ℕ) → IsUnmoved (change_of e).mover g
+    → StaysOrRuns (status_of old.schedule g) (status_of new.schedule g)
+enters-statuses old e new enters g other =
+    let mid : Schedule = moved_by old.schedule (change_of e).mover in
+    let begins : StaysOrRuns (status_of old.schedule g) (status_of (scheduled old.schedule e) g) =
+    stays-is (status_of mid g) (status_of old.schedule g) (status_of (scheduled old.schedule e) g) (status_of (scheduled old.schedule e) g)
+    (sym (unmoved-moved old.schedule (change_of e).mover g other)) refl (begun-all mid (change_of e).starts g) in
+    let wakes : StaysOrRuns (status_of (scheduled old.schedule e) g) (status_of new.schedule g) =
+    subst (λ (m : Schedule). StaysOrRuns (status_of (scheduled old.schedule e) g) (status_of m g)) (sym (enters-schedule old e new enters))
+    (woken-all old.script (after old.script old.state e) (scheduled old.schedule e) enters.woken g enters.each_woken) in
+    stays-then (status_of old.schedule g) (status_of (scheduled old.schedule e) g) (status_of new.schedule g) begins wakes
+
+-- ---- where the goroutine is that moves
+
+turned-gone_on : (m : Schedule) (g : ℕ) (x : RunStatus) (waits : Bool) → status_of m g ≡ Some x → status_of (gone_on m g waits) g ≡ cond waits (Some RunStatus.Queued) (Some x)
+turned-gone_on m g x true e = numbered-change_same m.statuses g (λ _. RunStatus.Queued) x e
+turned-gone_on m g x false e = e
+
+turned-there : (m : Schedule) (g : ℕ) (move : Move) (x : RunStatus) → status_of m g ≡ Some x → status_of (turned m g move) g ≡ status_turned m.parks move (Some x)
+turned-there m g (Move.GoesOn n) x e = turned-gone_on m g x (is_parked (status_of m g)) e ∙ ap (λ o. cond (is_parked o) (Some RunStatus.Queued) (Some x)) e
+turned-there m g (Move.FallsAsleep until) x e = numbered-change_same m.statuses g (λ _. RunStatus.Parked m.parks) x e
+turned-there m g Move.Ends x e = numbered-change_same m.statuses g (λ _. RunStatus.Ended) x e
+
+-- somebody's status after a move
+record Turned (parks : ℕ) (move : Move) (before : RunStatus) : Type 0 where
+  now : RunStatus
+  is : status_turned parks move (Some before) ≡ Some now
+
+turned-some : (parks : ℕ) (move : Move) (x : RunStatus) → Turned parks move x
+turned-some parks (Move.GoesOn n) RunStatus.Queued = record { now = RunStatus.Queued; is = refl }
+turned-some parks (Move.GoesOn n) RunStatus.InHand = record { now = RunStatus.InHand; is = refl }
+turned-some parks (Move.GoesOn n) (RunStatus.Parked since) = record { now = RunStatus.Queued; is = refl }
+turned-some parks (Move.GoesOn n) RunStatus.Ended = record { now = RunStatus.Ended; is = refl }
+turned-some parks (Move.FallsAsleep until) x = record { now = RunStatus.Parked parks; is = refl }
+turned-some parks Move.Ends x = record { now = RunStatus.Ended; is = refl }
+
+-- who has moved is parked only where it sleeps
+abbrev IsAtRest : State → Schedule → ℕ → Type 0
+IsAtRest s m g = is_parked (status_of m g) ≡ true → IsSome (sleeps_until s g)
+
+asleep-not_none : (o : Option ℕ) → IsSome o → o ≡ None → ⊥
+asleep-not_none None h e = cc
+asleep-not_none (Some until) h e = cc
+
+rests-step : (script : Script) (s : State) (m : Schedule) (e : Entry) (g : ℕ) → IsWoken script s m e → IsAtRest s m g → status_of (scheduled m e) g ≡ status_of m g
+rests-step script s m e g w rests =
+    elim (cases_eq g w.g) [
+      | inl is ↦
+          absurd (asleep-not_none (sleeps_until s g) (rests (ap (λ g. is_parked (status_of m g)) is ∙ w.parked)) (ap (sleeps_until s) is ∙ firm-awake script s w.g w.firm))
+      | inr other ↦ ap (λ (n : Schedule). status_of n g) (scheduled-woken script s m e w) ∙ unmoved-gone_on m w.g g (is_parked (status_of m w.g)) other
+    ]
+
+rests-all : (script : Script) (s : State) (m : Schedule) (h : List Entry) (g : ℕ) → AreWoken script s m h → IsAtRest s m g → status_of (schedule_after m h) g ≡ status_of m g
+rests-all script s m [] g woken rests = refl
+rests-all script s m (e ∷ h) g woken rests =
+    let w : IsWoken script s m e = woken-is script s m e h woken in
+    let same : status_of (scheduled m e) g ≡ status_of m g = rests-step script s m e g w rests in
+    rests-all script (after script s e) (scheduled m e) h g woken.1
+    (λ parked. subst (λ (o : Option ℕ). IsSome o) (sym (sleeps-woken script s m e g w)) (rests (sym (ap is_parked same) ∙ parked)))
+    ∙ same
+
+-- what a move leaves parked sleeps
+turned-rests : (parks : ℕ) (move : Move) (x : RunStatus) → is_parked (status_turned parks move (Some x)) ≡ true → IsSome (until_after move)
+turned-rests parks (Move.GoesOn n) RunStatus.Queued h = cc
+turned-rests parks (Move.GoesOn n) RunStatus.InHand h = cc
+turned-rests parks (Move.GoesOn n) (RunStatus.Parked since) h = cc
+turned-rests parks (Move.GoesOn n) RunStatus.Ended h = cc
+turned-rests parks (Move.FallsAsleep until) x h = refl
+turned-rests parks Move.Ends x h = cc
+
+sleep-own : (g : ℕ) (move : Move) (before : Option ℕ) → sleep_touched (Some (g, move)) g before ≡ until_after move
+sleep-own g move before = ap (λ b. cond b (until_after move) before) (eq-eqb g g refl)
+
+moves-status : (script : Script) (s : State) (m : Schedule) (c : Change) (g : ℕ) (move : Move) (x : RunStatus) → c.mover ≡ Some (g, move) → status_of m g ≡ Some x
+    → status_of (rescheduled m c) g ≡ status_turned m.parks move (Some x)
+moves-status script s m c g move x is e =
+    let turns : Turned m.parks move x = turned-some m.parks move x in
+    let mid : status_of (moved_by m c.mover) g ≡ Some turns.now = ap (λ (o : Option (ℕ × Move)). status_of (moved_by m o) g) is ∙ (turned-there m g move x e ∙ turns.is) in
+    begun-there (moved_by m c.mover) c.starts g turns.now mid ∙ sym turns.is
+
+mover-there : (gs : List Goroutine) (o : Option (ℕ × Move)) (g : ℕ) (move : Move) → o ≡ Some (g, move) → MoverIsThere gs o → HasNumber gs g
+mover-there gs o g move is there = subst (MoverIsThere gs) is there
+
+pub enters-mover : (old : BookView) (e : Entry) (new : BookView) → IsLawful old → Enters old e new → (g : ℕ) (move : Move) → (change_of e).mover ≡ Some (g, move)
+    → status_of new.schedule g ≡ status_turned old.schedule.parks move (status_of old.schedule g)
+enters-mover old e new lawful enters g move is =
+    let right : TouchesRightly old.state (change_of e) = enters-touches old e new lawful enters in
+    let there : HasNumber old.state.goroutines g = mover-there old.state.goroutines (change_of e).mover g move is right.mover in
+    let status : HasNumber old.schedule.statuses g = has_status old.script old.state old.schedule g there.item lawful.fits there.there in
+    let s : State = after old.script old.state e in
+    let m : Schedule = scheduled old.schedule e in
+    let turned : status_of m g ≡ status_turned old.schedule.parks move (Some status.item) =
+    moves-status old.script old.state old.schedule (change_of e) g move status.item is status.there in
+    let sleeps : sleeps_until s g ≡ until_after move =
+    sleeps-changed old.script old.state (change_of e) g right.mover
+    ∙ (ap (λ (o : Option (ℕ × Move)). sleep_touched o g (sleeps_until old.state g)) is ∙ sleep-own g move (sleeps_until old.state g)) in
+    let rests : IsAtRest s m g =
+    λ parked. subst (λ (o : Option ℕ). IsSome o) (sym sleeps) (turned-rests old.schedule.parks move status.item (sym (ap is_parked turned) ∙ parked)) in
+    ap (λ (m : Schedule). status_of m g) (enters-schedule old e new enters)
+    ∙ (rests-all old.script s m enters.woken g enters.each_woken rests
+    ∙ (turned ∙ ap (status_turned old.schedule.parks move) (sym status.there)))

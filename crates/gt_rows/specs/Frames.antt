@@ -1,5 +1,5 @@
 -- What becomes by a change of the due times and periods that records have to show, of the program's clock, and of where goroutines are.
-use Rattle.std.specs.Prelude.{ℕ, ◌-◌, ◌≡◌, ◌≢◌, ◌==◌, ◌&&◌, ◌||◌, ◌⊎◌, cond, nat_lt, Bool, IsTrue, is_none, length}
+use Rattle.std.specs.Prelude.{ℕ, ◌-◌, ◌≡◌, ◌≢◌, ◌==◌, ◌||◌, ◌⊎◌, cond, nat_lt, IsTrue, is_none, length}
 use Rattle.std.specs.declared.option.Option.{Option}
 use Rattle.std.specs.declared.option.Option.TheVariants.{None, Some}
 use Rattle.gt_model.specs.declared.script.Script.{Script}

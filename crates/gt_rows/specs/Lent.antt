@@ -1,9 +1,9 @@
 -- What a section is lent: a record, the caller's heap and the book.
-use Rattle.std.specs.Prelude.{ℕ, ◌+◌, ◌≡◌, ◌≢◌, ◌<◌, IsNone, IsSomeAnd, Bool, true, false, ◌&&◌, is_none}
+use Rattle.std.specs.Prelude.{◌+◌, ◌≡◌, ◌≢◌, ◌<◌, IsNone, IsSomeAnd, Bool, true, false, ◌&&◌, is_none}
 use Rattle.std.specs.declared.option.Option.TheVariants.{None, Some}
 use Rattle.gt_rec.specs.Rec.{Rec, BitsRight, needs_heap}
 use Rattle.gt_rec.specs.Changes.{in_heap}
-use Rattle.gt_lazy.specs.Slots.{Slot, LazyHeap, slot_with, ChangesOnly}
+use Rattle.gt_lazy.specs.Slots.{LazyHeap, slot_with, ChangesOnly}
 use Rattle.gt_book.specs.View.{BookView}
 use Rattle.gt_rows.specs.Agrees.{Agrees}
 

@@ -6,16 +6,16 @@ use Rattle.gt_model.specs.declared.script.Instr.{Instr}
 use Rattle.gt_model.specs.declared.entry.Entry.{Entry}
 use Rattle.gt_model.specs.declared.entry.Party.{Party}
 use Rattle.gt_model.specs.declared.entry.Outcome.{Outcome}
-use Rattle.gt_rules.specs.State.{State, clock, clock_of, stands_at, next_number}
+use Rattle.gt_rules.specs.State.{clock, clock_of, stands_at, next_number}
 use Rattle.gt_rules.specs.Legal.{due_at}
 use Rattle.gt_rules.specs.After.{new_period}
 use Rattle.gt_rec.specs.declared.RecKind.{RecKind}
 use Rattle.gt_rec.specs.Rec.{Rec, shown, needs_heap, is_awaited}
 use Rattle.gt_rec.specs.Changes.{armed, disarmed, ended, received, taken, more_blocked, less_blocked}
-use Rattle.gt_lazy.specs.Slots.{LazyHeap, StandsAt, Scans}
+use Rattle.gt_lazy.specs.Slots.{LazyHeap, Scans}
 use Rattle.gt_lazy.specs.Running.{head_answer, head_run}
 use Rattle.gt_lazy.specs.declared.answer.Ran.{Ran}
-use Rattle.gt_schedule.specs.Schedule.{Schedule, plainly, parties_at, marked, unmarked, IsLive}
+use Rattle.gt_schedule.specs.Schedule.{plainly, parties_at, marked, unmarked, IsLive}
 use Rattle.gt_schedule.specs.declared.status.Ticket.{Ticket}
 use Rattle.gt_book.specs.declared.answers.TimerOp.{TimerOp}
 use Rattle.gt_book.specs.declared.step.Step.{Step}

@@ -2,5 +2,7 @@
 #![tactic(auto)]
 
 mod answers;
+mod arming;
 
 pub use answers::{BlockDone, Delivered, HeadDone, SetDone, StopDone};
+pub use arming::arm;

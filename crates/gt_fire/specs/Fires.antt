@@ -1,0 +1,28 @@
+-- What comes of a record that fired, by its kind.
+use Rattle.std.specs.Prelude.{ℕ, ◌≡◌, ◌≤◌, ◌-◌, false, length}
+use Rattle.gt_model.specs.declared.entry.Entry.{Entry}
+use Rattle.gt_rules.specs.State.{next_number}
+use Rattle.gt_rec.specs.declared.RecKind.{RecKind}
+use Rattle.gt_book.specs.declared.answers.Op.{Op}
+use Rattle.gt_book.specs.Steps.{MayCommit, is_gone}
+use Rattle.gt_book.specs.View.{BookView, Enters}
+use Rattle.gt_rows.specs.declared.answers.HeadDone.{HeadDone}
+use Rattle.gt_rows.specs.Rows.{Answers}
+
+-- the operation of a record that fired may come now. One with a channel has none, and there are no deadlines so far
+abbrev pub MayFire : BookView → ℕ → RecKind → Type 0
+MayFire b id RecKind.Timer = Unit {0}
+MayFire b id RecKind.Ticker = Unit {0}
+MayFire b id RecKind.Func = MayCommit b (Op.Fire id) × (is_gone b (Op.Fire id) ≡ false)
+MayFire b id RecKind.Sleep =
+    (length b.script.decls ≤ id) × MayCommit b (Op.Wake (id - length b.script.decls)) × (is_gone b (Op.Wake (id - length b.script.decls)) ≡ false)
+MayFire b id RecKind.Deadline = ⊥
+
+-- the operation is entered, or the send of a value has begun
+abbrev pub FiredAs : BookView → ℕ → ℕ → BookView → HeadDone → RecKind → Type 0
+FiredAs old id seq new done RecKind.Timer = (new ≡ old) × (done ≡ HeadDone.Send seq)
+FiredAs old id seq new done RecKind.Ticker = (new ≡ old) × (done ≡ HeadDone.Send seq)
+FiredAs old id seq new done RecKind.Func = Enters old (Entry.FireFunc id (next_number old.state)) new × Answers new HeadDone.Over done HeadDone.Fired
+FiredAs old id seq new done RecKind.Sleep =
+    Enters old (Entry.Wake (id - length old.script.decls)) new × Answers new HeadDone.Over done HeadDone.Fired
+FiredAs old id seq new done RecKind.Deadline = ⊥
