@@ -23,7 +23,7 @@ use Rattle.gt_book.specs.declared.answers.TimerOp.{TimerOp}
 use Rattle.gt_book.specs.declared.step.Step.{Step}
 use Rattle.gt_book.specs.Steps.{Steps, MayCommit, is_gone}
 use Rattle.gt_book.specs.View.{BookView, IsLawful, outcome_of}
-use Rattle.gt_book.proofs.Committing.{may-reset}
+use Rattle.gt_book.proofs.Committing.{may-new, may-reset}
 use Rattle.gt_rows.specs.declared.answers.SetDone.{SetDone}
 use Rattle.gt_rows.specs.Lent.{IsLentRec, Settles, joins}
 use Rattle.gt_rows.specs.Rows.{Parts, Arms, sets, SetsAt, SetsBy, SetRow, next_of}
@@ -157,7 +157,14 @@ set-reset old g mid id t d did op stands is of steps =
     let i : SetsBy_instr old g id = set-instr old g id stands in
     needed-reset old g mid id t d i.instr i.stands i.its (subst (Steps old g mid) (is ∙ ap Did.Timer of) steps)
 
--- a reset may come
+-- a `new` and a reset may come
+pub new-may : (old : BookView) (g : ℕ) (mid : BookView) (id t d due : ℕ) → IsLawful old → status_of old.schedule g ≡ Some RunStatus.InHand → Needed old g (TimerOp.New t d) mid t id
+    → due ≡ min (clock mid.state 0 + d) greatest_time → MayCommit mid (Op.New g t due 0)
+new-may old g mid id t d due lawful in_hand needs e =
+    let time : due ≡ min (clock old.state 0 + d) greatest_time = e ∙ ap (λ (b : BookView). min (clock b.state 0 + d) greatest_time) needs.same in
+    let all : MayCommit old (Op.New g t due 0) × (is_gone old (Op.New g t due 0) ≡ false) = may-new old g t d due lawful needs.running needs.step in_hand time in
+    subst (λ b. MayCommit b (Op.New g t due 0)) (sym needs.same) all.0
+
 pub reset-may : (old : BookView) (g : ℕ) (mid : BookView) (r : Rec) (t d due : ℕ) (was : Bool) → IsLawful old → SetsAt old g r.id → IsLentRec old r
     → status_of old.schedule g ≡ Some RunStatus.InHand → Needed old g (TimerOp.Reset t d) mid t r.id → was ≡ is_some (shown r) → due ≡ min (clock mid.state 0 + d) greatest_time
     → MayCommit mid (Op.Reset g t was due 0)

@@ -1,5 +1,5 @@
 -- The stop of a timer.
-use Rattle.std.proofs.Common.{◌≡◌, ◌⊎◌, ◌<◌, ◌||◌, length, IsTrue, false, ℕ, refl, sym, ap, subst, ◌∙◌, Option, None, Some, MatchOption, Bool, is_some}
+use Rattle.std.proofs.Common.{◌≡◌, ◌⊎◌, ◌<◌, ◌||◌, length, IsTrue, false, ℕ, refl, sym, ap, subst, ◌∙◌, Option, None, Some, Bool, is_some}
 use Rattle.gt_model.specs.declared.entry.Outcome.{Outcome}
 use Rattle.gt_model.specs.declared.script.Instr.{Instr}
 use Rattle.gt_model.specs.declared.entry.Entry.{Entry}
@@ -52,21 +52,6 @@ stop-stands b g t h =
 
 pub stop-step : (b : BookView) (g t : ℕ) → StopsAt b g t → Panics b g ⊎ (next_of b g ≡ Some (Step.Needs (TimerOp.Stop t)))
 stop-step b g t h = panic-or-needs b g (Instr.Stop t) (TimerOp.Stop t) (stop-stands b g t h) refl
-
--- without the record
-pub stop-plain : (old : Pair) (g : ℕ) (new : BookView) (did : Did) (done : StopDone) → StopsAt old.book g old.rec.id → Steps old.book g new did
-    → Echoes StopDone.Over StopDone.Done did done → StopRow old g (record { rec = old.rec; book = new }) done
-stop-plain old g new did done stands steps echo =
-    let now : Pair = record { rec = old.rec; book = new } in
-    elim (outcome_of old.book) as (λ o. outcome_of old.book ≡ o → MatchOption o (StopsBy old g now done (next_of old.book g)) (λ outcome. (done ≡ StopDone.Over outcome) × (now ≡ old))) [
-      | None ↦ λ running.
-          let p : Panicked old.book g new StopDone.Over StopDone.Done done =
-          panicked StopDone.Over StopDone.Done old.book g (TimerOp.Stop old.rec.id) new did done (stop-step old.book g old.rec.id stands) running steps echo in
-          subst (StopsBy old g now done) (sym p.panics.step) (record { entered = p.entered; rec = refl; answer = p.answer })
-      | Some outcome ↦ λ ended.
-          let over : IsOver old.book outcome new StopDone.Over done = is-over StopDone.Over StopDone.Done old.book g outcome new did done ended steps echo in
-          (over.answer, ap (λ book. record { rec = old.rec; book = book }) over.same)
-    ] refl
 
 -- ---- with the record
 

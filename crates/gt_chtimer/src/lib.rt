@@ -14,3 +14,6 @@ pub use deliver::sec_deliver;
 pub use set::sec_set;
 pub use stop::sec_stop;
 pub use unblock::sec_unblock;
+
+/// The world of the program.
+const PROGRAM: u32 = 0;

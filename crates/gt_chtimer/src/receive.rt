@@ -8,12 +8,10 @@ ghost use Rattle.gt_book.specs.View.{is_parked_at, outcome_of};
 ghost use Rattle.gt_rows.specs.Lent.{IsLentRec};
 ghost use Rattle.gt_chtimer.specs.Receive.{ReceivesBy};
 
+use crate::PROGRAM;
 use gt_book::{Book, Commit, Op};
 use gt_model::Party;
 use gt_rec::TimerRec;
-
-/// The world of the program.
-const PROGRAM: u32 = 0;
 
 /// A party that is parked at a receive from this timer takes its value where that has come. None where it has not, and then nothing changes.
 pub fn receive(rec: &mut TimerRec, book: &mut Book, p: Party) -> Option<Commit>

@@ -12,15 +12,13 @@ ghost use Rattle.gt_book.specs.Steps.{MayCommit, entry_of, is_gone};
 ghost use Rattle.gt_rows.specs.Lent.{IsKept, IsLent, IsPlaced, Settles, joins};
 ghost use Rattle.gt_rows.specs.Rows.{Arms, SetsAt, SetRow, set_answer};
 
+use crate::PROGRAM;
 use crate::join::join;
 use gt_book::{Book, Commit, Did, Op, TimerOp};
 use gt_lazy::{Lazy, change};
 use gt_model::CAP;
 use gt_rec::TimerRec;
 use gt_rows::SetDone;
-
-/// The world of the program.
-const PROGRAM: u32 = 0;
 
 /// `new` or `reset` of goroutine `g`, which the caller has in hand and which stands at one of this timer. The record joins the caller's heap where it
 /// needs one and is in none (Go 1.23, runtime/time.go); where another heap has it under a later due time, the answer says so. Making a timer twice, or
@@ -119,7 +117,7 @@ fn place(heap: &mut Lazy, rec: &mut TimerRec, due: u64) -> SetDone
         return SetDone::Lower(due);
     }
     match (told, heaped) {
-        (Some(when), Some(heap)) => SetDone::Note { heap, when },
+        (Some(when), Some(number)) => SetDone::Note { heap: number, when },
         _ => SetDone::Done,
     }
 }

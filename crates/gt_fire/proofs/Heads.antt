@@ -228,31 +228,31 @@ dropped-shows r after now P answer is when =
 
 -- ---- the book and the record after what fired
 
-pub kept-fired : (old : BookView) (seq : ℕ) (new : BookView) (done : HeadDone) (k : RecKind) (h : LazyHeap) (r after : Rec) (now due number : ℕ) (next : Option ℕ)
-    → IsLawful old → IsLentRec old r → r.kind ≡ k → FiredAs old r.id seq new done k → head_answer r now ≡ Ran.Fired due number next → after ≡ head_run r now
+pub kept-fired : (old : BookView) (seq : ℕ) (new : BookView) (reply : HeadDone) (k : RecKind) (h : LazyHeap) (r after : Rec) (now due number : ℕ) (next : Option ℕ)
+    → IsLawful old → IsLentRec old r → r.kind ≡ k → FiredAs old r.id seq new reply k → head_answer r now ≡ Ran.Fired due number next → after ≡ head_run r now
     → r.when ≡ Some due → IsSettled h after → BitsRight after → IsKept new h after
-kept-fired old seq new done k h r after now due number next lawful lent kind fired answer is set settled bits =
+kept-fired old seq new reply k h r after now due number next lawful lent kind fired answer is set settled bits =
     let ran : Has r now (Ran.Fired due number next) (head_run r now) = has-run r now (Ran.Fired due number next) answer tt in
     let from : IsRunFrom r after = subst (IsRunFrom r) (sym is) (from-run r now) in
     record {
-      rec = record { agrees = agrees-fired old seq new done k r after now due lawful lent kind fired (is ∙ (ran.0 ∙ ap (λ k. run_as k r now) kind)) set from; bits = bits };
+      rec = record { agrees = agrees-fired old seq new reply k r after now due lawful lent kind fired (is ∙ (ran.0 ∙ ap (λ k. run_as k r now) kind)) set from; bits = bits };
       placed = placed-settled h after settled;
     }
   where
-    agrees-fired : (old : BookView) (seq : ℕ) (new : BookView) (done : HeadDone) (k : RecKind) (r after : Rec) (now due : ℕ) → IsLawful old → IsLentRec old r → r.kind ≡ k
-        → FiredAs old r.id seq new done k → after ≡ run_as k r now → r.when ≡ Some due → IsRunFrom r after → Agrees new.script new.state after
-    agrees-fired old seq new done RecKind.Timer r after now due lawful lent kind fired is set from =
+    agrees-fired : (old : BookView) (seq : ℕ) (new : BookView) (reply : HeadDone) (k : RecKind) (r after : Rec) (now due : ℕ) → IsLawful old → IsLentRec old r → r.kind ≡ k
+        → FiredAs old r.id seq new reply k → after ≡ run_as k r now → r.when ≡ Some due → IsRunFrom r after → Agrees new.script new.state after
+    agrees-fired old seq new reply RecKind.Timer r after now due lawful lent kind fired is set from =
         subst (λ (b : BookView). Agrees b.script b.state after) (sym fired.0)
         (agrees-stays old.script old.state r after lent.agrees from.same (ap shown is ∙ run_as-shows RecKind.Timer r now due refl set) from.period)
-    agrees-fired old seq new done RecKind.Ticker r after now due lawful lent kind fired is set from =
+    agrees-fired old seq new reply RecKind.Ticker r after now due lawful lent kind fired is set from =
         subst (λ (b : BookView). Agrees b.script b.state after) (sym fired.0)
         (agrees-stays old.script old.state r after lent.agrees from.same (ap shown is ∙ run_as-shows RecKind.Ticker r now due refl set) from.period)
-    agrees-fired old seq new done RecKind.Func r after now due lawful lent kind fired is set from =
+    agrees-fired old seq new reply RecKind.Func r after now due lawful lent kind fired is set from =
         let func : IsTrue (is_func old.script r.id) = kind-func old.script r.id (lent.agrees.kind ∙ ap Some kind) in
         let below : r.id < length old.script.decls = subst (λ (n : ℕ). r.id < n) lawful.formed.timers (func_within old.script old.state r.id lawful.formed func) in
         agrees-set old (Entry.FireFunc r.id (next_number old.state)) new r after (Setting.Ended None) lawful fired.0 lent.agrees below refl from.same (ap shown is) from.period
-    agrees-fired old seq new done RecKind.Sleep r after now due lawful lent kind fired is set from =
+    agrees-fired old seq new reply RecKind.Sleep r after now due lawful lent kind fired is set from =
         let beyond : length old.script.decls ≤ r.id = kind-sleep old.script r.id (lent.agrees.kind ∙ ap Some kind) in
         agrees-moved old (Entry.Wake (r.id - length old.script.decls)) new r after (Move.GoesOn 0) lawful fired.0 lent.agrees (not-below r.id (length old.script.decls) beyond) refl from.same
         (ap shown is) from.period
-    agrees-fired old seq new done RecKind.Deadline r after now due lawful lent kind fired is set from = absurd fired
+    agrees-fired old seq new reply RecKind.Deadline r after now due lawful lent kind fired is set from = absurd fired

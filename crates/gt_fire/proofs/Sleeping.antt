@@ -86,17 +86,17 @@ pub kept-lent : (b new : BookView) (h : LazyHeap) (r : Rec) → new ≡ b → Is
 kept-lent b new h r same lent = subst (λ (b : BookView). IsKept b h r) (sym same) (record { rec = lent.rec; placed = lent.placed })
 
 -- the row of its sleep, where the book was as before
-pub sleeps-row : (old new : Parts) (mid : BookView) (g d : ℕ) (done : SetDone) → StandsAtSleep old.book g → Steps old.book g mid (Did.Timer (TimerOp.Sleep d))
-    → Arms (record old { book = mid }) (Entry.Sleep g (Some (due_at (clock_of mid.state g) d))) (due_at (clock_of mid.state g) d) 0 new done → SleepRow old g new done
-sleeps-row old new mid g d done stands steps arms =
+pub sleeps-row : (old new : Parts) (mid : BookView) (g d : ℕ) (reply : SetDone) → StandsAtSleep old.book g → Steps old.book g mid (Did.Timer (TimerOp.Sleep d))
+    → Arms (record old { book = mid }) (Entry.Sleep g (Some (due_at (clock_of mid.state g) d))) (due_at (clock_of mid.state g) d) 0 new reply → SleepRow old g new reply
+sleeps-row old new mid g d reply stands steps arms =
     let asks : AsksOnly old.book g mid (Did.Timer (TimerOp.Sleep d)) = sleep-asks old.book g mid (Did.Timer (TimerOp.Sleep d)) stands steps in
-    let here : Arms old (Entry.Sleep g (Some (due_at (clock_of old.book.state g) d))) (due_at (clock_of old.book.state g) d) 0 new done =
-    subst (λ (b : BookView). Arms (record old { book = b }) (Entry.Sleep g (Some (due_at (clock_of b.state g) d))) (due_at (clock_of b.state g) d) 0 new done) asks.same arms in
+    let here : Arms old (Entry.Sleep g (Some (due_at (clock_of old.book.state g) d))) (due_at (clock_of old.book.state g) d) 0 new reply =
+    subst (λ (b : BookView). Arms (record old { book = b }) (Entry.Sleep g (Some (due_at (clock_of b.state g) d))) (due_at (clock_of b.state g) d) 0 new reply) asks.same arms in
     elim (outcome_of old.book) as (λ o. MatchOption o (Did.Timer (TimerOp.Sleep d) ≡ Did.Timer (TimerOp.Sleep asks.d)) (λ outcome. Did.Timer (TimerOp.Sleep d) ≡ Did.Over outcome)
-    → MatchOption o (SleepsBy old g new done (next_of old.book g)) (λ outcome. (done ≡ SetDone.Over outcome) × (new ≡ old))) [
+    → MatchOption o (SleepsBy old g new reply (next_of old.book g)) (λ outcome. (reply ≡ SetDone.Over outcome) × (new ≡ old))) [
       | None ↦ λ h.
           let its : asks.d ≡ d = cc in
-          subst (SleepsBy old g new done) (sym (asks.step ∙ ap (λ d. Some (Step.Needs (TimerOp.Sleep d))) its)) here
+          subst (SleepsBy old g new reply) (sym (asks.step ∙ ap (λ d. Some (Step.Needs (TimerOp.Sleep d))) its)) here
       | Some outcome ↦ λ h. cc
     ] asks.answer
 
@@ -104,15 +104,15 @@ sleeps-row old new mid g d done stands steps arms =
 
 -- what a section answers by what the commitment came to
 abbrev pub Tells : Commit → SetDone → SetDone → Type 0
-Tells Commit.Entered answer done = done ≡ answer
-Tells Commit.Gone answer done = done ≡ answer
-Tells (Commit.Over outcome) answer done = done ≡ SetDone.Over outcome
+Tells Commit.Entered answer reply = reply ≡ answer
+Tells Commit.Gone answer reply = reply ≡ answer
+Tells (Commit.Over outcome) answer reply = reply ≡ SetDone.Over outcome
 
 until-is : (b : BookView) (g d until : ℕ) → IsLawful b → until ≡ min (clock b.state 0 + d) greatest_time → until ≡ due_at (clock_of b.state g) d
 until-is b g d until lawful is = is ∙ ap (λ world. due_at (clock b.state world) d) (sym (world_of-zero b.script b.state g lawful.formed))
 
 -- what is given to the commitment, and what comes of it
-pub record FallsAsleep (old new : Parts) (g d until : ℕ) (did : Commit) (answer done : SetDone) : Type 0 where
+pub record FallsAsleep (old new : Parts) (g d until : ℕ) (did : Commit) (answer reply : SetDone) : Type 0 where
   pub lawful : IsLawful old.book
   pub running : outcome_of old.book ≡ None
   pub asks : next_of old.book g ≡ Some (Step.Needs (TimerOp.Sleep d))
@@ -121,26 +121,26 @@ pub record FallsAsleep (old new : Parts) (g d until : ℕ) (did : Commit) (answe
   pub commits : Commits old.book (Op.Sleep g until) (is_gone old.book (Op.Sleep g until)) new.book did
   pub answer_is : answer ≡ set_answer old.rec until 0
   pub place : Settles old.heap (armed old.rec until 0) new.heap new.rec (joins (armed old.rec until 0))
-  pub tells : Tells did answer done
+  pub tells : Tells did answer reply
 
-commits-sleep : (old new : Parts) (g d until : ℕ) (did : Commit) (answer done : SetDone) → FallsAsleep old new g d until did answer done
+commits-sleep : (old new : Parts) (g d until : ℕ) (did : Commit) (answer reply : SetDone) → FallsAsleep old new g d until did answer reply
     → Commits old.book (Op.Sleep g until) false new.book did
-commits-sleep old new g d until did answer done f =
+commits-sleep old new g d until did answer reply f =
     let may = may-sleep old.book g d until f.lawful f.running f.asks f.in_hand f.until_is in
     subst (λ b. Commits old.book (Op.Sleep g until) b new.book did) may.1 f.commits
 
-pub sleep-arms : (old new : Parts) (g d until : ℕ) (did : Commit) (answer done : SetDone) → FallsAsleep old new g d until did answer done
-    → Arms old (Entry.Sleep g (Some (due_at (clock_of old.book.state g) d))) (due_at (clock_of old.book.state g) d) 0 new done
-sleep-arms old new g d until did answer done f =
-    let all : Commits old.book (Op.Sleep g until) false new.book did = commits-sleep old new g d until did answer done f in
-    subst (λ until. Arms old (Entry.Sleep g (Some until)) until 0 new done) (until-is old.book g d until f.lawful f.until_is)
+pub sleep-arms : (old new : Parts) (g d until : ℕ) (did : Commit) (answer reply : SetDone) → FallsAsleep old new g d until did answer reply
+    → Arms old (Entry.Sleep g (Some (due_at (clock_of old.book.state g) d))) (due_at (clock_of old.book.state g) d) 0 new reply
+sleep-arms old new g d until did answer reply f =
+    let all : Commits old.book (Op.Sleep g until) false new.book did = commits-sleep old new g d until did answer reply f in
+    subst (λ until. Arms old (Entry.Sleep g (Some until)) until 0 new reply) (until-is old.book g d until f.lawful f.until_is)
     (record {
       entered = all.0;
       place = f.place;
       answer = elim (outcome_of new.book) as (λ o. MatchOption o (did ≡ Commit.Entered) (λ outcome. did ≡ Commit.Over outcome)
-          → MatchOption o (done ≡ set_answer old.rec until 0) (λ outcome. done ≡ SetDone.Over outcome)) [
-            | None ↦ λ is. subst (λ did. Tells did answer done) is f.tells ∙ f.answer_is
-            | Some outcome ↦ λ is. subst (λ did. Tells did answer done) is f.tells
+          → MatchOption o (reply ≡ set_answer old.rec until 0) (λ outcome. reply ≡ SetDone.Over outcome)) [
+            | None ↦ λ is. subst (λ did. Tells did answer reply) is f.tells ∙ f.answer_is
+            | Some outcome ↦ λ is. subst (λ did. Tells did answer reply) is f.tells
           ] all.1;
     })
 
@@ -156,10 +156,10 @@ armed-settles h r h' r' due true place =
 armed-settles h r h' r' due false place =
     subst (λ (r' : Rec). IsArmed r r' due) (sym place.1) (record { same = record { id = refl; kind = refl }; shows = refl; period = refl })
 
-pub sleep-kept : (old new : Parts) (g d until : ℕ) (did : Commit) (answer done : SetDone) → FallsAsleep old new g d until did answer done
+pub sleep-kept : (old new : Parts) (g d until : ℕ) (did : Commit) (answer reply : SetDone) → FallsAsleep old new g d until did answer reply
     → IsLent old.book old.heap old.rec → old.rec.id ≡ length old.book.script.decls + g → IsPlaced new.heap new.rec → BitsRight new.rec → IsKept new.book new.heap new.rec
-sleep-kept old new g d until did answer done f lent its placed bits =
-    let all : Commits old.book (Op.Sleep g until) false new.book did = commits-sleep old new g d until did answer done f in
+sleep-kept old new g d until did answer reply f lent its placed bits =
+    let all : Commits old.book (Op.Sleep g until) false new.book did = commits-sleep old new g d until did answer reply f in
     let now : IsArmed old.rec new.rec until = armed-settles old.heap old.rec new.heap new.rec until (joins (armed old.rec until 0)) f.place in
     let beyond : nat_lt old.rec.id (length old.book.script.decls) ≡ false = not-below old.rec.id (length old.book.script.decls) (omega arith) in
     let who : g ≡ old.rec.id - length old.book.script.decls = omega arith in

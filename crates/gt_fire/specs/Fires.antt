@@ -20,9 +20,9 @@ MayFire b id RecKind.Deadline = ⊥
 
 -- the operation is entered, or the send of a value has begun
 abbrev pub FiredAs : BookView → ℕ → ℕ → BookView → HeadDone → RecKind → Type 0
-FiredAs old id seq new done RecKind.Timer = (new ≡ old) × (done ≡ HeadDone.Send seq)
-FiredAs old id seq new done RecKind.Ticker = (new ≡ old) × (done ≡ HeadDone.Send seq)
-FiredAs old id seq new done RecKind.Func = Enters old (Entry.FireFunc id (next_number old.state)) new × Answers new HeadDone.Over done HeadDone.Fired
-FiredAs old id seq new done RecKind.Sleep =
-    Enters old (Entry.Wake (id - length old.script.decls)) new × Answers new HeadDone.Over done HeadDone.Fired
-FiredAs old id seq new done RecKind.Deadline = ⊥
+FiredAs old id seq new reply RecKind.Timer = (new ≡ old) × (reply ≡ HeadDone.Send seq)
+FiredAs old id seq new reply RecKind.Ticker = (new ≡ old) × (reply ≡ HeadDone.Send seq)
+FiredAs old id seq new reply RecKind.Func = Enters old (Entry.FireFunc id (next_number old.state)) new × Answers new HeadDone.Over reply HeadDone.Fired
+FiredAs old id seq new reply RecKind.Sleep =
+    Enters old (Entry.Wake (id - length old.script.decls)) new × Answers new HeadDone.Over reply HeadDone.Fired
+FiredAs old id seq new reply RecKind.Deadline = ⊥

@@ -1,6 +1,6 @@
 -- A record agrees with the machine after an entry as before it.
-use Rattle.std.proofs.Common.{◌≡◌, ℕ, ◌<◌, ◌≤◌, ◌-◌, cond, nat_lt, length, Bool, true, false, refl, sym, ap, subst, ◌∙◌, Option, None, Some, IsSomeAnd}
-use Rattle.std.proofs.lemmas.Bool.{lt-ltb, le-leb, eq-eqb}
+use Rattle.std.proofs.Common.{◌≡◌, ℕ, ◌<◌, ◌-◌, cond, nat_lt, length, true, false, refl, sym, ap, ◌∙◌, Option, None, Some}
+use Rattle.std.proofs.lemmas.Bool.{lt-ltb, eq-eqb}
 use Rattle.gt_model.specs.declared.entry.Entry.{Entry}
 use Rattle.gt_model.specs.declared.script.Script.{Script}
 use Rattle.gt_rules.specs.State.{State}
@@ -9,7 +9,7 @@ use Rattle.gt_rules.specs.Change.{Change, change_of}
 use Rattle.gt_rules.specs.declared.change.Move.{Move}
 use Rattle.gt_rules.specs.declared.change.Setting.{Setting}
 use Rattle.gt_rec.specs.Rec.{Rec, shown, needs_heap}
-use Rattle.gt_lazy.specs.Slots.{LazyHeap, IsSettled, Holds, slot_with}
+use Rattle.gt_lazy.specs.Slots.{LazyHeap, IsSettled, Holds}
 use Rattle.gt_book.specs.View.{BookView, Enters, IsLawful}
 use Rattle.gt_book.proofs.Passing.{enters-script}
 use Rattle.gt_rows.specs.Agrees.{Agrees, kind_by, due_by, period_by}

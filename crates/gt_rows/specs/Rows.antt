@@ -41,11 +41,11 @@ pub record Parts : Type 0 where
 
 -- where the run has its outcome nothing changes, and the answer says it
 abbrev pub UnlessOver : {Done : Type 0} → BookView → (Outcome → Done) → Done → Type 0 → Type 0 → Type 0
-UnlessOver b over done Same Row = MatchOption (outcome_of b) Row (λ outcome. (done ≡ over outcome) × Same)
+UnlessOver b over reply Same Row = MatchOption (outcome_of b) Row (λ outcome. (reply ≡ over outcome) × Same)
 
 -- the answer of a section that entered: the run's outcome where it has one then
 abbrev pub Answers : {Done : Type 0} → BookView → (Outcome → Done) → Done → Done → Type 0
-Answers b over done answer = MatchOption (outcome_of b) (done ≡ answer) (λ outcome. done ≡ over outcome)
+Answers b over reply answer = MatchOption (outcome_of b) (reply ≡ answer) (λ outcome. reply ≡ over outcome)
 
 -- what a goroutine does next
 abbrev pub next_of : BookView → ℕ → Option Step
@@ -81,35 +81,35 @@ abbrev pub set_answer : Rec → ℕ → ℕ → SetDone
 set_answer r due period = cond (joins (armed r due period)) (SetDone.Lower due) (told_answer due (note_of r due period))
 
 -- a new setting with its entry: the record is armed, and joins the heap where it needs one and is in none
-pub record Arms (old : Parts) (e : Entry) (due period : ℕ) (new : Parts) (done : SetDone) : Type 0 where
+pub record Arms (old : Parts) (e : Entry) (due period : ℕ) (new : Parts) (reply : SetDone) : Type 0 where
   pub entered : Enters old.book e new.book
   pub place : Settles old.heap (armed old.rec due period) new.heap new.rec (joins (armed old.rec due period))
-  pub answer : Answers new.book SetDone.Over done (set_answer old.rec due period)
+  pub answer : Answers new.book SetDone.Over reply (set_answer old.rec due period)
 
 -- an entry that touches neither record nor heap
-pub record OnlyEnters (old : Parts) (e : Entry) (new : Parts) (done : SetDone) : Type 0 where
+pub record OnlyEnters (old : Parts) (e : Entry) (new : Parts) (reply : SetDone) : Type 0 where
   pub entered : Enters old.book e new.book
   pub heap : new.heap ≡ old.heap
   pub rec : new.rec ≡ old.rec
-  pub answer : Answers new.book SetDone.Over done SetDone.Done
+  pub answer : Answers new.book SetDone.Over reply SetDone.Done
 
 abbrev pub SetsBy : Parts → ℕ → Parts → SetDone → Option Step → Type 0
-SetsBy old g new done (Some (Step.Needs (TimerOp.New t d))) =
+SetsBy old g new reply (Some (Step.Needs (TimerOp.New t d))) =
     let due : ℕ = due_at (clock_of old.book.state g) d
-    in Arms old (Entry.New g t due) due (new_period old.book.script old.book.state g t) new done
-SetsBy old g new done (Some (Step.Needs (TimerOp.Reset t d))) =
+    in Arms old (Entry.New g t due) due (new_period old.book.script old.book.state g t) new reply
+SetsBy old g new reply (Some (Step.Needs (TimerOp.Reset t d))) =
     let due : ℕ = due_at (clock_of old.book.state g) d
-    in Arms old (Entry.Reset g t (Some (is_some (shown old.rec))) due) due (new_period old.book.script old.book.state g t) new done
-SetsBy old g new done (Some (Step.Makes e)) = OnlyEnters old e new done
-SetsBy old g new done (Some (Step.Needs (TimerOp.Stop t))) = ⊥
-SetsBy old g new done (Some (Step.Needs (TimerOp.Enrolled ticket))) = ⊥
-SetsBy old g new done (Some (Step.Needs (TimerOp.Sleep d))) = ⊥
-SetsBy old g new done (Some (Step.Waits t)) = ⊥
-SetsBy old g new done None = ⊥
+    in Arms old (Entry.Reset g t (Some (is_some (shown old.rec))) due) due (new_period old.book.script old.book.state g t) new reply
+SetsBy old g new reply (Some (Step.Makes e)) = OnlyEnters old e new reply
+SetsBy old g new reply (Some (Step.Needs (TimerOp.Stop t))) = ⊥
+SetsBy old g new reply (Some (Step.Needs (TimerOp.Enrolled ticket))) = ⊥
+SetsBy old g new reply (Some (Step.Needs (TimerOp.Sleep d))) = ⊥
+SetsBy old g new reply (Some (Step.Waits t)) = ⊥
+SetsBy old g new reply None = ⊥
 
 -- `new` or `reset` of g, or its panic
 abbrev pub SetRow : Parts → ℕ → Parts → SetDone → Type 0
-SetRow old g new done = UnlessOver old.book SetDone.Over done (new ≡ old) (SetsBy old g new done (next_of old.book g))
+SetRow old g new reply = UnlessOver old.book SetDone.Over reply (new ≡ old) (SetsBy old g new reply (next_of old.book g))
 
 -- whether an instruction sleeps for a while
 abbrev pub sleeps : Instr → Bool
@@ -133,18 +133,18 @@ pub record SleepsAt (b : BookView) (g id : ℕ) : Type 0 where
   pub its : id ≡ length b.script.decls + g
 
 abbrev pub SleepsBy : Parts → ℕ → Parts → SetDone → Option Step → Type 0
-SleepsBy old g new done (Some (Step.Needs (TimerOp.Sleep d))) =
-    let until : ℕ = due_at (clock_of old.book.state g) d in Arms old (Entry.Sleep g (Some until)) until 0 new done
-SleepsBy old g new done (Some (Step.Needs (TimerOp.New t d))) = ⊥
-SleepsBy old g new done (Some (Step.Needs (TimerOp.Reset t d))) = ⊥
-SleepsBy old g new done (Some (Step.Needs (TimerOp.Stop t))) = ⊥
-SleepsBy old g new done (Some (Step.Needs (TimerOp.Enrolled ticket))) = ⊥
-SleepsBy old g new done (Some (Step.Makes e)) = ⊥
-SleepsBy old g new done (Some (Step.Waits t)) = ⊥
-SleepsBy old g new done None = ⊥
+SleepsBy old g new reply (Some (Step.Needs (TimerOp.Sleep d))) =
+    let until : ℕ = due_at (clock_of old.book.state g) d in Arms old (Entry.Sleep g (Some until)) until 0 new reply
+SleepsBy old g new reply (Some (Step.Needs (TimerOp.New t d))) = ⊥
+SleepsBy old g new reply (Some (Step.Needs (TimerOp.Reset t d))) = ⊥
+SleepsBy old g new reply (Some (Step.Needs (TimerOp.Stop t))) = ⊥
+SleepsBy old g new reply (Some (Step.Needs (TimerOp.Enrolled ticket))) = ⊥
+SleepsBy old g new reply (Some (Step.Makes e)) = ⊥
+SleepsBy old g new reply (Some (Step.Waits t)) = ⊥
+SleepsBy old g new reply None = ⊥
 
 abbrev pub SleepRow : Parts → ℕ → Parts → SetDone → Type 0
-SleepRow old g new done = UnlessOver old.book SetDone.Over done (new ≡ old) (SleepsBy old g new done (next_of old.book g))
+SleepRow old g new reply = UnlessOver old.book SetDone.Over reply (new ≡ old) (SleepsBy old g new reply (next_of old.book g))
 
 -- ---- stopping a timer
 
@@ -165,24 +165,24 @@ abbrev pub StopsAt : BookView → ℕ → ℕ → Type 0
 StopsAt b g t = elim (stands_at b.script b.state g) [ None ↦ ⊥ | Some i ↦ stops i ≡ Some t ]
 
 -- an entry, with what becomes of the record
-pub record Stops (old : Pair) (e : Entry) (r : Rec) (new : Pair) (done : StopDone) : Type 0 where
+pub record Stops (old : Pair) (e : Entry) (r : Rec) (new : Pair) (reply : StopDone) : Type 0 where
   pub entered : Enters old.book e new.book
   pub rec : new.rec ≡ r
-  pub answer : Answers new.book StopDone.Over done StopDone.Done
+  pub answer : Answers new.book StopDone.Over reply StopDone.Done
 
 abbrev pub StopsBy : Pair → ℕ → Pair → StopDone → Option Step → Type 0
-StopsBy old g new done (Some (Step.Needs (TimerOp.Stop t))) = Stops old (Entry.Stop g t (Some (is_some (shown old.rec)))) (disarmed old.rec) new done
-StopsBy old g new done (Some (Step.Makes e)) = Stops old e old.rec new done
-StopsBy old g new done (Some (Step.Needs (TimerOp.New t d))) = ⊥
-StopsBy old g new done (Some (Step.Needs (TimerOp.Reset t d))) = ⊥
-StopsBy old g new done (Some (Step.Needs (TimerOp.Enrolled ticket))) = ⊥
-StopsBy old g new done (Some (Step.Needs (TimerOp.Sleep d))) = ⊥
-StopsBy old g new done (Some (Step.Waits t)) = ⊥
-StopsBy old g new done None = ⊥
+StopsBy old g new reply (Some (Step.Needs (TimerOp.Stop t))) = Stops old (Entry.Stop g t (Some (is_some (shown old.rec)))) (disarmed old.rec) new reply
+StopsBy old g new reply (Some (Step.Makes e)) = Stops old e old.rec new reply
+StopsBy old g new reply (Some (Step.Needs (TimerOp.New t d))) = ⊥
+StopsBy old g new reply (Some (Step.Needs (TimerOp.Reset t d))) = ⊥
+StopsBy old g new reply (Some (Step.Needs (TimerOp.Enrolled ticket))) = ⊥
+StopsBy old g new reply (Some (Step.Needs (TimerOp.Sleep d))) = ⊥
+StopsBy old g new reply (Some (Step.Waits t)) = ⊥
+StopsBy old g new reply None = ⊥
 
 -- `stop` of g, or its panic
 abbrev pub StopRow : Pair → ℕ → Pair → StopDone → Type 0
-StopRow old g new done = UnlessOver old.book StopDone.Over done (new ≡ old) (StopsBy old g new done (next_of old.book g))
+StopRow old g new reply = UnlessOver old.book StopDone.Over reply (new ≡ old) (StopsBy old g new reply (next_of old.book g))
 
 -- ---- waiting at a timer
 
@@ -191,29 +191,29 @@ abbrev pub lower_of : Rec → Option ℕ
 lower_of r = cond (joins r) r.when None
 
 -- the goroutine receives at once
-pub record ReceivesAtOnce (old : Parts) (g due : ℕ) (next : Option ℕ) (new : Parts) (done : BlockDone) : Type 0 where
+pub record ReceivesAtOnce (old : Parts) (g due : ℕ) (next : Option ℕ) (new : Parts) (reply : BlockDone) : Type 0 where
   pub entered : Enters old.book (Entry.TRecv (plainly g) old.rec.id due next) new.book
   pub rec : new.rec ≡ taken old.rec next
   pub heap : new.heap ≡ old.heap
-  pub answer : Answers new.book BlockDone.Over done BlockDone.Received
+  pub answer : Answers new.book BlockDone.Over reply BlockDone.Received
 
 -- the goroutine is counted among those that wait at the timer, and has its mark
-pub record Blocks (old : Parts) (g : ℕ) (new : Parts) (done : BlockDone) : Type 0 where
+pub record Blocks (old : Parts) (g : ℕ) (new : Parts) (reply : BlockDone) : Type 0 where
   pub book : new.book ≡ with_schedule old.book (marked old.book.schedule g old.rec.id)
   pub place : Settles old.heap (more_blocked old.rec) new.heap new.rec (joins (more_blocked old.rec))
-  pub answer : done ≡ BlockDone.Blocked (lower_of (more_blocked old.rec))
+  pub answer : reply ≡ BlockDone.Blocked (lower_of (more_blocked old.rec))
 
 abbrev pub BlocksBy : Parts → ℕ → Parts → BlockDone → Option (ℕ × Option ℕ) → Type 0
-BlocksBy old g new done (Some got) = ReceivesAtOnce old g got.0 got.1 new done
-BlocksBy old g new done None = Blocks old g new done
+BlocksBy old g new reply (Some got) = ReceivesAtOnce old g got.0 got.1 new reply
+BlocksBy old g new reply None = Blocks old g new reply
 
-pub record BlockCases (old : Parts) (ticket : Ticket) (new : Parts) (done : BlockDone) : Type 0 where
-  pub live : IsLive old.book.schedule ticket → BlocksBy old ticket.g new done (received old.rec (clock old.book.state 0))
-  pub gone : ¬ IsLive old.book.schedule ticket → (done ≡ BlockDone.Gone) × (new ≡ old)
+pub record BlockCases (old : Parts) (ticket : Ticket) (new : Parts) (reply : BlockDone) : Type 0 where
+  pub live : IsLive old.book.schedule ticket → BlocksBy old ticket.g new reply (received old.rec (clock old.book.state 0))
+  pub gone : ¬ IsLive old.book.schedule ticket → (reply ≡ BlockDone.Gone) × (new ≡ old)
 
 -- a goroutine that was parked with this ticket, and whose record this is
 abbrev pub BlockRow : Parts → Ticket → Parts → BlockDone → Type 0
-BlockRow old ticket new done = UnlessOver old.book BlockDone.Over done (new ≡ old) (BlockCases old ticket new done)
+BlockRow old ticket new reply = UnlessOver old.book BlockDone.Over reply (new ≡ old) (BlockCases old ticket new reply)
 
 -- a mark is taken away, and one goroutine fewer is counted
 abbrev pub UnblockRow : Pair → ℕ → Pair → Type 0
@@ -224,63 +224,63 @@ UnblockRow old g new =
 -- ---- the end of a send
 
 -- somebody waits, and receives the value that was sent
-pub record Gives (old : Pair) (r : Rec) (p : Party) (due : ℕ) (next : Option ℕ) (new : Pair) (done : Delivered) : Type 0 where
+pub record Gives (old : Pair) (r : Rec) (p : Party) (due : ℕ) (next : Option ℕ) (new : Pair) (reply : Delivered) : Type 0 where
   pub entered : Enters old.book (Entry.TRecv p r.id due next) new.book
   pub rec : new.rec ≡ taken r next
-  pub answer : Answers new.book Delivered.Over done (Delivered.Given p)
+  pub answer : Answers new.book Delivered.Over reply (Delivered.Given p)
 
 -- the value stands ready
-pub record StaysReady (old : Pair) (r : Rec) (new : Pair) (done : Delivered) : Type 0 where
+pub record StaysReady (old : Pair) (r : Rec) (new : Pair) (reply : Delivered) : Type 0 where
   pub book : new.book ≡ old.book
   pub rec : new.rec ≡ r
-  pub answer : done ≡ Delivered.Kept
+  pub answer : reply ≡ Delivered.Kept
 
 -- by the party that waits longest there, and by what a receive would take at this clock
 abbrev pub DeliversTo : Pair → Rec → Pair → Delivered → Option Party → Option (ℕ × Option ℕ) → Type 0
-DeliversTo old r new done (Some p) (Some got) = Gives old r p got.0 got.1 new done
-DeliversTo old r new done (Some p) None = StaysReady old r new done
-DeliversTo old r new done None o = StaysReady old r new done
+DeliversTo old r new reply (Some p) (Some got) = Gives old r p got.0 got.1 new reply
+DeliversTo old r new reply (Some p) None = StaysReady old r new reply
+DeliversTo old r new reply None o = StaysReady old r new reply
 
 -- by whether the send of this number may still bring its value
 abbrev pub DeliversBy : Pair → ℕ → Pair → Delivered → Bool → Type 0
-DeliversBy old seq new done true =
-    DeliversTo old (ended old.rec seq) new done (slice_get (parties_at old.book.schedule.receivers old.rec.id) 0)
+DeliversBy old seq new reply true =
+    DeliversTo old (ended old.rec seq) new reply (slice_get (parties_at old.book.schedule.receivers old.rec.id) 0)
     (received (ended old.rec seq) (clock old.book.state 0))
-DeliversBy old seq new done false = (done ≡ Delivered.Dropped) × (new ≡ old)
+DeliversBy old seq new reply false = (reply ≡ Delivered.Dropped) × (new ≡ old)
 
 abbrev pub DeliverRow : Pair → ℕ → Pair → Delivered → Type 0
-DeliverRow old seq new done = UnlessOver old.book Delivered.Over done (new ≡ old) (DeliversBy old seq new done (is_awaited old.rec seq))
+DeliverRow old seq new reply = UnlessOver old.book Delivered.Over reply (new ≡ old) (DeliversBy old seq new reply (is_awaited old.rec seq))
 
 -- ---- the head of a heap
 
 -- record and heap are those after the head was run or cleaned, and the book is as it was
-pub record Runs (old new : Parts) (done came : HeadDone) : Type 0 where
+pub record Runs (old new : Parts) (reply came : HeadDone) : Type 0 where
   pub book : new.book ≡ old.book
   pub rec : new.rec ≡ head_run old.rec (clock old.book.state 0)
   pub scans : Scans old.heap new.heap 0 old.rec new.rec
-  pub answer : done ≡ came
+  pub answer : reply ≡ came
 
 -- the same with an entry
-pub record Fires (old : Parts) (e : Entry) (new : Parts) (done : HeadDone) : Type 0 where
+pub record Fires (old : Parts) (e : Entry) (new : Parts) (reply : HeadDone) : Type 0 where
   pub entered : Enters old.book e new.book
   pub rec : new.rec ≡ head_run old.rec (clock old.book.state 0)
   pub scans : Scans old.heap new.heap 0 old.rec new.rec
-  pub answer : Answers new.book HeadDone.Over done HeadDone.Fired
+  pub answer : Answers new.book HeadDone.Over reply HeadDone.Fired
 
 -- what fired, by its kind. There are no deadlines so far
 abbrev pub FiresAs : Parts → ℕ → Parts → HeadDone → RecKind → Type 0
-FiresAs old seq new done RecKind.Timer = Runs old new done (HeadDone.Send seq)
-FiresAs old seq new done RecKind.Ticker = Runs old new done (HeadDone.Send seq)
-FiresAs old seq new done RecKind.Func = Fires old (Entry.FireFunc old.rec.id (next_number old.book.state)) new done
-FiresAs old seq new done RecKind.Sleep = Fires old (Entry.Wake (old.rec.id - length old.book.script.decls)) new done
-FiresAs old seq new done RecKind.Deadline = ⊥
+FiresAs old seq new reply RecKind.Timer = Runs old new reply (HeadDone.Send seq)
+FiresAs old seq new reply RecKind.Ticker = Runs old new reply (HeadDone.Send seq)
+FiresAs old seq new reply RecKind.Func = Fires old (Entry.FireFunc old.rec.id (next_number old.book.state)) new reply
+FiresAs old seq new reply RecKind.Sleep = Fires old (Entry.Wake (old.rec.id - length old.book.script.decls)) new reply
+FiresAs old seq new reply RecKind.Deadline = ⊥
 
 -- what came of the head, by what running it answers
 abbrev pub HeadBy : Parts → Parts → HeadDone → Ran → Type 0
-HeadBy old new done (Ran.NotDue key) = (done ≡ HeadDone.Later key) × (new ≡ old)
-HeadBy old new done Ran.Stale = Runs old new done HeadDone.Stale
-HeadBy old new done Ran.Dropped = Runs old new done HeadDone.Dropped
-HeadBy old new done (Ran.Fired due seq next) = FiresAs old seq new done old.rec.kind
+HeadBy old new reply (Ran.NotDue key) = (reply ≡ HeadDone.Later key) × (new ≡ old)
+HeadBy old new reply Ran.Stale = Runs old new reply HeadDone.Stale
+HeadBy old new reply Ran.Dropped = Runs old new reply HeadDone.Dropped
+HeadBy old new reply (Ran.Fired due seq next) = FiresAs old seq new reply old.rec.kind
 
 abbrev pub HeadRow : Parts → Parts → HeadDone → Type 0
-HeadRow old new done = UnlessOver old.book HeadDone.Over done (new ≡ old) (HeadBy old new done (head_answer old.rec (clock old.book.state 0)))
+HeadRow old new reply = UnlessOver old.book HeadDone.Over reply (new ≡ old) (HeadBy old new reply (head_answer old.rec (clock old.book.state 0)))

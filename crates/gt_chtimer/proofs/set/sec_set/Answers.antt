@@ -4,7 +4,7 @@ use Rattle.gt_rec.specs.Rec.{shown}
 use Rattle.gt_book.specs.declared.answers.TimerOp.{TimerOp}
 use Rattle.gt_rows.specs.declared.answers.SetDone.{SetDone}
 use Rattle.gt_rows.specs.Rows.{Parts, Arms}
-use Rattle.gt_chtimer.proofs.Setting.{set-plain_kept, Needed, set-new, set-reset, reset-may, new-arms, new-row, reset-arms, reset-row, new-kept, reset-kept}
+use Rattle.gt_chtimer.proofs.Setting.{set-plain_kept, Needed, set-new, set-reset, new-may, reset-may, new-arms, new-row, reset-arms, reset-row, new-kept, reset-kept}
 use Rattle.gt_chtimer.proofs.set.sec_set.Goals as goal
 
 pub returns-in-Entered-clause-kept : goal.returns-in-Entered-clause-kept
@@ -20,6 +20,13 @@ returns-in-Over-clause-kept c = record {
       (rw c.in-Over.is refl);
   placed = c.requires.lent.placed;
 }
+
+pub arm-requires-clause-may : goal.arm-requires-clause-may
+arm-requires-clause-may c =
+    let needs : Needed c.args.book.now c.args.g (TimerOp.New c.in-Timer-New.t c.in-Timer-New.d) c.step_plain.new.self c.in-Timer-New.t c.args.rec.now.id =
+    set-new c.args.book.now c.args.g c.step_plain.new.self c.args.rec.now.id c.in-Timer-New.t c.in-Timer-New.d c.step_plain.result c.in-Timer-New.field-0 c.requires.stands c.in-Timer-New.is c.in-Timer-New.field-0-is c.step_plain.ensures in
+    new-may c.args.book.now c.args.g c.step_plain.new.self c.args.rec.now.id c.in-Timer-New.t c.in-Timer-New.d c.due_after-due.result c.lawful.ensures.lawful c.requires.in_hand needs
+    c.due_after-due.ensures
 
 pub arm-requires-in-Timer-Reset-clause-may : goal.arm-requires-in-Timer-Reset-clause-may
 arm-requires-in-Timer-Reset-clause-may c =
