@@ -220,28 +220,29 @@ record IsAlike (r now : Rec) : Type 0 where
   id : now.id ≡ r.id
   kind : now.kind ≡ r.kind
   period : now.period ≡ r.period
+  shows : shown now ≡ shown r
 
 settles-alike : (h : LazyHeap) (r : Rec) (h' : LazyHeap) (r' : Rec) (b : Bool) → Settles h r h' r' b → IsAlike r r'
 settles-alike h r h' r' true joins =
-    record { id = ap (λ (r : Rec). r.id) joins.record_is; kind = ap (λ (r : Rec). r.kind) joins.record_is; period = ap (λ (r : Rec). r.period) joins.record_is }
-settles-alike h r h' r' false same = record { id = ap (λ (r : Rec). r.id) same.1; kind = ap (λ (r : Rec). r.kind) same.1; period = ap (λ (r : Rec). r.period) same.1 }
+    record { id = ap (λ (r : Rec). r.id) joins.record_is; kind = ap (λ (r : Rec). r.kind) joins.record_is; period = ap (λ (r : Rec). r.period) joins.record_is; shows = ap shown joins.record_is }
+settles-alike h r h' r' false same = record { id = ap (λ (r : Rec). r.id) same.1; kind = ap (λ (r : Rec). r.kind) same.1; period = ap (λ (r : Rec). r.period) same.1; shows = ap shown same.1 }
 
-pub new-kept : (old : Parts) (g due : ℕ) (new : Parts) (done : SetDone) → IsLawful old.book → SetsAt old.book g old.rec.id → IsLentRec old.book old.rec
-    → Arms old (Entry.New g old.rec.id due) due 0 new done → shown new.rec ≡ Some due → BitsRight new.rec → IsLentRec new.book new.rec
-new-kept old g due new done lawful stands lent arms shows bits =
+pub new-kept : (old : Parts) (g due : ℕ) (new : Parts) (reply : SetDone) → IsLawful old.book → SetsAt old.book g old.rec.id → IsLentRec old.book old.rec
+    → Arms old (Entry.New g old.rec.id due) due 0 new reply → BitsRight new.rec → IsLentRec new.book new.rec
+new-kept old g due new reply lawful stands lent arms bits =
     let alike : IsAlike (armed old.rec due 0) new.rec = settles-alike old.heap (armed old.rec due 0) new.heap new.rec (joins (armed old.rec due 0)) arms.place in
     record {
       agrees = agrees-set old.book (Entry.New g old.rec.id due) new.book old.rec new.rec (Setting.Made due) lawful arms.entered lent.agrees
-          (set-declared old.book g old.rec.id lawful stands) refl (alike.id, alike.kind) shows alike.period;
+          (set-declared old.book g old.rec.id lawful stands) refl (alike.id, alike.kind) alike.shows alike.period;
       bits = bits;
     }
 
-pub reset-kept : (old : Parts) (g due : ℕ) (was : Bool) (new : Parts) (done : SetDone) → IsLawful old.book → SetsAt old.book g old.rec.id → IsLentRec old.book old.rec
-    → Arms old (Entry.Reset g old.rec.id (Some was) due) due 0 new done → shown new.rec ≡ Some due → BitsRight new.rec → IsLentRec new.book new.rec
-reset-kept old g due was new done lawful stands lent arms shows bits =
+pub reset-kept : (old : Parts) (g due : ℕ) (was : Bool) (new : Parts) (reply : SetDone) → IsLawful old.book → SetsAt old.book g old.rec.id → IsLentRec old.book old.rec
+    → Arms old (Entry.Reset g old.rec.id (Some was) due) due 0 new reply → BitsRight new.rec → IsLentRec new.book new.rec
+reset-kept old g due was new reply lawful stands lent arms bits =
     let alike : IsAlike (armed old.rec due 0) new.rec = settles-alike old.heap (armed old.rec due 0) new.heap new.rec (joins (armed old.rec due 0)) arms.place in
     record {
       agrees = agrees-set old.book (Entry.Reset g old.rec.id (Some was) due) new.book old.rec new.rec (Setting.SetAnew due) lawful arms.entered lent.agrees
-          (set-declared old.book g old.rec.id lawful stands) refl (alike.id, alike.kind) shows alike.period;
+          (set-declared old.book g old.rec.id lawful stands) refl (alike.id, alike.kind) alike.shows alike.period;
       bits = bits;
     }

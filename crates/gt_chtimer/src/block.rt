@@ -2,15 +2,14 @@
 
 ghost use Rattle.std.specs.Prelude.{◌≡◌, ◌<◌, IsNone, IsTrue, None};
 ghost use Rattle.gt_rules.specs.State as at;
-ghost use Rattle.gt_rec.specs.Rec.{has_channel};
+ghost use Rattle.gt_rec.specs.Rec.{BitsRight, has_channel, shown};
 ghost use Rattle.gt_rec.specs.Changes.{received};
 ghost use Rattle.gt_schedule.specs.Schedule.{HasMarkRoom, IsLive};
 ghost use Rattle.gt_schedule.specs.Schedule as schedule;
 ghost use Rattle.gt_book.specs.View.{is_at_receive, outcome_of};
-ghost use Rattle.gt_rows.specs.Lent.{IsKept, IsLent};
+ghost use Rattle.gt_rows.specs.Lent.{IsKept, IsLent, IsPlaced, Settles, joins};
 ghost use Rattle.gt_rows.specs.Rows.{BlockRow, Blocks};
 
-use crate::join::join;
 use crate::receive::receive;
 use gt_book::{Book, Commit};
 use gt_lazy::Lazy;
@@ -58,4 +57,22 @@ fn count(heap: &mut Lazy, rec: &mut TimerRec, book: &mut Book, ticket: Ticket) -
     BlockDone::Blocked {
         lower: if joined { rec.when } else { None },
     }
+}
+
+/// Lets the record join the heap where it needs one and is in none, and answers whether it did.
+fn join(heap: &mut Lazy, rec: &mut TimerRec) -> bool
+    requires placed { IsPlaced heap.old rec.old }
+    requires room { IsNone rec.old.heaped → 0 < heap.old.spare }
+    requires bits { BitsRight rec.old }
+    ensures answer { result ≡ joins rec.old }
+    ensures place { Settles heap.old rec.old heap.new rec.new (joins rec.old) }
+    ensures placed { IsPlaced heap.new rec.new }
+    ensures bits { BitsRight rec.new }
+    ensures shows { shown rec.new ≡ shown rec.old }
+{
+    let joins = rec.heaped.is_none() && rec.needs_heap();
+    if joins {
+        heap.add(rec);
+    }
+    joins
 }

@@ -3,7 +3,6 @@
 
 mod block;
 mod deliver;
-mod join;
 mod receive;
 mod set;
 mod stop;

@@ -3,22 +3,20 @@
 ghost use Rattle.std.specs.Prelude.{◌≡◌, ◌+◌, ◌<◌, ◌≤◌, ◌≢◌, IsNone, Some, false, min};
 ghost use Rattle.gt_model.specs.Times.{greatest_time};
 ghost use Rattle.gt_rules.specs.State as at;
-ghost use Rattle.gt_rec.specs.Rec.{BitsRight, shown};
-ghost use Rattle.gt_rec.specs.Changes.{armed};
+ghost use Rattle.gt_rec.specs.Rec.{BitsRight};
 ghost use Rattle.gt_rec.specs.declared.RecKind.{RecKind};
 ghost use Rattle.gt_schedule.specs.declared.status.RunStatus.{RunStatus};
 ghost use Rattle.gt_schedule.specs.Schedule.{status_of};
 ghost use Rattle.gt_book.specs.Steps.{MayCommit, entry_of, is_gone};
-ghost use Rattle.gt_rows.specs.Lent.{IsKept, IsLent, IsPlaced, Settles, joins};
-ghost use Rattle.gt_rows.specs.Rows.{Arms, SetsAt, SetRow, set_answer};
+ghost use Rattle.gt_rows.specs.Lent.{IsKept, IsLent, IsPlaced};
+ghost use Rattle.gt_rows.specs.Rows.{Arms, SetsAt, SetRow};
 
 use crate::PROGRAM;
-use crate::join::join;
 use gt_book::{Book, Commit, Did, Op, TimerOp};
-use gt_lazy::{Lazy, change};
-use gt_model::CAP;
+use gt_lazy::Lazy;
+use gt_model::due_after;
 use gt_rec::TimerRec;
-use gt_rows::SetDone;
+use gt_rows::{SetDone, arm};
 
 /// `new` or `reset` of goroutine `g`, which the caller has in hand and which stands at one of this timer. The record joins the caller's heap where it
 /// needs one and is in none (Go 1.23, runtime/time.go); where another heap has it under a later due time, the answer says so. Making a timer twice, or
@@ -35,8 +33,8 @@ pub fn sec_set(heap: &mut Lazy, rec: &mut TimerRec, book: &mut Book, g: u32) -> 
         Did::Entered => SetDone::Done,
         Did::Over(outcome) => SetDone::Over(outcome),
         Did::Timer(TimerOp::New { t, d }) => {
-            let due = due_after(book, d);
-            arm(
+            let due = due_in(book, d);
+            arm_with(
                 heap,
                 rec,
                 book,
@@ -51,8 +49,8 @@ pub fn sec_set(heap: &mut Lazy, rec: &mut TimerRec, book: &mut Book, g: u32) -> 
         }
         Did::Timer(TimerOp::Reset { t, d }) => {
             let was = rec.shown_due().is_some();
-            let due = due_after(book, d);
-            arm(
+            let due = due_in(book, d);
+            arm_with(
                 heap,
                 rec,
                 book,
@@ -71,15 +69,15 @@ pub fn sec_set(heap: &mut Lazy, rec: &mut TimerRec, book: &mut Book, g: u32) -> 
 }
 
 /// The due time of a setting that is made now with a duration.
-fn due_after(book: &Book, d: u64) -> u64
+fn due_in(book: &Book, d: u64) -> u64
     ensures { result ≡ min (at.clock book.now.state 0 + d) greatest_time }
 {
     book.lawful();
-    book.clock_of(PROGRAM).saturating_add(d).min(CAP)
+    due_after(book.clock_of(PROGRAM), d)
 }
 
 /// Gives the record a new setting with its entry.
-fn arm(heap: &mut Lazy, rec: &mut TimerRec, book: &mut Book, op: Op, due: u64) -> SetDone
+fn arm_with(heap: &mut Lazy, rec: &mut TimerRec, book: &mut Book, op: Op, due: u64) -> SetDone
     requires placed { IsPlaced heap.old rec.old }
     requires room { IsNone rec.old.heaped → 0 < heap.old.spare }
     requires due { due ≤ greatest_time }
@@ -90,34 +88,10 @@ fn arm(heap: &mut Lazy, rec: &mut TimerRec, book: &mut Book, op: Op, due: u64) -
         (record { heap = heap.new; rec = rec.new; book = book.new }) result }
     ensures placed { IsPlaced heap.new rec.new }
     ensures bits { BitsRight rec.new }
-    ensures shows { shown rec.new ≡ Some due }
 {
-    let answer = place(heap, rec, due);
+    let answer = arm(heap, rec, due);
     match book.commit(op) {
         Commit::Over(outcome) => SetDone::Over(outcome),
         Commit::Entered | Commit::Gone => answer,
-    }
-}
-
-/// Gives the record a new setting, lets it join the heap where it needs one and is in none, and answers what has to be told.
-fn place(heap: &mut Lazy, rec: &mut TimerRec, due: u64) -> SetDone
-    requires placed { IsPlaced heap.old rec.old }
-    requires room { IsNone rec.old.heaped → 0 < heap.old.spare }
-    requires due { due ≤ greatest_time }
-    requires once { rec.old.kind ≢ RecKind.Ticker }
-    ensures answer { result ≡ set_answer rec.old due 0 }
-    ensures place { Settles heap.old (armed rec.old due 0) heap.new rec.new (joins (armed rec.old due 0)) }
-    ensures placed { IsPlaced heap.new rec.new }
-    ensures bits { BitsRight rec.new }
-    ensures shows { shown rec.new ≡ Some due }
-{
-    let heaped = rec.heaped;
-    let told = change(rec, due, 0);
-    if join(heap, rec) {
-        return SetDone::Lower(due);
-    }
-    match (told, heaped) {
-        (Some(when), Some(number)) => SetDone::Note { heap: number, when },
-        _ => SetDone::Done,
     }
 }
