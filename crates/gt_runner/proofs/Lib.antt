@@ -11,3 +11,4 @@ pub mod Cleanings
 pub mod Calling
 pub mod Waiting
 pub mod Growing
+pub mod Unblocking

@@ -94,14 +94,14 @@ rests-touches x x' id r r' e lawful c = record {
 
 -- ---- a new setting
 
-pub record Sets (x x' : Runner) (id : ℕ) (r r' : Rec) (e : Entry) (due period : ℕ) (done : SetDone) : Type 0 where
+pub record Sets (x x' : Runner) (id : ℕ) (r r' : Rec) (e : Entry) (due period : ℕ) (reply : SetDone) : Type 0 where
   pub there : slice_get x.records.items id ≡ Some r
   pub id_is : r.id ≡ id
   pub watched : IsWatched x.book x.heap x.noted r
   pub records_are : x'.records.items ≡ set x.records.items id r'
   pub spare : x'.records.spare ≡ x.records.spare
   pub noted_is : x'.noted ≡ noted_at x.noted r'
-  pub arms : Arms (record { heap = x.heap; rec = r; book = x.book }) e due period (record { heap = x'.heap; rec = r'; book = x'.book }) done
+  pub arms : Arms (record { heap = x.heap; rec = r; book = x.book }) e due period (record { heap = x'.heap; rec = r'; book = x'.book }) reply
   pub leaves : (j : ℕ) → j ≢ id → Leaves x.book (change_of e) j
   pub kept : IsKept x'.book x'.heap r'
 
@@ -148,9 +148,9 @@ pub noted-early : (noted : Option ℕ) (r : Rec) (w : ℕ) → r.when ≡ Some w
 noted-early noted r w at heaped low = noted-below noted (early_due r) w (early-is r w at heaped low)
 
 -- where the record was in no heap it has joined this one, else it is where it was
-sets-watched : (x x' : Runner) (id : ℕ) (r r' : Rec) (e : Entry) (due period : ℕ) (done : SetDone) → IsLawful x.book → Sets x x' id r r' e due period done
+sets-watched : (x x' : Runner) (id : ℕ) (r r' : Rec) (e : Entry) (due period : ℕ) (reply : SetDone) → IsLawful x.book → Sets x x' id r r' e due period reply
     → (joined : Bool) → joins (armed r due period) ≡ joined → Settles x.heap (armed r due period) x'.heap r' joined → IsWatched x'.book x'.heap x'.noted r'
-sets-watched x x' id r r' e due period done lawful c true q s =
+sets-watched x x' id r r' e due period reply lawful c true q s =
     subst (λ r'. IsKept x'.book x'.heap r' → IsWatched x'.book x'.heap x'.noted r') (sym s.record_is) (λ kept. record {
       kept = kept;
       inside = λ _. ap Some (sym s.number);
@@ -160,7 +160,7 @@ sets-watched x x' id r r' e due period done lawful c true q s =
       none_ready = refl;
       none_sent = refl;
     }) c.kept
-sets-watched x x' id r r' e due period done lawful c false q s =
+sets-watched x x' id r r' e due period reply lawful c false q s =
     subst (λ r'. IsKept x'.book x'.heap r' → IsWatched x'.book x'.heap x'.noted r') (sym s.1) (λ kept. record {
       kept = kept;
       inside = λ some. c.watched.inside some ∙ ap (λ (h : LazyHeap). Some h.number) (sym s.0);
@@ -199,8 +199,8 @@ sets-room x x' r r' due period false q s =
     let heaped : as_number (is_heaped r') ≡ as_number (is_heaped r) = ap (λ (r : Rec). as_number (is_heaped r)) s.1 in
     omega arith
 
-pub sets-touches : (x x' : Runner) (id : ℕ) (r r' : Rec) (e : Entry) (due period : ℕ) (done : SetDone) → IsLawful x.book → Sets x x' id r r' e due period done → Touches x x' id r r'
-sets-touches x x' id r r' e due period done lawful c =
+pub sets-touches : (x x' : Runner) (id : ℕ) (r r' : Rec) (e : Entry) (due period : ℕ) (reply : SetDone) → IsLawful x.book → Sets x x' id r r' e due period reply → Touches x x' id r r'
+sets-touches x x' id r r' e due period reply lawful c =
     let joined : Bool = joins (armed r due period) in
     let number_is : x'.heap.number ≡ x.heap.number = sets-number x x' r r' due period joined c.arms.place in
     record {
@@ -213,7 +213,7 @@ sets-touches x x' id r r' e due period done lawful c =
       room = sets-room x x' r r' due period joined refl c.arms.place;
       noted_is = λ w h. subst (λ o. IsSomeAnd o (λ v. v ≤ w)) (sym c.noted_is) (notes-keep x.noted (early_due r') w h);
       own = at-kind x' id r' (sets-id x x' r r' due period joined c.arms.place ∙ c.id_is)
-          (sets-watched x x' id r r' e due period done lawful c joined refl c.arms.place);
+          (sets-watched x x' id r r' e due period reply lawful c joined refl c.arms.place);
     }
 
 -- ---- a goroutine is counted among those that wait

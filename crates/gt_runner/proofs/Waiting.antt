@@ -32,7 +32,7 @@ use Rattle.std.specs.Option.{option_map}
 use Rattle.std.proofs.lemmas.Bool.{cases_eq}
 use Rattle.gt_model.specs.declared.script.Decl.{Decl}
 use Rattle.gt_model.specs.declared.script.What.{What}
-use Rattle.gt_model.specs.Script.{names_timer}
+use Rattle.gt_model.specs.Script.{names_timer, is_timer}
 use Rattle.gt_model.proofs.Declared.{timer_setting}
 use Rattle.gt_runner.proofs.Marks.{count-few}
 use Rattle.gt_runner.proofs.Fitting.{fit-receives, fit-remarked, fit-few, one-awaited, named-enters, named-remarked, named-one}
@@ -60,15 +60,15 @@ placed-same h r r' id heaped key p = record {
 pub stop-stops : (v : BookView) (g t : ℕ) → next_of v g ≡ Some (Step.Needs (TimerOp.Stop t)) → StopsAt v g t
 stop-stops v g t e = subst (λ o. elim o as (λ _. Type 0) [ None ↦ ⊥ | Some i ↦ stops i ≡ Some t ]) (sym (stands-stop v g t e)) refl
 
-pub after-stop : (x x' : Runner) (g t : ℕ) (r r' : Rec) (done : StopDone) → Ready x g → next_of x.book g ≡ Some (Step.Needs (TimerOp.Stop t)) → (h : HasRecord x t)
+pub after-stop : (x x' : Runner) (g t : ℕ) (r r' : Rec) (reply : StopDone) → Ready x g → next_of x.book g ≡ Some (Step.Needs (TimerOp.Stop t)) → (h : HasRecord x t)
     → slice_get x.records.items t ≡ Some r → x'.records.items ≡ set x.records.items t r' → x'.records.spare ≡ x.records.spare → x'.noted ≡ x.noted → x'.heap ≡ x.heap
-    → StopRow (record { rec = r; book = x.book }) g (record { rec = r'; book = x'.book }) done → IsLentRec x'.book r' → After x x' g
-after-stop x x' g t r r' done ready next h there records_are spare noted_is heap_is row lent =
+    → StopRow (record { rec = r; book = x.book }) g (record { rec = r'; book = x'.book }) reply → IsLentRec x'.book r' → After x x' g
+after-stop x x' g t r r' reply ready next h there records_are spare noted_is heap_is row lent =
     let own = record-is x t r h there in
     let old : Pair = record { rec = r; book = x.book } in
     let new : Pair = record { rec = r'; book = x'.book } in
-    let by : StopsBy old g new done (next_of x.book g) = running-row x.book StopDone.Over done (new ≡ old) (StopsBy old g new done (next_of x.book g)) ready.running row in
-    let s = subst (StopsBy old g new done) next by in
+    let by : StopsBy old g new reply (next_of x.book g) = running-row x.book StopDone.Over reply (new ≡ old) (StopsBy old g new reply (next_of x.book g)) ready.running row in
+    let s = subst (StopsBy old g new reply) next by in
     let same_heaped : r'.heaped ≡ r.heaped = ap (λ (r : Rec). r.heaped) s.rec in
     let same_id : r'.id ≡ r.id = ap (λ (r : Rec). r.id) s.rec in
     let number_is : x'.heap.number ≡ x.heap.number = ap (λ (h : LazyHeap). h.number) heap_is in
@@ -97,16 +97,16 @@ sleep-sleeps v g d e =
     let found = stands-sleep v g d e in
     subst (λ o. elim o as (λ _. Type 0) [ None ↦ ⊥ | Some i ↦ Rattle.gt_rows.specs.Rows.sleeps i ≡ true ]) (sym found.1) refl
 
-pub after-sleep : (x x' : Runner) (g d id : ℕ) (r r' : Rec) (done : SetDone) → Ready x g → next_of x.book g ≡ Some (Step.Needs (TimerOp.Sleep d)) → id ≡ length x.book.script.decls + g → (h : HasRecord x id)
+pub after-sleep : (x x' : Runner) (g d id : ℕ) (r r' : Rec) (reply : SetDone) → Ready x g → next_of x.book g ≡ Some (Step.Needs (TimerOp.Sleep d)) → id ≡ length x.book.script.decls + g → (h : HasRecord x id)
     → slice_get x.records.items id ≡ Some r → x'.records.items ≡ set x.records.items id r' → x'.records.spare ≡ x.records.spare → x'.noted ≡ noted_at x.noted r'
-    → SleepRow (record { heap = x.heap; rec = r; book = x.book }) g (record { heap = x'.heap; rec = r'; book = x'.book }) done → IsKept x'.book x'.heap r' → After x x' g
-after-sleep x x' g d id r r' done ready next its h there records_are spare noted_is row kept =
+    → SleepRow (record { heap = x.heap; rec = r; book = x.book }) g (record { heap = x'.heap; rec = r'; book = x'.book }) reply → IsKept x'.book x'.heap r' → After x x' g
+after-sleep x x' g d id r r' reply ready next its h there records_are spare noted_is row kept =
     let own = record-is x id r h there in
     let old : Parts = record { heap = x.heap; rec = r; book = x.book } in
     let new : Parts = record { heap = x'.heap; rec = r'; book = x'.book } in
-    let by : SleepsBy old g new done (next_of x.book g) = running-row x.book SetDone.Over done (new ≡ old) (SleepsBy old g new done (next_of x.book g)) ready.running row in
-    let arms = subst (SleepsBy old g new done) next by in
-    after-armed x x' g id r r' _ _ _ done ready (record {
+    let by : SleepsBy old g new reply (next_of x.book g) = running-row x.book SetDone.Over reply (new ≡ old) (SleepsBy old g new reply (next_of x.book g)) ready.running row in
+    let arms = subst (SleepsBy old g new reply) next by in
+    after-armed x x' g id r r' _ _ _ reply ready (record {
       there = there; id_is = own.1; watched = own.2; records_are = records_are; spare = spare; noted_is = noted_is; arms = arms; kept = kept;
       leaves = λ j n. record { timer = tt; mover = inl (λ e. n (sym e ∙ sym its)) };
       served = ready.alone.in_hand;
@@ -139,12 +139,12 @@ received-none r now got n e =
 no-marks : (v : BookView) (g : ℕ) → numbered v.schedule.marks g ≡ Some [] → marks_at v.schedule g ≡ []
 no-marks v g e = rw e refl
 
-blocks-enrols : (x x' : Runner) (ticket : Ticket) (t : ℕ) (r r' : Rec) (done : BlockDone) (o : Option (ℕ × Option ℕ)) → IsEnrolled x ticket t → (h : HasRecord x t) → has_channel r.kind ≡ true
+blocks-enrols : (x x' : Runner) (ticket : Ticket) (t : ℕ) (r r' : Rec) (reply : BlockDone) (o : Option (ℕ × Option ℕ)) → IsEnrolled x ticket t → (h : HasRecord x t) → has_channel r.kind ≡ true
     → slice_get x.records.items t ≡ Some r → x'.records.items ≡ set x.records.items t r' → x'.records.spare ≡ x.records.spare → x'.noted ≡ noted_at x.noted r'
     → mark_count x.book.schedule t + 1 ≤ 2 ^ 32 - 1
-    → received r (clock x.book.state 0) ≡ o → BlocksBy (record { heap = x.heap; rec = r; book = x.book }) ticket.g (record { heap = x'.heap; rec = r'; book = x'.book }) done o
+    → received r (clock x.book.state 0) ≡ o → BlocksBy (record { heap = x.heap; rec = r; book = x.book }) ticket.g (record { heap = x'.heap; rec = r'; book = x'.book }) reply o
     → IsKept x'.book x'.heap r' → Enrols x x' ticket.g t
-blocks-enrols x x' ticket t r r' done (Some got) en h channel there records_are spare noted_is few is row kept =
+blocks-enrols x x' ticket t r r' reply (Some got) en h channel there records_are spare noted_is few is row kept =
     let own = record-is x t r h there in
     let g : ℕ = ticket.g in
     let never : r.kind ≡ RecKind.Ticker → ⊥ = never-ticker x.book.script r.id r own.2.kept.rec.agrees.kind in
@@ -179,7 +179,7 @@ blocks-enrols x x' ticket t r r' done (Some got) en h channel there records_are 
         named = named-enters x.book (Entry.TRecv (plainly g) t got.0 got.1) x'.book enters en.but.named;
       };
     }
-blocks-enrols x x' ticket t r r' done None en h channel there records_are spare noted_is few is row kept =
+blocks-enrols x x' ticket t r r' reply None en h channel there records_are spare noted_is few is row kept =
     let own = record-is x t r h there in
     let g : ℕ = ticket.g in
     let book_is : x'.book ≡ with_schedule x.book (marked x.book.schedule g t) = row.book ∙ ap (λ i. with_schedule x.book (marked x.book.schedule g i)) own.1 in
@@ -202,15 +202,15 @@ blocks-enrols x x' ticket t r r' done None en h channel there records_are spare 
       };
     }
 
-pub block-enrols : (x x' : Runner) (ticket : Ticket) (t : ℕ) (r r' : Rec) (done : BlockDone) → IsEnrolled x ticket t → (h : HasRecord x t) → has_channel r.kind ≡ true
+pub block-enrols : (x x' : Runner) (ticket : Ticket) (t : ℕ) (r r' : Rec) (reply : BlockDone) → IsEnrolled x ticket t → (h : HasRecord x t) → has_channel r.kind ≡ true
     → slice_get x.records.items t ≡ Some r → x'.records.items ≡ set x.records.items t r' → x'.records.spare ≡ x.records.spare → x'.noted ≡ noted_at x.noted r'
     → mark_count x.book.schedule t + 1 ≤ 2 ^ 32 - 1
-    → BlockRow (record { heap = x.heap; rec = r; book = x.book }) ticket (record { heap = x'.heap; rec = r'; book = x'.book }) done → IsKept x'.book x'.heap r' → Enrols x x' ticket.g t
-block-enrols x x' ticket t r r' done en h channel there records_are spare noted_is few row kept =
+    → BlockRow (record { heap = x.heap; rec = r; book = x.book }) ticket (record { heap = x'.heap; rec = r'; book = x'.book }) reply → IsKept x'.book x'.heap r' → Enrols x x' ticket.g t
+block-enrols x x' ticket t r r' reply en h channel there records_are spare noted_is few row kept =
     let old : Parts = record { heap = x.heap; rec = r; book = x.book } in
     let new : Parts = record { heap = x'.heap; rec = r'; book = x'.book } in
-    let cases : BlockCases old ticket new done = running-row x.book BlockDone.Over done (new ≡ old) (BlockCases old ticket new done) en.running row in
-    blocks-enrols x x' ticket t r r' done (received r (clock x.book.state 0)) en h channel there records_are spare noted_is few refl (cases.live en.live) kept
+    let cases : BlockCases old ticket new reply = running-row x.book BlockDone.Over reply (new ≡ old) (BlockCases old ticket new reply) en.running row in
+    blocks-enrols x x' ticket t r r' reply (received r (clock x.book.state 0)) en h channel there records_are spare noted_is few refl (cases.live en.live) kept
 
 -- ---- parked, and then counted or gone
 
@@ -305,21 +305,24 @@ pub waits-record : (x : Runner) (ticket : Ticket) (t : ℕ) → IsEnrolled x tic
 waits-record x ticket t en =
     setting-record x t en.but.tended (timer_setting x.book.script t (names-standing x.book ticket.g (Instr.Recv t) en.lawful en.waits))
 
+timer-channel : (o : Option Decl) (kind : RecKind) → names_timer (option_map (λ (d : Decl). d.what) o) ≡ true
+    → (elim o as (λ _. Option RecKind) [ None ↦ Some RecKind.Sleep | Some decl ↦ kind_of_what decl.what ]) ≡ Some kind → has_channel kind ≡ true
+timer-channel None kind h e = cc
+timer-channel (Some decl) kind h e = of_what decl.what kind h e
+  where
+    of_what : (w : What) (kind : RecKind) → names_timer (Some w) ≡ true → kind_of_what w ≡ Some kind → has_channel kind ≡ true
+    of_what What.Timer kind h e = let is : RecKind.Timer ≡ kind = cc in ap has_channel (sym is)
+    of_what (What.AfterFunc f) kind h e = cc
+    of_what What.Function kind h e = cc
+
+pub channel-of : (x : Runner) (t : ℕ) (r : Rec) → is_timer x.book.script t ≡ true → HasRecord x t × (r.id ≡ t) × IsWatched x.book x.heap x.noted r → has_channel r.kind ≡ true
+channel-of x t r timer own =
+    let kind : kind_by x.book.script t ≡ Some r.kind = ap (kind_by x.book.script) (sym own.1) ∙ own.2.kept.rec.agrees.kind in
+    timer-channel (of_declaration x.book.script t) r.kind timer kind
+
 pub waits-channel : (x : Runner) (ticket : Ticket) (t : ℕ) (r : Rec) → IsEnrolled x ticket t → slice_get x.records.items t ≡ Some r → has_channel r.kind ≡ true
 waits-channel x ticket t r en there =
-    let own = record-is x t r (waits-record x ticket t en) there in
-    let kind : kind_by x.book.script t ≡ Some r.kind = ap (kind_by x.book.script) (sym own.1) ∙ own.2.kept.rec.agrees.kind in
-    timer-channel (of_declaration x.book.script t) r.kind (names-standing x.book ticket.g (Instr.Recv t) en.lawful en.waits) kind
-  where
-    timer-channel : (o : Option Decl) (kind : RecKind) → names_timer (option_map (λ (d : Decl). d.what) o) ≡ true
-        → (elim o as (λ _. Option RecKind) [ None ↦ Some RecKind.Sleep | Some decl ↦ kind_of_what decl.what ]) ≡ Some kind → has_channel kind ≡ true
-    timer-channel None kind h e = cc
-    timer-channel (Some decl) kind h e = of_what decl.what kind h e
-      where
-        of_what : (w : What) (kind : RecKind) → names_timer (Some w) ≡ true → kind_of_what w ≡ Some kind → has_channel kind ≡ true
-        of_what What.Timer kind h e = let is : RecKind.Timer ≡ kind = cc in ap has_channel (sym is)
-        of_what (What.AfterFunc f) kind h e = cc
-        of_what What.Function kind h e = cc
+    channel-of x t r (names-standing x.book ticket.g (Instr.Recv t) en.lawful en.waits) (record-is x t r (waits-record x ticket t en) there)
 
 -- few goroutines have marks
 marks-few : (x : Runner) (ticket : Ticket) (t : ℕ) → IsEnrolled x ticket t → (g : ℕ) → length (marks_at x.book.schedule g) ≤ 1

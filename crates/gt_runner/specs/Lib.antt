@@ -2,3 +2,4 @@ pub mod Run
 pub mod Served
 pub mod Settled
 pub mod Calls
+pub mod Serves

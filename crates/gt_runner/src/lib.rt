@@ -2,6 +2,8 @@
 #![tactic(auto)]
 
 mod calls;
+mod begin;
+mod run;
 mod runner;
 mod settling;
 

@@ -1,0 +1,1 @@
+//! A run before its first entry.

@@ -1,0 +1,62 @@
+//! Runs a script on one worker, one whole call at a time: a goroutine goes on until it waits or ends, then the next of the run queue does. Timers are
+//! served only where nobody is to run, and the clock moves only where nothing is due.
+
+ghost use Rattle.std.specs.Prelude.{◌≡◌, ◌<◌, IfOk, None};
+ghost use Rattle.gt_model.specs.Good.{IsGood, AreLimits};
+ghost use Rattle.gt_book.specs.View.{outcome_of};
+ghost use Rattle.gt_runner.specs.Run.{IsComplete, Passes, HandsFree, Turns, run_left};
+ghost use Rattle.gt_runner.specs.Served.{IsServed};
+ghost use Rattle.gt_runner.specs.Calls.{Ready};
+ghost use Rattle.gt_runner.specs.Serves.{IsTaken, ButMarks, IsIdleRun, IsDueHead, Passing};
+
+use crate::runner::Runner;
+use crate::settling::settle;
+
+use gt_chtimer::{sec_deliver, sec_unblock};
+use gt_fire::sec_run_head;
+
+use gt_rows::HeadDone;
+
+
+/// The number of the program's world.
+const PROGRAM: u32 = 0;
+
+/// A goroutine that was taken is counted no more where it waited.
+fn unblock(run: &mut Runner, g: u32)
+    requires taken { IsTaken run.old g }
+    ensures served { IsServed run.new }
+    ensures marks { ButMarks run.old.book run.new.book }
+{
+    if let Some(t) = run.book.next_blocked(g) {
+        sec_unblock(run.records.at_mut(t as usize), &mut run.book, g);
+    }
+}
+
+/// Serves the record at the head, whose time has come. A send that begins is delivered at once.
+fn serve(run: &mut Runner, id: u32)
+    requires idle { IsIdleRun run.old }
+    requires due { IsDueHead run.old id }
+    ensures { Passing run.old run.new }
+{
+    let done = sec_run_head(
+        &mut run.heap,
+        run.records.at_mut(id as usize),
+        &mut run.book,
+    );
+    if let HeadDone::Send { seq } = done {
+        let _done = sec_deliver(run.records.at_mut(id as usize), &mut run.book, seq);
+    }
+}
+
+/// Where nobody is to run: serves the least time that has come, or moves the clock to the least time to come, or ends the run where there is none.
+fn pass_time(run: &mut Runner)
+    requires idle { IsIdleRun run.old }
+    ensures { Passing run.old run.new }
+{
+    settle(run);
+    match run.heap.head() {
+        None => run.book.finish_deadlock(),
+        Some((key, id)) if key <= run.book.clock_of(PROGRAM) => serve(run, id),
+        Some((key, _)) => run.book.jump(key),
+    }
+}
