@@ -12,3 +12,5 @@ pub mod Calling
 pub mod Waiting
 pub mod Growing
 pub mod Unblocking
+pub mod Serving
+pub mod Timing

@@ -27,7 +27,7 @@ use Rattle.gt_runner.proofs.Watching.{stands-marked, marked-stands, awaited-stan
 
 -- ---- what a record shows that has no value
 
-shown-when : (r : Rec) → r.ready ≡ None → r.sending ≡ None → shown r ≡ r.when
+pub shown-when : (r : Rec) → r.ready ≡ None → r.sending ≡ None → shown r ≡ r.when
 shown-when r ready sent =
     ap (λ o. option_or o (option_or (in_flight r) r.when)) ready
     ∙ ap (λ o. option_or (due_of_send o r.seq) r.when) sent
@@ -35,7 +35,7 @@ shown-when r ready sent =
 -- ---- where a record's time stands
 
 -- a channel timer, an AfterFunc timer, or a goroutine's sleep
-kind-timer : (o : Option Decl) → (elim o as (λ _. Option RecKind) [ None ↦ Some RecKind.Sleep | Some decl ↦ kind_of_what decl.what ]) ≡ Some RecKind.Timer → names_timer (option_map (λ (d : Decl). d.what) o) ≡ true
+pub kind-timer : (o : Option Decl) → (elim o as (λ _. Option RecKind) [ None ↦ Some RecKind.Sleep | Some decl ↦ kind_of_what decl.what ]) ≡ Some RecKind.Timer → names_timer (option_map (λ (d : Decl). d.what) o) ≡ true
 kind-timer None e = cc
 kind-timer (Some decl) e = of_what decl.what e
   where
@@ -53,7 +53,7 @@ kind-func (Some decl) e = of_what decl.what e
     of_what (What.AfterFunc f) e = refl
     of_what What.Function e = cc
 
-kind-sleep : (o : Option Decl) → (elim o as (λ _. Option RecKind) [ None ↦ Some RecKind.Sleep | Some decl ↦ kind_of_what decl.what ]) ≡ Some RecKind.Sleep → o ≡ None
+pub kind-sleep : (o : Option Decl) → (elim o as (λ _. Option RecKind) [ None ↦ Some RecKind.Sleep | Some decl ↦ kind_of_what decl.what ]) ≡ Some RecKind.Sleep → o ≡ None
 kind-sleep None e = refl
 kind-sleep (Some decl) e = absurd (of_what decl.what e)
   where
@@ -75,7 +75,10 @@ kind-other (Some decl) kind e = of_what decl.what kind e
 pub never-ticker : (script : Script) (id : ℕ) (r : Rec) → kind_by script id ≡ Some r.kind → r.kind ≡ RecKind.Ticker → ⊥
 never-ticker script id r e = (kind-other (of_declaration script id) r.kind e).0
 
-get-none : {X : Type 0} (xs : List X) (i : ℕ) → slice_get xs i ≡ None → length xs ≤ i
+pub never-deadline : (script : Script) (id : ℕ) (r : Rec) → kind_by script id ≡ Some r.kind → r.kind ≡ RecKind.Deadline → ⊥
+never-deadline script id r e = (kind-other (of_declaration script id) r.kind e).1
+
+pub get-none : {X : Type 0} (xs : List X) (i : ℕ) → slice_get xs i ≡ None → length xs ≤ i
 get-none [] i e = omega arith
 get-none (x ∷ xs) zero e = cc
 get-none (x ∷ xs) (suc i) e = let rest : length xs ≤ i = get-none xs i e in omega arith
@@ -85,7 +88,7 @@ get-some [] i h = absurd (omega arith)
 get-some (x ∷ xs) zero h = (x, refl)
 get-some (x ∷ xs) (suc i) h = get-some xs i (omega arith)
 
-named-within : (script : Script) (id : ℕ) (P : Option What → Bool) → P None ≡ false → P (what_at script id) ≡ true → id < length script.decls
+pub named-within : (script : Script) (id : ℕ) (P : Option What → Bool) → P None ≡ false → P (what_at script id) ≡ true → id < length script.decls
 named-within script id P none e =
     elim (slice_get script.decls id) as (λ o. slice_get script.decls id ≡ o → P (option_map (λ (d : Decl). d.what) o) ≡ true → id < length script.decls) [
       | None ↦ λ q k. absurd (both (P None) none k)
@@ -109,7 +112,7 @@ counted-slept script s id h =
 due-declared : (script : Script) (s : State) (id : ℕ) → id < length script.decls → due_by script s id ≡ due_of s id
 due-declared script s id h = ap (λ b. cond b (due_of s id) (sleeps_until s (id - length script.decls))) (lt-ltb id (length script.decls) h)
 
-due-slept : (script : Script) (s : State) (id : ℕ) → length script.decls ≤ id → due_by script s id ≡ sleeps_until s (id - length script.decls)
+pub due-slept : (script : Script) (s : State) (id : ℕ) → length script.decls ≤ id → due_by script s id ≡ sleeps_until s (id - length script.decls)
 due-slept script s id h = ap (λ b. cond b (due_of s id) (sleeps_until s (id - length script.decls))) (le-ltb id (length script.decls) h)
 
 or-true : (a b : Bool) → (a ≡ true → ⊥) → (a || b) ≡ true → b ≡ true
@@ -171,7 +174,7 @@ counts-sleep v g w e =
 
 -- ---- a record that needs the heap counts
 
-needs-some : (a b : Bool) (w : Option ℕ) → (is_some w && (not a || b)) ≡ true → a ≡ true → b ≡ true
+pub needs-some : (a b : Bool) (w : Option ℕ) → (is_some w && (not a || b)) ≡ true → a ≡ true → b ≡ true
 needs-some true b w e h = right-of (is_some w) b e
 needs-some false b w e h = cc
 

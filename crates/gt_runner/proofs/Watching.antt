@@ -22,9 +22,10 @@ use Rattle.gt_rec.specs.declared.RecKind.{RecKind}
 use Rattle.gt_rec.specs.Rec.{Rec, needs_heap, has_channel, in_flight, due_of_send, shown}
 use Rattle.gt_schedule.specs.declared.status.RunStatus.{RunStatus}
 use Rattle.gt_schedule.specs.Counts.{as_number, times}
-use Rattle.gt_schedule.specs.Schedule.{Schedule, status_of, is_parked, marks_at, mark_count}
+use Rattle.gt_schedule.specs.Schedule.{Schedule, plainly, status_of, is_parked, marks_at, mark_count}
 use Rattle.gt_book.specs.Least.{NobodyRuns, counted_of}
-use Rattle.gt_book.specs.View.{BookView, IsLawful, Agrees}
+use Rattle.gt_book.specs.View.{BookView, IsLawful, Agrees, is_at_receive, is_parked_at}
+use Rattle.gt_rules.specs.Legal.{operation}
 use Rattle.gt_book.proofs.Fitting.{has_status, has_goroutine, none-queued}
 use Rattle.gt_rows.specs.Agrees.{kind_by, kind_of_what, due_by, of_declaration}
 use Rattle.gt_runner.specs.declared.runner.Runner.{Runner}
@@ -163,3 +164,14 @@ stands-awaited v g t lawful e =
     ap (λ (o : Option Goroutine). elim o as (λ _. Option Instr) [ None ↦ None | Some r ↦ stands v.script r ]) (sym st.there) ∙ e in
     any-numbered (awaits v.script 0 t) v.state.goroutines g st.who st.there
     (rw (eq-eqb st.who.world 0 world) (ap (λ (o : Option Instr). elim o as (λ _. Bool) [ None ↦ false | Some i ↦ receives t i ]) on ∙ eq-eqb t t refl))
+
+-- whether its party at the plain instruction stands there
+plainly-receiving : (script : Script) (s : State) (g t : ℕ) → stands_at script s g ≡ Some (Instr.Recv t) → is_at_receive script s (plainly g) t ≡ true
+plainly-receiving script s g t e =
+    ap (λ (o : Option Instr). elim (elim o as (λ _. Option ℕ) [ None ↦ None | Some i ↦ operation i 0 ]) as (λ _. Bool) [ None ↦ false | Some u ↦ eqb u t ]) e ∙ eq-eqb t t refl
+
+pub parked-there : (v : BookView) (g t : ℕ) → IsLawful v → NobodyRuns v → stands_at v.script v.state g ≡ Some (Instr.Recv t) → is_parked_at v.script v.state v.schedule (plainly g) t ≡ true
+parked-there v g t lawful nobody e =
+    let w : IsWaiting v g t = waiting v g t lawful nobody e in
+    let known : is_parked (status_of v.schedule g) ≡ true = ap is_parked w.parked in
+    rw (known, plainly-receiving v.script v.state g t e) refl

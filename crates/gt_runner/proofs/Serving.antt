@@ -1,0 +1,429 @@
+-- The head whose time has come is served: one entry is made, and the run is tended as before.
+use Rattle.std.proofs.Common.{◌≡◌, ◌≢◌, eqb, ℕ, zero, suc, ◌+◌, ◌-◌, ◌<◌, ◌≤◌, ◌==◌, nat_lt, nat_le, cond, if◌then◌else◌, List, [], ◌∷◌, length, set, slice_get, refl, sym, ap, subst, ◌∙◌, arith, Option, None, Some, IsSome, IsTrue, IsSomeAnd, MatchOption, Bool, true, false, not, ◌&&◌, ◌||◌, is_some, is_none, eq-eqb, inl, inr}
+use Rattle.std.specs.Option.{option_or, option_map, option_and_then}
+use Rattle.std.proofs.lemmas.Bool.{cases_eq, le-ltb, le-leb, ltb-true, eqb-true}
+use Rattle.gt_model.specs.declared.script.Instr.{Instr}
+use Rattle.gt_model.specs.declared.entry.Entry.{Entry}
+use Rattle.gt_model.specs.declared.entry.Party.{Party}
+use Rattle.gt_model.specs.declared.entry.Outcome.{Outcome}
+use Rattle.gt_rules.specs.State.{State, clock, stands_at, sleeps_until, next_number}
+use Rattle.gt_rules.specs.Legal.{operation_at}
+use Rattle.gt_rules.specs.Change.{Change, change_of}
+use Rattle.gt_rules.specs.History.{ClockJumps}
+use Rattle.gt_facts.proofs.Lookups.{AtOperation, at_operation, stands_recv}
+use Rattle.gt_rec.specs.declared.RecKind.{RecKind}
+use Rattle.gt_rec.specs.Ticks.{due_left}
+use Rattle.gt_rec.specs.Rec.{Rec, BitsRight, needs_heap, has_channel, in_flight, due_of_send, shown, is_awaited}
+use Rattle.gt_rec.specs.Changes.{disarmed, out_of_heap, begun, send_begun, ended, received, taken}
+use Rattle.gt_lazy.specs.Slots.{LazyHeap, slot_with, Scans, StandsAt}
+use Rattle.gt_lazy.specs.Running.{is_stale, head_answer, head_run, due_answer, run_as, send_answer}
+use Rattle.gt_lazy.specs.declared.answer.Ran.{Ran}
+use Rattle.gt_rows.specs.declared.answers.HeadDone.{HeadDone}
+use Rattle.gt_rows.specs.declared.answers.Delivered.{Delivered}
+use Rattle.gt_rows.specs.Lent.{IsKept, IsLentRec}
+use Rattle.gt_rows.specs.Rows.{Pair, Parts, Answers, HeadRow, HeadBy, FiresAs, Fires, Runs, DeliverRow, DeliversBy, DeliversTo, Gives}
+use Rattle.gt_schedule.specs.Counts.{as_number, often}
+use Rattle.gt_schedule.specs.Schedule.{Schedule, plainly, status_of, is_parked, is_in_hand, parties_at, mark_count, ServedBy}
+use Rattle.gt_book.specs.View.{BookView, Enters, IsLawful, outcome_of, is_at_receive, is_parked_at}
+use Rattle.gt_book.proofs.Fitting.{first-waiting, asleep-parked}
+use Rattle.gt_runner.specs.declared.runner.Runner.{Runner}
+use Rattle.gt_runner.specs.Served.{IsWatched, IsTended, IsServed, is_heaped}
+use Rattle.gt_runner.specs.Serves.{IsIdleRun, IsDueHead, Passing}
+use Rattle.gt_runner.proofs.Fitting.{fit-enters, named-enters}
+use Rattle.gt_runner.proofs.Leaving.{Leaves}
+use Rattle.gt_runner.proofs.Tending.{tended-touched}
+use Rattle.gt_runner.proofs.Touching.{Rests, rests-touches}
+use Rattle.gt_model.specs.Script.{what_at, names_timer}
+use Rattle.gt_facts.proofs.Lookups.{sleeper}
+use Rattle.gt_rows.specs.Agrees.{kind_by, due_by, of_declaration}
+use Rattle.gt_runner.proofs.Watching.{marked-stands, parked-there}
+use Rattle.gt_runner.proofs.Needing.{shown-when, kind-sleep, kind-timer, get-none, due-slept, never-ticker, never-deadline, needs-some, named-within}
+use Rattle.gt_runner.proofs.Calling.{stands-awake}
+use Rattle.gt_runner.proofs.Waiting.{placed-same}
+use Rattle.gt_runner.proofs.Passes.{moves-enters}
+
+-- ---- what is known of a head whose time has come
+
+left-false : (a b : Bool) → (a || b) ≡ false → a ≡ false
+left-false true b e = cc
+left-false false b e = refl
+
+right-false : (a b : Bool) → (a || b) ≡ false → b ≡ false
+right-false true b e = cc
+right-false false b e = e
+
+not-false : (b : Bool) → false ≡ not b → b ≡ true
+not-false true e = refl
+not-false false e = cc
+
+pub head-needs : (x : Runner) (id : ℕ) → (d : IsDueHead x id) → needs_heap d.rec ≡ true
+head-needs x id d =
+    let heaped : IsSome d.rec.heaped = ap is_some d.stands.heaped in
+    let zombie : d.rec.zombie ≡ false = right-false d.rec.modified d.rec.zombie d.fresh in
+    not-false (needs_heap d.rec) (sym zombie ∙ d.watched.kept.rec.bits.zombie heaped)
+
+pub head-when : (x : Runner) (id : ℕ) → (d : IsDueHead x id) → d.rec.when ≡ Some d.rec.key
+head-when x id d =
+    let heaped : IsSome d.rec.heaped = ap is_some d.stands.heaped in
+    d.watched.kept.rec.bits.key heaped (left-false d.rec.modified d.rec.zombie d.fresh) (right-false d.rec.modified d.rec.zombie d.fresh)
+
+answer-due : (r : Rec) (now : ℕ) → is_stale r ≡ false → r.key ≤ now → head_answer r now ≡ due_answer r now
+answer-due r now fresh come =
+    ap (λ b. if b then Ran.Stale else (if nat_lt now r.key then Ran.NotDue r.key else due_answer r now)) fresh
+    ∙ ap (λ b. if b then Ran.NotDue r.key else due_answer r now) (le-ltb now r.key come)
+
+run-due : (r : Rec) (now : ℕ) → is_stale r ≡ false → r.key ≤ now → head_run r now ≡ run_as r.kind r now
+run-due r now fresh come =
+    ap (λ b. if b then Rattle.gt_lazy.specs.Cleaning.cleaned r else (if nat_lt now r.key then r else run_as r.kind r now)) fresh
+    ∙ ap (λ b. if b then r else run_as r.kind r now) (le-ltb now r.key come)
+
+-- ---- an entry after which the record has left the heap
+
+pub record Leaves_heap (x x' : Runner) (id : ℕ) (r r1 r' : Rec) (e : Entry) : Type 0 where
+  pub there : slice_get x.records.items id ≡ Some r
+  pub id_is : r.id ≡ id
+  pub watched : IsWatched x.book x.heap x.noted r
+  pub heaped : r.heaped ≡ Some x.heap.number
+  pub records_are : x'.records.items ≡ set x.records.items id r'
+  pub spare : x'.records.spare ≡ x.records.spare
+  pub noted_is : x'.noted ≡ x.noted
+  pub enters : Enters x.book e x'.book
+  pub leaves : (j : ℕ) → j ≢ id → Leaves x.book (change_of e) j
+  pub scans : Scans x.heap x'.heap 0 r r1
+  pub out : r1.heaped ≡ None
+  pub kept : IsKept x'.book x'.heap r'
+  pub same_id : r'.id ≡ r.id
+  pub same_kind : r'.kind ≡ r.kind
+  pub same_blocked : r'.blocked ≡ r.blocked
+  pub none_heaped : r'.heaped ≡ None
+  pub needs_not : needs_heap r' ≡ false
+  pub none_ready : r'.ready ≡ None
+  pub none_sent : r'.sending ≡ None
+  pub served : ServedBy x.book.schedule (change_of e).mover
+  pub clock : ClockJumps x.book.script 0 x.book.state e
+
+none-some : (o : Option ℕ) → o ≡ None → IsSome o → ⊥
+none-some None e h = cc
+none-some (Some q) e h = cc
+
+pub leaves-passing : (x x' : Runner) (id : ℕ) (r r1 r' : Rec) (e : Entry) → IsIdleRun x → Leaves_heap x x' id r r1 r' e → Passing x x'
+leaves-passing x x' id r r1 r' e idle c = record {
+  moves = moves-enters x.book e x'.book idle.lawful c.enters c.clock idle.nobody.hands;
+  served = λ _. record {
+    tended = tended-touched x x' id r r' idle.served.tended (rests-touches x x' id r r' e idle.lawful (record {
+      there = c.there; id_is = c.id_is; watched = c.watched; records_are = c.records_are; spare = c.spare; noted_is = c.noted_is;
+      enters = c.enters; leaves = c.leaves;
+      slots = λ j n. c.scans.entries.others j (λ e. n (e ∙ c.id_is));
+      number_is = c.scans.number;
+      room =
+          (let was : as_number (is_heaped r) ≡ 1 = ap (λ o. as_number (is_some o)) c.heaped in
+          let now : as_number (is_heaped r') ≡ 0 = ap (λ o. as_number (is_some o)) c.none_heaped in
+          let free : x'.heap.spare ≡ x.heap.spare + 1 = c.scans.spare ∙ ap (λ o. x.heap.spare + (if is_some o then 0 else 1)) c.out in
+          omega arith);
+      kept = c.kept; same_id = c.same_id; same_kind = c.same_kind; same_blocked = c.same_blocked;
+      inside = λ some. absurd (none-some r'.heaped c.none_heaped some);
+      needs_not = c.needs_not; none_ready = c.none_ready; none_sent = c.none_sent;
+    }));
+    marks = fit-enters x.book e x'.book idle.lawful idle.marks_many c.enters c.served idle.served.marks;
+    named = named-enters x.book e x'.book c.enters idle.served.named;
+  };
+}
+
+-- ---- a function starts, and a sleep ends
+
+by-running : (b : BookView) (over : Outcome → HeadDone) (reply : HeadDone) (Same Row : Type 0) → outcome_of b ≡ None
+    → Rattle.gt_rows.specs.Rows.UnlessOver b over reply Same Row → Row
+by-running b over reply Same Row none h = subst (λ (o : Option Outcome). MatchOption o Row (λ outcome. (reply ≡ over outcome) × Same)) none h
+
+plain-answer : (r : Rec) (now : ℕ) → has_channel r.kind ≡ false → is_stale r ≡ false → r.key ≤ now → head_answer r now ≡ Ran.Fired r.key r.seq None
+plain-answer r now plain fresh come =
+    answer-due r now fresh come ∙ ap (λ b. if b then send_answer (send_begun r) (begun r now).when else Ran.Fired r.key r.seq None) plain
+
+parked-may : (o : Option Rattle.gt_schedule.specs.declared.status.RunStatus.RunStatus) → is_parked o ≡ true → IsTrue (is_in_hand o || is_parked o)
+parked-may o h = either (is_in_hand o) (is_parked o) h
+  where
+    either : (a b : Bool) → b ≡ true → (a || b) ≡ true
+    either true b h = refl
+    either false b h = h
+
+fires-passing : (x x' : Runner) (id : ℕ) (d : IsDueHead x id) (r r' : Rec) (e : Entry) (reply : HeadDone) → IsIdleRun x → d.rec ≡ r → slice_get x.records.items id ≡ Some r
+    → x'.records.items ≡ set x.records.items id r' → x'.records.spare ≡ x.records.spare → x'.noted ≡ x.noted
+    → Fires (record { heap = x.heap; rec = r; book = x.book }) e (record { heap = x'.heap; rec = r'; book = x'.book }) reply → IsKept x'.book x'.heap r'
+    → run_as r.kind r (clock x.book.state 0) ≡ out_of_heap (disarmed r)
+    → ((j : ℕ) → j ≢ id → Leaves x.book (change_of e) j) → ServedBy x.book.schedule (change_of e).mover → ClockJumps x.book.script 0 x.book.state e → Passing x x'
+fires-passing x x' id d r r' e reply idle is there records_are spare noted_is fires kept runs leaves served jumps =
+    let now : ℕ = clock x.book.state 0 in
+    let stale : is_stale r ≡ false = subst (λ r. is_stale r ≡ false) is d.fresh in
+    let come : r.key ≤ now = subst (λ (r : Rec). r.key ≤ now) is d.come in
+    let rec_is : r' ≡ out_of_heap (disarmed r) = fires.rec ∙ (run-due r now stale come ∙ runs) in
+    leaves-passing x x' id r r' r' e idle (record {
+      there = there;
+      id_is = subst (λ (r : Rec). r.id ≡ id) is d.id_is;
+      watched = subst (IsWatched x.book x.heap x.noted) is d.watched;
+      heaped = subst (λ (r : Rec). r.heaped ≡ Some x.heap.number) is d.stands.heaped;
+      records_are = records_are; spare = spare; noted_is = noted_is;
+      enters = fires.entered; leaves = leaves; scans = fires.scans;
+      out = ap (λ (r : Rec). r.heaped) rec_is;
+      kept = kept;
+      same_id = ap (λ (r : Rec). r.id) rec_is;
+      same_kind = ap (λ (r : Rec). r.kind) rec_is;
+      same_blocked = ap (λ (r : Rec). r.blocked) rec_is;
+      none_heaped = ap (λ (r : Rec). r.heaped) rec_is;
+      needs_not = ap needs_heap rec_is;
+      none_ready = ap (λ (r : Rec). r.ready) rec_is;
+      none_sent = ap (λ (r : Rec). r.sending) rec_is;
+      served = served; clock = jumps;
+    })
+
+-- ---- by what the head was
+
+-- the send of a timer that has no value begins
+timer-begins : (r : Rec) (key : ℕ) → r.ready ≡ None → r.sending ≡ None → r.when ≡ Some key → send_begun r ≡ Some (r.seq, key)
+timer-begins r key ready sent at =
+    let none_flying : in_flight r ≡ None = ap (λ o. due_of_send o r.seq) sent in
+    ap (λ o. if is_some o || is_some (in_flight r) then None else option_map (λ due. (r.seq, due)) r.when) ready
+    ∙ (ap (λ o. if is_some o then None else option_map (λ due. (r.seq, due)) r.when) none_flying
+    ∙ ap (option_map (λ due. (r.seq, due))) at)
+
+timer-answer : (r : Rec) (now key : ℕ) → has_channel r.kind ≡ true → is_stale r ≡ false → r.key ≤ now → r.ready ≡ None → r.sending ≡ None → r.when ≡ Some key
+    → head_answer r now ≡ Ran.Fired key r.seq (begun r now).when
+timer-answer r now key channel fresh come ready sent at =
+    answer-due r now fresh come
+    ∙ (ap (λ b. if b then send_answer (send_begun r) (begun r now).when else Ran.Fired r.key r.seq None) channel
+    ∙ ap (λ o. send_answer o (begun r now).when) (timer-begins r key ready sent at))
+
+abbrev parts : Runner → Rec → Parts
+parts x r = record { heap = x.heap; rec = r; book = x.book }
+
+head-by : (x x' : Runner) (r r' : Rec) (reply : HeadDone) (ran : Ran) → IsIdleRun x → HeadRow (parts x r) (parts x' r') reply → head_answer r (clock x.book.state 0) ≡ ran
+    → HeadBy (parts x r) (parts x' r') reply ran
+head-by x x' r r' reply ran idle row is =
+    subst (HeadBy (parts x r) (parts x' r') reply) is
+    (by-running x.book HeadDone.Over reply (parts x' r' ≡ parts x r) (HeadBy (parts x r) (parts x' r') reply (head_answer r (clock x.book.state 0))) idle.running row)
+
+-- what is known of the record at the head
+pub record Due (x : Runner) (id : ℕ) (r : Rec) : Type 0 where
+  pub head : IsDueHead x id
+  pub is : head.rec ≡ r
+  pub id_is : r.id ≡ id
+  pub watched : IsWatched x.book x.heap x.noted r
+  pub heaped : r.heaped ≡ Some x.heap.number
+  pub fresh : is_stale r ≡ false
+  pub come : r.key ≤ clock x.book.state 0
+  pub at : r.when ≡ Some r.key
+  pub needs : needs_heap r ≡ true
+
+pub due-item : (x : Runner) (id : ℕ) (r : Rec) → IsDueHead x id → slice_get x.records.items id ≡ Some r → Due x id r
+due-item x id r d there =
+    let is : d.rec ≡ r = (let own = d.there in cc) in
+    record {
+      head = d; is = is;
+      id_is = subst (λ (r : Rec). r.id ≡ id) is d.id_is;
+      watched = subst (IsWatched x.book x.heap x.noted) is d.watched;
+      heaped = subst (λ (r : Rec). r.heaped ≡ Some x.heap.number) is d.stands.heaped;
+      fresh = subst (λ r. is_stale r ≡ false) is d.fresh;
+      come = subst (λ (r : Rec). r.key ≤ clock x.book.state 0) is d.come;
+      at = subst (λ (r : Rec). r.when ≡ Some r.key) is (head-when x id d);
+      needs = subst (λ r. needs_heap r ≡ true) is (head-needs x id d);
+    }
+
+func-leaves : (v : BookView) (t child j : ℕ) → t ≢ j → Leaves v (change_of (Entry.FireFunc t child)) j
+func-leaves v t child j n = record { timer = n; mover = tt }
+
+wake-leaves : (v : BookView) (g j : ℕ) → length v.script.decls + g ≢ j → Leaves v (change_of (Entry.Wake g)) j
+wake-leaves v g j n = record { timer = tt; mover = inl n }
+
+shown-key : (x : Runner) (id : ℕ) (r : Rec) → Due x id r → due_by x.book.script x.book.state id ≡ Some r.key
+shown-key x id r d =
+    ap (due_by x.book.script x.book.state) (sym d.id_is)
+    ∙ (sym d.watched.kept.rec.agrees.shown ∙ (shown-when r d.watched.none_ready d.watched.none_sent ∙ d.at))
+
+sleep-served : (x : Runner) (id : ℕ) (r : Rec) → IsIdleRun x → Due x id r → r.kind ≡ RecKind.Sleep
+    → (length x.book.script.decls + (r.id - length x.book.script.decls) ≡ id) × (is_parked (status_of x.book.schedule (r.id - length x.book.script.decls)) ≡ true)
+sleep-served x id r idle d kind =
+    let n : ℕ = length x.book.script.decls in
+    let behind : n ≤ id = get-none x.book.script.decls id (kind-sleep (of_declaration x.book.script id)
+    (ap (kind_by x.book.script) (sym d.id_is) ∙ (d.watched.kept.rec.agrees.kind ∙ ap Some kind))) in
+    let id_is : r.id ≡ id = d.id_is in
+    let sleeps : sleeps_until x.book.state (r.id - n) ≡ Some r.key = ap (λ i. sleeps_until x.book.state (i - n)) id_is ∙ (sym (due-slept x.book.script x.book.state id behind) ∙ shown-key x id r d) in
+    let asleep = sleeper x.book.state (r.id - n) (λ until. until ≡ r.key) (subst (λ o. IsSomeAnd o (λ until. until ≡ r.key)) (sym sleeps) refl) in
+    (omega arith, asleep-parked x.book.script x.book.state x.book.schedule (r.id - n) idle.lawful.fits asleep)
+
+pub heads-passing : (x x' : Runner) (id : ℕ) (r r' : Rec) (reply : HeadDone) → IsIdleRun x → Due x id r → slice_get x.records.items id ≡ Some r
+    → x'.records.items ≡ set x.records.items id r' → x'.records.spare ≡ x.records.spare → x'.noted ≡ x.noted → HeadRow (parts x r) (parts x' r') reply → IsKept x'.book x'.heap r'
+    → ((seq : ℕ) → reply ≡ HeadDone.Send seq → ⊥) → Passing x x'
+heads-passing x x' id r r' reply idle d there records_are spare noted_is row kept other =
+    let now : ℕ = clock x.book.state 0 in
+    let plain : has_channel r.kind ≡ false → HeadBy (parts x r) (parts x' r') reply (Ran.Fired r.key r.seq None) = λ c.
+    head-by x x' r r' reply (Ran.Fired r.key r.seq None) idle row (plain-answer r now c d.fresh d.come) in
+    elim r.kind as (λ k. r.kind ≡ k → Passing x x') [
+      | RecKind.Func ↦ λ k.
+          let fires = subst (FiresAs (parts x r) r.seq (parts x' r') reply) k (plain (ap has_channel k)) in
+          fires-passing x x' id d.head r r' _ reply idle d.is there records_are spare noted_is fires kept (ap (λ k. run_as k r now) k)
+          (λ j n. func-leaves x.book r.id (next_number x.book.state) j (λ e. n (sym e ∙ d.id_is))) tt tt
+      | RecKind.Sleep ↦ λ k.
+          let fires = subst (FiresAs (parts x r) r.seq (parts x' r') reply) k (plain (ap has_channel k)) in
+          let served = sleep-served x id r idle d k in
+          fires-passing x x' id d.head r r' _ reply idle d.is there records_are spare noted_is fires kept (ap (λ k. run_as k r now) k)
+          (λ j n. wake-leaves x.book (r.id - length x.book.script.decls) j (λ e. n (sym e ∙ served.0))) (parked-may (status_of x.book.schedule (r.id - length x.book.script.decls)) served.1) tt
+      | RecKind.Timer ↦ λ k.
+          let by = head-by x x' r r' reply (Ran.Fired r.key r.seq (begun r now).when) idle row (timer-answer r now r.key (ap has_channel k) d.fresh d.come d.watched.none_ready d.watched.none_sent d.at) in
+          let runs = subst (FiresAs (parts x r) r.seq (parts x' r') reply) k by in
+          absurd (other r.seq runs.answer)
+      | RecKind.Ticker ↦ λ k. absurd (never-ticker x.book.script r.id r d.watched.kept.rec.agrees.kind k)
+      | RecKind.Deadline ↦ λ k. absurd (never-deadline x.book.script r.id r d.watched.kept.rec.agrees.kind k)
+    ] refl
+
+-- ---- a timer's send is delivered at once
+
+-- only a timer begins a send
+pub record Sends (x : Runner) (b1 : BookView) (h1 : LazyHeap) (r r1 : Rec) (seq : ℕ) : Type 0 where
+  pub kind : r.kind ≡ RecKind.Timer
+  pub book_is : b1 ≡ x.book
+  pub rec_is : r1 ≡ out_of_heap (begun r (clock x.book.state 0))
+  pub scans : Scans x.heap h1 0 r r1
+  pub seq_is : seq ≡ r.seq
+
+not-fired : (b : BookView) (reply : HeadDone) (seq : ℕ) → Answers b HeadDone.Over reply HeadDone.Fired → reply ≡ HeadDone.Send seq → ⊥
+not-fired b reply seq h e =
+    elim (outcome_of b) as (λ o. MatchOption o (reply ≡ HeadDone.Fired) (λ outcome. reply ≡ HeadDone.Over outcome) → ⊥) [
+      | None ↦ λ k. cc
+      | Some outcome ↦ λ k. cc
+    ] h
+
+pub head-sends : (x x' : Runner) (id : ℕ) (r r' : Rec) (reply : HeadDone) (seq : ℕ) → IsIdleRun x → Due x id r → HeadRow (parts x r) (parts x' r') reply → reply ≡ HeadDone.Send seq
+    → Sends x x'.book x'.heap r r' seq
+head-sends x x' id r r' reply seq idle d row e =
+    let now : ℕ = clock x.book.state 0 in
+    let plain : has_channel r.kind ≡ false → HeadBy (parts x r) (parts x' r') reply (Ran.Fired r.key r.seq None) = λ c.
+    head-by x x' r r' reply (Ran.Fired r.key r.seq None) idle row (plain-answer r now c d.fresh d.come) in
+    elim r.kind as (λ k. r.kind ≡ k → Sends x x'.book x'.heap r r' seq) [
+      | RecKind.Func ↦ λ k. (let fires = subst (FiresAs (parts x r) r.seq (parts x' r') reply) k (plain (ap has_channel k)) in absurd (not-fired x'.book reply seq fires.answer e))
+      | RecKind.Sleep ↦ λ k. (let fires = subst (FiresAs (parts x r) r.seq (parts x' r') reply) k (plain (ap has_channel k)) in absurd (not-fired x'.book reply seq fires.answer e))
+      | RecKind.Timer ↦ λ k.
+          let by = head-by x x' r r' reply (Ran.Fired r.key r.seq (begun r now).when) idle row (timer-answer r now r.key (ap has_channel k) d.fresh d.come d.watched.none_ready d.watched.none_sent d.at) in
+          let runs = subst (FiresAs (parts x r) r.seq (parts x' r') reply) k by in
+          let answer : reply ≡ HeadDone.Send r.seq = runs.answer in
+          record {
+            kind = k; book_is = runs.book;
+            rec_is = runs.rec ∙ (run-due r now d.fresh d.come ∙ ap (λ k. run_as k r now) k);
+            scans = runs.scans;
+            seq_is = cc;
+          }
+      | RecKind.Ticker ↦ λ k. absurd (never-ticker x.book.script r.id r d.watched.kept.rec.agrees.kind k)
+      | RecKind.Deadline ↦ λ k. absurd (never-deadline x.book.script r.id r d.watched.kept.rec.agrees.kind k)
+    ] refl
+
+-- what the record is whose send has begun
+pub record Begun (r : Rec) (now : ℕ) (r1 : Rec) : Type 0 where
+  pub awaited : is_awaited r1 r.seq ≡ true
+  pub received_is : received (ended r1 r.seq) now ≡ Some (r.key, None)
+
+begun-is : (r : Rec) (now : ℕ) (r1 : Rec) → r.kind ≡ RecKind.Timer → r.ready ≡ None → r.sending ≡ None → r.when ≡ Some r.key → r.key ≤ now → r1 ≡ out_of_heap (begun r now) → Begun r now r1
+begun-is r now r1 kind ready sent at come is =
+    let b : Rec = out_of_heap (begun r now) in
+    let sending : b.sending ≡ Some (r.seq, r.key) = ap (λ o. option_or o r.sending) (timer-begins r r.key ready sent at) in
+    let flying : in_flight b ≡ Some r.key =
+    ap (λ o. due_of_send o r.seq) sending ∙ ap (λ q. if q then Some r.key else None) (eq-eqb r.seq r.seq refl) in
+    let awaited : is_awaited b r.seq ≡ true =
+    ap (λ q. q && is_none r.ready && is_some (in_flight b)) (eq-eqb r.seq r.seq refl)
+    ∙ (ap (λ o. is_none o && is_some (in_flight b)) ready ∙ ap is_some flying) in
+    let ready_now : (ended b r.seq).ready ≡ Some r.key = ap (λ q. if q then in_flight b else b.ready) awaited ∙ flying in
+    let shows : shown (ended b r.seq) ≡ Some r.key = ap (λ o. option_or o (option_or (in_flight (ended b r.seq)) (ended b r.seq).when)) ready_now in
+    let got : received (ended b r.seq) now ≡ Some (r.key, None) =
+    ap (option_and_then (λ due. if nat_le due now then Some (due, due_left r.kind r.period due now) else None)) shows
+    ∙ (ap (λ q. if q then Some (r.key, due_left r.kind r.period r.key now) else None) (le-leb r.key now come)
+    ∙ ap (λ k. Some (r.key, due_left k r.period r.key now)) kind) in
+    subst (Begun r now) (sym is) (record { awaited = awaited; received_is = got })
+
+-- who waits longest there
+some-party : (ps : List Party) (p : Party) → 0 < often p ps → (q : Party) × (slice_get ps 0 ≡ Some q)
+some-party [] p h = absurd (omega arith)
+some-party (q ∷ qs) p h = (q, refl)
+
+pub waiter-there : (x : Runner) (id : ℕ) (r : Rec) → IsIdleRun x → Due x id r → r.kind ≡ RecKind.Timer → (p : Party) × (slice_get (parties_at x.book.schedule.receivers id) 0 ≡ Some p)
+waiter-there x id r idle d kind =
+    let v : BookView = x.book in
+    let channel : has_channel r.kind ≡ true = ap has_channel kind in
+    let blocked : 0 < r.blocked = ltb-true 0 r.blocked (needs-some (has_channel r.kind) (nat_lt 0 r.blocked) r.when d.needs channel) in
+    let count : r.blocked ≡ mark_count v.schedule id = d.watched.blocked channel ∙ ap (mark_count v.schedule) d.id_is in
+    let stands = marked-stands x id idle.lawful idle.nobody idle.served.marks (omega arith) in
+    let parked : is_parked_at v.script v.state v.schedule (plainly stands.0) id ≡ true = parked-there v stands.0 id idle.lawful idle.nobody stands.1 in
+    let named : names_timer (what_at v.script id) ≡ true = kind-timer (of_declaration v.script id) (ap (kind_by v.script) (sym d.id_is) ∙ (d.watched.kept.rec.agrees.kind ∙ ap Some kind)) in
+    let within : id < length v.script.decls = named-within v.script id names_timer refl named in
+    let often_is : often (plainly stands.0) (parties_at v.schedule.receivers id) ≡ as_number (is_parked_at v.script v.state v.schedule (plainly stands.0) id) = idle.lawful.fits.waiting id (plainly stands.0) within in
+    let one : as_number (is_parked_at v.script v.state v.schedule (plainly stands.0) id) ≡ 1 = ap as_number parked in
+    some-party (parties_at v.schedule.receivers id) (plainly stands.0) (omega arith)
+
+by-delivering : (b : BookView) (reply : Delivered) (Same Row : Type 0) → outcome_of b ≡ None → Rattle.gt_rows.specs.Rows.UnlessOver b Delivered.Over reply Same Row → Row
+by-delivering b reply Same Row none h = subst (λ (o : Option Outcome). MatchOption o Row (λ outcome. (reply ≡ Delivered.Over outcome) × Same)) none h
+
+party-parked : (v : BookView) (p : Party) (id : ℕ) → is_parked_at v.script v.state v.schedule p id ≡ true → (is_parked (status_of v.schedule p.g) ≡ true) × (sleeps_until v.state p.g ≡ None)
+party-parked v p id h =
+    let parked : is_parked (status_of v.schedule p.g) ≡ true = left-true (is_parked (status_of v.schedule p.g)) (is_at_receive v.script v.state p id) h in
+    let there : is_at_receive v.script v.state p id ≡ true = right-true (is_parked (status_of v.schedule p.g)) (is_at_receive v.script v.state p id) h in
+    (parked, stands-awake v p.g (Instr.Recv id) (stands_recv v.script v.state p id (at (operation_at v.script v.state p) there)))
+  where
+    left-true : (a b : Bool) → (a && b) ≡ true → a ≡ true
+    left-true true b e = refl
+    left-true false b e = cc
+
+    right-true : (a b : Bool) → (a && b) ≡ true → b ≡ true
+    right-true true b e = e
+    right-true false b e = cc
+
+    at : (o : Option ℕ) → (elim o as (λ _. Bool) [ None ↦ false | Some u ↦ eqb u id ]) ≡ true → o ≡ Some id
+    at None k = cc
+    at (Some u) k = ap Some (eqb-true u id k)
+
+pub sends-passing : (x x' : Runner) (id seq : ℕ) (r r1 r' : Rec) (b1 : BookView) (h1 : LazyHeap) (reply : Delivered) → IsIdleRun x → Due x id r → slice_get x.records.items id ≡ Some r
+    → Sends x b1 h1 r r1 seq → x'.records.items ≡ set x.records.items id r' → x'.records.spare ≡ x.records.spare → x'.noted ≡ x.noted → x'.heap ≡ h1
+    → DeliverRow (record { rec = r1; book = b1 }) seq (record { rec = r'; book = x'.book }) reply → IsLentRec x'.book r' → IsKept b1 h1 r1 → Passing x x'
+sends-passing x x' id seq r r1 r' b1 h1 reply idle d there s records_are spare noted_is heap_is row lent kept1 =
+    let v : BookView = x.book in
+    let now : ℕ = clock v.state 0 in
+    let old : Pair = record { rec = r1; book = v } in
+    let new : Pair = record { rec = r'; book = x'.book } in
+    let row_x : DeliverRow old seq new reply = subst (λ b. DeliverRow (record { rec = r1; book = b }) seq new reply) s.book_is row in
+    let by : DeliversBy old seq new reply (is_awaited r1 seq) = by-delivering v reply (new ≡ old) (DeliversBy old seq new reply (is_awaited r1 seq)) idle.running row_x in
+    let b : Begun r now r1 = begun-is r now r1 s.kind d.watched.none_ready d.watched.none_sent d.at d.come s.rec_is in
+    let same_seq : seq ≡ r.seq = s.seq_is in
+    let awaited : is_awaited r1 seq ≡ true = ap (is_awaited r1) same_seq ∙ b.awaited in
+    let got : received (ended r1 seq) now ≡ Some (r.key, None) = ap (λ k. received (ended r1 k) now) same_seq ∙ b.received_is in
+    let to : DeliversTo old (ended r1 seq) new reply (slice_get (parties_at v.schedule.receivers r1.id) 0) (received (ended r1 seq) now) = subst (DeliversBy old seq new reply) awaited by in
+    let id1 : r1.id ≡ id = ap (λ (r : Rec). r.id) s.rec_is ∙ d.id_is in
+    let waiter = waiter-there x id r idle d s.kind in
+    let first : slice_get (parties_at v.schedule.receivers r1.id) 0 ≡ Some waiter.0 = ap (λ i. slice_get (parties_at v.schedule.receivers i) 0) id1 ∙ waiter.1 in
+    let gives : Gives old (ended r1 seq) waiter.0 r.key None new reply =
+    subst (λ o. DeliversTo old (ended r1 seq) new reply (Some waiter.0) o) got (subst (λ o. DeliversTo old (ended r1 seq) new reply o (received (ended r1 seq) now)) first to) in
+    let enters : Enters v (Entry.TRecv waiter.0 id r.key None) x'.book = subst (λ i. Enters v (Entry.TRecv waiter.0 i r.key None) x'.book) id1 gives.entered in
+    let named : names_timer (what_at v.script id) ≡ true = kind-timer (of_declaration v.script id) (ap (kind_by v.script) (sym d.id_is) ∙ (d.watched.kept.rec.agrees.kind ∙ ap Some s.kind)) in
+    let within : id < length v.script.decls = named-within v.script id names_timer refl named in
+    let parked : is_parked_at v.script v.state v.schedule waiter.0 id ≡ true = first-waiting v.script v.state v.schedule waiter.0 id idle.lawful.fits within waiter.1 in
+    let at = party-parked v waiter.0 id parked in
+    let rec_is : r' ≡ taken (ended (out_of_heap (begun r now)) seq) None = gives.rec ∙ ap (λ r. taken (ended r seq) None) s.rec_is in
+    let same1 : r'.id ≡ r1.id = ap (λ (r : Rec). r.id) gives.rec in
+    leaves-passing x x' id r r1 r' (Entry.TRecv waiter.0 id r.key None) idle (record {
+      there = there; id_is = d.id_is; watched = d.watched; heaped = d.heaped; records_are = records_are; spare = spare; noted_is = noted_is;
+      enters = enters;
+      leaves = λ j n. record { timer = λ e. n (sym e); mover = inr (at.1, refl) };
+      scans = subst (λ h. Scans x.heap h 0 r r1) (sym heap_is) s.scans;
+      out = ap (λ (r : Rec). r.heaped) s.rec_is;
+      kept = record { rec = lent; placed = subst (λ h. Rattle.gt_rows.specs.Lent.IsPlaced h r') (sym heap_is)
+          (placed-same h1 r1 r' same1 (ap (λ (r : Rec). r.heaped) gives.rec) (ap (λ (r : Rec). r.key) gives.rec) kept1.placed) };
+      same_id = ap (λ (r : Rec). r.id) rec_is;
+      same_kind = ap (λ (r : Rec). r.kind) rec_is;
+      same_blocked = ap (λ (r : Rec). r.blocked) rec_is;
+      none_heaped = ap (λ (r : Rec). r.heaped) rec_is;
+      needs_not = ap needs_heap rec_is;
+      none_ready = ap (λ (r : Rec). r.ready) rec_is;
+      none_sent = ap (λ (r : Rec). r.sending) rec_is;
+      served = parked-may (status_of v.schedule waiter.0.g) at.0;
+      clock = tt;
+    })
+
+-- a record that is written twice
+pub set-twice : {X : Type 0} (xs : List X) (i : ℕ) (y z : X) → set (set xs i y) i z ≡ set xs i z
+set-twice [] i y z = refl
+set-twice (x ∷ xs) zero y z = refl
+set-twice (x ∷ xs) (suc i) y z = ap (λ zs. x ∷ zs) (set-twice xs i y z)
