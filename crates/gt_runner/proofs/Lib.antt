@@ -14,3 +14,5 @@ pub mod Growing
 pub mod Unblocking
 pub mod Serving
 pub mod Timing
+pub mod Beginning
+pub mod Taking

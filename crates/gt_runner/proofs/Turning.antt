@@ -11,7 +11,7 @@ use Rattle.gt_schedule.proofs.Moving.{first-queued}
 use Rattle.gt_book.proofs.Passing.{taken-in_hand, taken-hands, taken-queued_count, queued_count-few}
 use Rattle.gt_runner.specs.Run.{HandsFree, IsAlone, Passes, run_left}
 
-taken-queued : (old new : BookView) (g : ℕ) → IsLawful old → Takes old (Pick.Run g) new → status_of old.schedule g ≡ Some RunStatus.Queued
+pub taken-queued : (old new : BookView) (g : ℕ) → IsLawful old → Takes old (Pick.Run g) new → status_of old.schedule g ≡ Some RunStatus.Queued
 taken-queued old new g lawful takes = first-queued old.schedule g lawful.fits.queued takes.0
 
 pub alone-taken : (old new : BookView) (g : ℕ) → IsLawful old → HandsFree old → Takes old (Pick.Run g) new → IsAlone new g

@@ -3,3 +3,4 @@ pub mod Served
 pub mod Settled
 pub mod Calls
 pub mod Serves
+pub mod Begun

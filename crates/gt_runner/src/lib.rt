@@ -1,12 +1,10 @@
 //! The run of a script on one worker, one whole call at a time.
 #![tactic(auto)]
 
-mod calls;
 mod begin;
+mod calls;
 mod run;
 mod runner;
 mod settling;
 
-pub use calls::call;
-pub use runner::Runner;
-pub use settling::settle;
+pub use run::run_script;

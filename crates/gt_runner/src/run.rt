@@ -9,14 +9,16 @@ ghost use Rattle.gt_runner.specs.Served.{IsServed};
 ghost use Rattle.gt_runner.specs.Calls.{Ready};
 ghost use Rattle.gt_runner.specs.Serves.{IsTaken, ButMarks, IsIdleRun, IsDueHead, Passing};
 
+use crate::begin::begin;
+use crate::calls::call;
 use crate::runner::Runner;
 use crate::settling::settle;
-
+use gt_book::{Book, Pick};
 use gt_chtimer::{sec_deliver, sec_unblock};
 use gt_fire::sec_run_head;
-
+use gt_model::{Limits, NoMemory, Script};
 use gt_rows::HeadDone;
-
+use std::alloc::Global;
 
 /// The number of the program's world.
 const PROGRAM: u32 = 0;
@@ -59,4 +61,54 @@ fn pass_time(run: &mut Runner)
         Some((key, id)) if key <= run.book.clock_of(PROGRAM) => serve(run, id),
         Some((key, _)) => run.book.jump(key),
     }
+}
+
+/// Lets a goroutine in hand go on until it waits, ends, or the run has its outcome.
+fn run_goroutine(run: &mut Runner, g: u32)
+    requires ready { Ready run.old g }
+    ensures passes { Passes run.old.book run.new.book }
+    ensures served { IsServed run.new }
+{
+    while run.book.outcome().is_none() && run.book.in_hand(g) {
+        run.book.lawful();
+        call(run, g);
+        run.book.lawful();
+    }
+}
+
+/// The turn of the goroutine that is to run next, or of time where there is none.
+fn turn(run: &mut Runner)
+    requires served { IsServed run.old }
+    requires running { outcome_of run.old.book ≡ None }
+    requires free { HandsFree run.old.book }
+    ensures turns { Turns run.old.book run.new.book }
+    ensures less { run_left run.new.book < run_left run.old.book }
+    ensures served { outcome_of run.new.book ≡ None → IsServed run.new }
+{
+    run.book.lawful();
+    match run.book.take_ready() {
+        Pick::Run(g) => {
+            unblock(run, g);
+            run.book.lawful();
+            run_goroutine(run, g);
+            run.book.lawful();
+        }
+        Pick::Nothing { .. } => {
+            pass_time(run);
+            run.book.lawful();
+        }
+    }
+}
+
+/// Runs a script until the run has its outcome. Only memory can keep it from an answer.
+pub fn run_script(alloc: Global, script: Script, limits: Limits) -> Result<Book, NoMemory>
+    requires good { IsGood script }
+    requires limits { AreLimits limits }
+    ensures { IfOk result (λ book. IsComplete script limits book) }
+{
+    let mut run = begin(alloc, script, limits)?;
+    while run.book.outcome().is_none() {
+        turn(&mut run);
+    }
+    Ok(run.book)
 }
