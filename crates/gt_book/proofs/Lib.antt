@@ -4,6 +4,8 @@ pub mod Calm
 pub mod Books
 pub mod Going
 pub mod Counting
+pub mod Waiting
+pub mod Finding
 pub mod Passing
 pub mod Committing
 pub mod Idling

@@ -20,6 +20,7 @@ ghost use Rattle.gt_book.specs.Steps.{Takes, Steps, step_of, MayCommit, Commits,
 ghost use Rattle.gt_book.specs.View.{first_view, outcome_of, with_entries, with_schedule, is_at_receive, Enters, IsLawful};
 
 use crate::answers::{Commit, Did, Op, Pick, TimerOp};
+use crate::counted::least_counted;
 use crate::step::{Step, next_step};
 use gt_machine::Machine;
 use gt_model::{CAP, Entry, Instr, Limits, NoMemory, Outcome, Party, Script};
@@ -147,6 +148,16 @@ impl Book {
         ensures { result ≡ slice_get (parties_at self.now.schedule.receivers t) 0 }
     {
         self.scheduler.first_receiver(t)
+    }
+
+    /// The least of the times that will unblock somebody, and the number of a record that shows it; None where there is none. It looks at all
+    /// goroutines and declarations.
+    pub fn least_counted(&self) -> Option<(u64, u32)>
+        ensures none { IsNone result ↔ (counted self.now.script self.now.state 0 ≡ []) }
+        ensures least { IfSome result (λ found. least (counted self.now.script self.now.state 0) ≡ Some found.0) }
+        ensures whose { IfSome result (λ found. counted_of self.now.script self.now.state found.1 ≡ Some found.0) }
+    {
+        least_counted(&self.machine, &self.script)
     }
 
     /// Whether the goroutine of a ticket is still parked as it was when it got it.
