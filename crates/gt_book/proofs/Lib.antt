@@ -3,6 +3,7 @@ pub mod Fitting
 pub mod Calm
 pub mod Books
 pub mod Going
+pub mod Giving
 pub mod Counting
 pub mod Waiting
 pub mod Finding

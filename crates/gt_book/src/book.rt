@@ -204,6 +204,15 @@ impl Book {
         }
     }
 
+    /// Whoever is in a worker's hand goes to the end of the run queue, in the order of their numbers. The answer is how many they are. It looks at all
+    /// goroutines.
+    pub fn give_back(&mut self) -> u64
+        ensures count { result ≡ in_hand self.old.schedule }
+        ensures queue { self.new ≡ with_schedule self.old (given_back self.old.schedule) }
+    {
+        self.scheduler.give_back()
+    }
+
     /// One step of a goroutine that is in the caller's hand: its instruction is entered, or it waits, or its instruction needs a timer's record and
     /// nothing changes yet. Where the run has its outcome nothing changes either.
     pub fn step_plain(&mut self, g: u32) -> Did
