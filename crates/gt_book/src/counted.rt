@@ -1,11 +1,9 @@
 //! The least time that counts, found by a look at all goroutines and declarations.
 
-ghost use Rattle.std.specs.Prelude.{◌≡◌, ◌+◌, ◌<◌, ◌≤◌, ◌^◌, ◌↔◌, [], true, IsNone, IfSome, IsSome, Some, length};
-ghost use Rattle.std.specs.Option.{option_copied};
+ghost use Rattle.std.specs.Prelude.{◌≡◌, ◌+◌, ◌≤◌, ◌↔◌, [], IsNone, IfSome, Some, length};
 ghost use Rattle.gt_model.specs.Good.{IsGood};
 ghost use Rattle.gt_model.specs.Script.{is_func};
 ghost use Rattle.gt_model.specs.Tables.{least};
-ghost use Rattle.gt_model.specs.declared.script.Instr.{Instr};
 ghost use Rattle.gt_rules.specs.State as at;
 ghost use Rattle.gt_rules.specs.Counted.{counted};
 ghost use Rattle.gt_facts.specs.Formed.{IsFormed};
