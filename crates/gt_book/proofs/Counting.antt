@@ -153,10 +153,11 @@ sleep-numbered script s t h =
     let g : Given (sleep_of 0) s.goroutines t = given-from (sleep_of 0) s.goroutines t h in
     let number : n + suc g.place - n ≡ suc g.place = omega arith in
     let behind : nat_lt (n + suc g.place) n ≡ false = le-ltb (n + suc g.place) n (omega arith) in
-    let there : goroutine_at s (n + suc g.place - n) ≡ Some g.item = ap (goroutine_at s) number ∙ g.there in
-    (n + suc g.place,
+    let there : goroutine_at s (n + suc g.place - n) ≡ Some g.item = ap (goroutine_at s) number ∙ g.there in (
+      n + suc g.place,
       ap (time_by script s (n + suc g.place)) behind
-      ∙ (ap (λ (o : Option Goroutine). elim o as (λ _. Option ℕ) [ None ↦ None | Some r ↦ sleep_of 0 r ]) there ∙ g.gives))
+          ∙ (ap (λ (o : Option Goroutine). elim o as (λ _. Option ℕ) [ None ↦ None | Some r ↦ sleep_of 0 r ]) there ∙ g.gives),
+    )
 
 timer-numbered : (script : Script) (s : State) (t : ℕ) → length s.timers ≡ length script.decls → Has t (timers script s) → HasNumbered script s t
 timer-numbered script s t size h =
@@ -165,11 +166,12 @@ timer-numbered script s t size h =
     let at_place : g.item.0 ≡ 0 + g.place = found.0 in
     let inside : g.place < length s.timers = slice_get_within s.timers g.place g.item.1 found.1 in
     let number : g.place ≡ g.item.0 = omega arith in
-    let below : nat_lt g.place (length script.decls) ≡ true = lt-ltb g.place (length script.decls) (omega arith) in
-    (g.place,
+    let below : nat_lt g.place (length script.decls) ≡ true = lt-ltb g.place (length script.decls) (omega arith) in (
+      g.place,
       ap (time_by script s g.place) below
-      ∙ (ap (λ k. counted_timer script s 0 (k, timer_at s g.place)) number
-      ∙ (ap (λ (o : Option Timer). counted_timer script s 0 (g.item.0, o)) (ap flatten found.1) ∙ g.gives)))
+          ∙ (ap (λ k. counted_timer script s 0 (k, timer_at s g.place)) number
+          ∙ (ap (λ (o : Option Timer). counted_timer script s 0 (g.item.0, o)) (ap flatten found.1) ∙ g.gives)),
+    )
 
 has-counted : (script : Script) (s : State) (t : ℕ) → length s.timers ≡ length script.decls → Has t (counted script s 0) → HasNumbered script s t
 has-counted script s t size h =

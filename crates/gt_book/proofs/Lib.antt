@@ -3,7 +3,10 @@ pub mod Fitting
 pub mod Calm
 pub mod Books
 pub mod Going
+pub mod Giving
 pub mod Counting
+pub mod Waiting
+pub mod Finding
 pub mod Passing
 pub mod Committing
 pub mod Idling

@@ -20,6 +20,7 @@ ghost use Rattle.gt_book.specs.Steps.{Takes, Steps, step_of, MayCommit, Commits,
 ghost use Rattle.gt_book.specs.View.{first_view, outcome_of, with_entries, with_schedule, is_at_receive, Enters, IsLawful};
 
 use crate::answers::{Commit, Did, Op, Pick, TimerOp};
+use crate::counted::least_counted;
 use crate::step::{Step, next_step};
 use gt_machine::Machine;
 use gt_model::{CAP, Entry, Instr, Limits, NoMemory, Outcome, Party, Script};
@@ -149,6 +150,16 @@ impl Book {
         self.scheduler.first_receiver(t)
     }
 
+    /// The least of the times that will unblock somebody, and the number of a record that shows it; None where there is none. It looks at all
+    /// goroutines and declarations.
+    pub fn least_counted(&self) -> Option<(u64, u32)>
+        ensures none { IsNone result ↔ (counted self.now.script self.now.state 0 ≡ []) }
+        ensures least { IfSome result (λ found. least (counted self.now.script self.now.state 0) ≡ Some found.0) }
+        ensures whose { IfSome result (λ found. counted_of self.now.script self.now.state found.1 ≡ Some found.0) }
+    {
+        least_counted(&self.machine, &self.script)
+    }
+
     /// Whether the goroutine of a ticket is still parked as it was when it got it.
     pub fn live(&self, ticket: Ticket) -> bool
         ensures { IsTrue result ↔ IsLive self.now.schedule ticket }
@@ -191,6 +202,15 @@ impl Book {
                 running: self.scheduler.running(),
             },
         }
+    }
+
+    /// Whoever is in a worker's hand goes to the end of the run queue, in the order of their numbers. The answer is how many they are. It looks at all
+    /// goroutines.
+    pub fn give_back(&mut self) -> u64
+        ensures count { result ≡ in_hand self.old.schedule }
+        ensures queue { self.new ≡ with_schedule self.old (given_back self.old.schedule) }
+    {
+        self.scheduler.give_back()
     }
 
     /// One step of a goroutine that is in the caller's hand: its instruction is entered, or it waits, or its instruction needs a timer's record and

@@ -3,6 +3,7 @@
 
 mod answers;
 mod book;
+mod counted;
 mod step;
 
 pub use answers::{Commit, Did, Op, Pick, TimerOp};

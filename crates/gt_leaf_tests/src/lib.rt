@@ -19,8 +19,6 @@ mod sched;
 #[cfg(test)]
 mod tie;
 #[cfg(test)]
-mod tournament;
-#[cfg(test)]
 mod word_table;
 #[cfg(test)]
 mod words;

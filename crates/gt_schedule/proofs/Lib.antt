@@ -3,3 +3,4 @@ pub mod Counting
 pub mod Keeping
 pub mod Moving
 pub mod Marks
+pub mod Back

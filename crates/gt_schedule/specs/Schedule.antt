@@ -97,6 +97,14 @@ given_back m = record m {
   run_queue = m.run_queue ++ in_hands_from 1 m.statuses;
 }
 
+-- one goroutine goes to the end of the run queue, if it is in a worker's hand
+abbrev pub put_back : Schedule → ℕ → Schedule
+put_back m g = put_back_by m g (is_in_hand (status_of m g))
+  where
+    put_back_by : Schedule → ℕ → Bool → Schedule
+    put_back_by m g true = record m { statuses = change_numbered m.statuses g (λ _. RunStatus.Queued); run_queue = m.run_queue ++ g ∷ [] }
+    put_back_by m g false = m
+
 -- how many goroutines are to run, and how many are in a worker's hand
 abbrev pub queued_count : Schedule → ℕ
 queued_count m = count_by (λ (status : RunStatus). is_queued (Some status)) m.statuses

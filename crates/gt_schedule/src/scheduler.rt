@@ -9,7 +9,7 @@ ghost use Rattle.gt_rules.specs.Change.{change_of};
 ghost use Rattle.gt_schedule.specs.Counts.{times};
 ghost use Rattle.gt_schedule.specs.declared.status.RunStatus.{RunStatus};
 ghost use Rattle.gt_schedule.specs.Schedule as table;
-ghost use Rattle.gt_schedule.specs.Schedule.{first_schedule, status_of, with_status, with_new, parked, parked_at, unparked, taken, turned, scheduled, is_parked, parties_at, ticket_of, marks_at, marked, unmarked, HasMarkRoom, given_back, in_hand, IsLive, RunsQueued, MayMove};
+ghost use Rattle.gt_schedule.specs.Schedule.{first_schedule, status_of, with_status, with_new, parked, parked_at, unparked, taken, turned, scheduled, is_parked, parties_at, ticket_of, marks_at, marked, unmarked, HasMarkRoom, put_back, given_back, in_hand, is_in_hand, IsLive, RunsQueued, MayMove};
 ghost use Rattle.gt_schedule.specs.Scheduler.{schedule_of, capacity, IsScheduler, IsOrderly, CanApply};
 
 use crate::status::{RunStatus, Ticket};
@@ -249,6 +249,46 @@ impl Scheduler {
         ensures kept { IsScheduler self.new }
     {
         self.marks.set(g as usize - 1, None);
+    }
+
+    /// Whether a goroutine is in a worker's hand.
+    fn is_in_hand(&self, g: u32) -> bool
+        ensures { result ≡ is_in_hand (status_of (schedule_of self.now) g) }
+    {
+        matches!(self.status_of(g), Some(RunStatus::InHand))
+    }
+
+    /// A goroutine goes to the end of the run queue, if it is in a worker's hand.
+    fn put_back(&mut self, g: u32)
+        requires kept { IsScheduler self.old }
+        requires orderly { IsOrderly (schedule_of self.old) }
+        ensures schedule { schedule_of self.new ≡ put_back (schedule_of self.old) g }
+        ensures room { capacity self.new ≡ capacity self.old }
+        ensures kept { IsScheduler self.new }
+    {
+        if self.is_in_hand(g) {
+            mark(&mut self.statuses, g, RunStatus::Queued);
+            self.queues.enqueue(RUN_QUEUE, g);
+            self.running -= 1;
+        }
+    }
+
+    /// Whoever is in a worker's hand goes to the end of the run queue, in the order of their numbers. The answer is how many they are. It looks at all
+    /// goroutines.
+    pub fn give_back(&mut self) -> u64
+        requires kept { IsScheduler self.old }
+        requires orderly { IsOrderly (schedule_of self.old) }
+        ensures count { result ≡ in_hand (schedule_of self.old) }
+        ensures schedule { schedule_of self.new ≡ given_back (schedule_of self.old) }
+        ensures room { capacity self.new ≡ capacity self.old }
+        ensures kept { IsScheduler self.new }
+        ensures orderly { IsOrderly (schedule_of self.new) }
+    {
+        let count = self.running;
+        for place in 0..self.statuses.len() {
+            self.put_back(place as u32 + 1);
+        }
+        count
     }
 
     /// Where a goroutine is; None for a number that no goroutine has.

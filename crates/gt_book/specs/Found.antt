@@ -1,0 +1,44 @@
+-- What a look for the least time that counts has found so far: a time, and the number of a record that shows it.
+use Rattle.std.specs.Prelude.{ℕ, ◌+◌, ◌<◌, ◌≤◌, ◌≡◌, ◌⊎◌, true, IfSome, length}
+use Rattle.std.specs.declared.option.Option.{Option}
+use Rattle.std.specs.declared.option.Option.TheVariants.{None, Some}
+use Rattle.gt_model.specs.declared.script.Script.{Script}
+use Rattle.gt_model.specs.declared.script.Instr.{Instr}
+use Rattle.gt_model.specs.Script.{is_func}
+use Rattle.gt_rules.specs.State.{State, stands_at, sleeps_until, due_of}
+use Rattle.gt_book.specs.Least.{counted_of}
+
+-- the timer of a receive
+abbrev pub received : Option Instr → Option ℕ
+received (Some (Instr.Recv t)) = Some t
+received (Some _) = None
+received None = None
+
+-- what was found is there, and not later than a time, if that is one
+abbrev pub IsNotLater : Option (ℕ × ℕ) → Option ℕ → Type 0
+IsNotLater found None = Unit {0}
+IsNotLater None (Some at) = ⊥
+IsNotLater (Some x) (Some at) = x.0 ≤ at
+
+-- what was found before, or else this time with the number of its record
+abbrev pub IsOneOf : Option (ℕ × ℕ) → Option ℕ → ℕ → Option (ℕ × ℕ) → Type 0
+IsOneOf found time id result = (result ≡ found) ⊎ IfTime time
+  where
+    IfTime : Option ℕ → Type 0
+    IfTime None = ⊥
+    IfTime (Some at) = result ≡ Some (at, id)
+
+-- its record shows what was found
+abbrev pub IsShown : Script → State → Option (ℕ × ℕ) → Type 0
+IsShown script s found = IfSome found (λ x. counted_of script s x.1 ≡ Some x.0)
+
+-- what was found is shown, and not later than what the goroutines with a number below n wait for
+pub record IsLeastBelow (script : Script) (s : State) (n : ℕ) (found : Option (ℕ × ℕ)) : Type 0 where
+  pub shown : IsShown script s found
+  pub sleeps : (g : ℕ) → g < n → IsNotLater found (sleeps_until s g)
+  pub timers : (g t : ℕ) → g < n → stands_at script s g ≡ Some (Instr.Recv t) → IsNotLater found (due_of s t)
+
+-- nor than what any goroutine waits for, nor than when the AfterFunc timers among the first n declarations are due
+pub record IsLeastWith (script : Script) (s : State) (n : ℕ) (found : Option (ℕ × ℕ)) : Type 0 where
+  pub goroutines : IsLeastBelow script s (length s.goroutines + 1) found
+  pub funcs : (t : ℕ) → t < n → is_func script t ≡ true → IsNotLater found (due_of s t)
