@@ -1,3 +1,4 @@
 pub mod Fronts
 pub mod ScriptNames
+pub mod Joined
 mod Decimals
