@@ -1,4 +1,3 @@
 pub mod Fronts
 pub mod ScriptNames
-pub mod Joined
 mod Decimals

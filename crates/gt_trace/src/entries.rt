@@ -1,17 +1,18 @@
 // The line of an entry.
-ghost use Rattle.std.specs.Prelude.{◌≡◌, ◌<◌, ◌≤◌, [], length};
+ghost use Rattle.std.specs.Prelude.{◌≡◌, ◌+◌, ◌<◌, ◌≤◌, [], ◌∷◌, ◌++◌, length, codes, decimal};
 ghost use Rattle.std.specs.List.{join_with_byte};
 ghost use Rattle.arrayvec.specs.ArrayVec.{array_vec_len};
 ghost use Rattle.gt_model.specs.Good.{IsGood};
 ghost use Rattle.gt_model.specs.Named.{IsNamed};
-ghost use Rattle.gt_trace.specs.Text.{space, outcome_word, words_of, line_of};
+ghost use Rattle.gt_trace.specs.Text.{space, goroutine_word, party_word, time_word, reason_word, outcome_word, words_of, line_of};
 
-use crate::line::{LINE_ROOM, Line, push_bytes};
-use crate::words::Word::{
-    AfterFunc, Flag, Function, Goroutine, Number, Party, Reason, Setting, Time, Timer,
+use crate::line::{
+    LINE_ROOM, Line, push_bytes, push_flag, push_goroutine, push_number, push_party, push_time,
+    push_word,
 };
-use crate::words::fill;
-use gt_model::{Entry, Outcome, Script};
+use crate::names::name_of_function;
+use crate::timers::{fill_fire, fill_tick, fill_timer};
+use gt_model::{Entry, Outcome, Party, Reason, Script};
 
 /// Builds the line of an entry.
 pub fn fill_line(line: &mut Line, script: &Script, entry: &Entry)
@@ -24,7 +25,7 @@ pub fn fill_line(line: &mut Line, script: &Script, entry: &Entry)
     push_bytes(line, b"\n");
 }
 
-// The words of the line: one row for each kind of entry.
+// The words of the line.
 fn fill_words(line: &mut Line, script: &Script, entry: &Entry)
     requires empty { line.old.items ≡ [] }
     requires good { IsGood script.now }
@@ -32,42 +33,136 @@ fn fill_words(line: &mut Line, script: &Script, entry: &Entry)
     ensures words { line.new.items ≡ join_with_byte space (words_of script.now entry.now) }
     ensures room { array_vec_len line.new < LINE_ROOM }
 {
-    let s = script;
     match *entry {
-        Entry::Say { g, n } => fill(line, s, b"say", &[Goroutine(g), Number(u64::from(n))]),
-        Entry::Now { g, at } => fill(line, s, b"now", &[Goroutine(g), Number(at)]),
-        Entry::Go { g, child, f } => fill(
-            line,
-            s,
-            b"go",
-            &[Goroutine(g), Goroutine(child), Function(f)],
-        ),
-        Entry::End { g } => fill(line, s, b"end", &[Goroutine(g)]),
-        Entry::Sleep { g, until } => fill(line, s, b"sleep", &[Goroutine(g), Time(until)]),
-        Entry::Wake { g } => fill(line, s, b"wake", &[Goroutine(g)]),
-        Entry::New { g, t, due } => fill(line, s, b"new", &[Goroutine(g), Setting(t), Number(due)]),
-        Entry::Stop { g, t, was } => fill(line, s, b"stop", &[Goroutine(g), Setting(t), Flag(was)]),
-        Entry::Reset { g, t, was, due } => fill(
-            line,
-            s,
-            b"reset",
-            &[Goroutine(g), Setting(t), Flag(was), Number(due)],
-        ),
-        Entry::TRecv { p, t, due, next } => fill(
-            line,
-            s,
-            b"trecv",
-            &[Party(p), Timer(t), Number(due), Time(next)],
-        ),
-        Entry::FireFunc { t, child } => fill(line, s, b"fire", &[AfterFunc(t), Goroutine(child)]),
-        Entry::Clock { world, at } => fill(
-            line,
-            s,
-            b"clock",
-            &[Number(u64::from(world)), Number(at)],
-        ),
-        Entry::Panic { p, reason } => fill(line, s, b"panic", &[Party(p), Reason(reason)]),
+        Entry::Say { g, n } => fill_number(line, b"say", g, u64::from(n)),
+        Entry::Now { g, at } => fill_number(line, b"now", g, at),
+        Entry::Go { g, child, f } => fill_go(line, script, g, child, f),
+        Entry::End { g } => fill_goroutine(line, b"end", g),
+        Entry::Sleep { g, until } => fill_sleep(line, g, until),
+        Entry::Wake { g } => fill_goroutine(line, b"wake", g),
+        Entry::New { g, t, due } => fill_new(line, script, g, t, due),
+        Entry::Stop { g, t, was } => fill_stop(line, script, g, t, was),
+        Entry::Reset { g, t, was, due } => fill_reset(line, script, g, t, was, due),
+        Entry::TRecv { p, t, due, next } => fill_tick(line, script, p, t, due, next),
+        Entry::FireFunc { t, child } => fill_fire(line, script, t, child),
+        Entry::Clock { world, at } => fill_clock(line, world, at),
+        Entry::Panic { p, reason } => fill_panic(line, p, reason),
         Entry::Finish { outcome } => fill_outcome(line, outcome),
+    }
+}
+
+// The words of a goroutine that did something which its line's first word tells.
+fn fill_goroutine(line: &mut Line, word: &[u8], g: u32)
+    requires empty { line.old.items ≡ [] }
+    requires short { length word.now ≤ 5 }
+    ensures words { line.new.items ≡ join_with_byte space (word.now ∷ goroutine_word g ∷ []) }
+    ensures room { array_vec_len line.new ≤ 17 }
+{
+    push_bytes(line, word);
+    push_goroutine(line, g);
+}
+
+// The same, and a number.
+fn fill_number(line: &mut Line, word: &[u8], g: u32, number: u64)
+    requires empty { line.old.items ≡ [] }
+    requires short { length word.now ≤ 5 }
+    ensures words { line.new.items
+        ≡ join_with_byte space (word.now ∷ goroutine_word g ∷ decimal number ∷ []) }
+    ensures room { array_vec_len line.new < LINE_ROOM }
+{
+    fill_goroutine(line, word, g);
+    push_number(line, number);
+}
+
+// A goroutine started another one at a function.
+fn fill_go(line: &mut Line, script: &Script, g: u32, child: u32, f: u32)
+    requires empty { line.old.items ≡ [] }
+    requires good { IsGood script.now }
+    requires named { IsNamed script.now (Entry.Go g child f) }
+    ensures words { line.new.items
+        ≡ join_with_byte space (words_of script.now (Entry.Go g child f)) }
+    ensures room { array_vec_len line.new < LINE_ROOM }
+{
+    fill_goroutine(line, b"go", g);
+    push_goroutine(line, child);
+    push_word(line, name_of_function(script, f));
+}
+
+// A goroutine fell asleep, or slept for 0.
+fn fill_sleep(line: &mut Line, g: u32, until: Option<u64>)
+    requires { line.old.items ≡ [] }
+    ensures words { line.new.items
+        ≡ join_with_byte space (codes "sleep" ∷ goroutine_word g ∷ time_word until ∷ []) }
+    ensures room { array_vec_len line.new < LINE_ROOM }
+{
+    fill_goroutine(line, b"sleep", g);
+    push_time(line, until);
+}
+
+// A goroutine made a timer.
+fn fill_new(line: &mut Line, script: &Script, g: u32, t: u32, due: u64)
+    requires empty { line.old.items ≡ [] }
+    requires good { IsGood script.now }
+    requires named { IsNamed script.now (Entry.New g t due) }
+    ensures words { line.new.items
+        ≡ join_with_byte space (words_of script.now (Entry.New g t due)) }
+    ensures room { array_vec_len line.new < LINE_ROOM }
+{
+    fill_timer(line, b"new", script, g, t);
+    push_number(line, due);
+}
+
+// A goroutine stopped a timer.
+fn fill_stop(line: &mut Line, script: &Script, g: u32, t: u32, was: Option<bool>)
+    requires empty { line.old.items ≡ [] }
+    requires good { IsGood script.now }
+    requires named { IsNamed script.now (Entry.Stop g t was) }
+    ensures words { line.new.items
+        ≡ join_with_byte space (words_of script.now (Entry.Stop g t was)) }
+    ensures room { array_vec_len line.new < LINE_ROOM }
+{
+    fill_timer(line, b"stop", script, g, t);
+    push_flag(line, was);
+}
+
+// A goroutine set a timer anew.
+fn fill_reset(line: &mut Line, script: &Script, g: u32, t: u32, was: Option<bool>, due: u64)
+    requires empty { line.old.items ≡ [] }
+    requires good { IsGood script.now }
+    requires named { IsNamed script.now (Entry.Reset g t was due) }
+    ensures words { line.new.items
+        ≡ join_with_byte space (words_of script.now (Entry.Reset g t was due)) }
+    ensures room { array_vec_len line.new < LINE_ROOM }
+{
+    fill_timer(line, b"reset", script, g, t);
+    push_flag(line, was);
+    push_number(line, due);
+}
+
+// The clock of a world moved.
+fn fill_clock(line: &mut Line, world: u32, at: u64)
+    requires { line.old.items ≡ [] }
+    ensures words { line.new.items
+        ≡ join_with_byte space (codes "clock" ∷ decimal world ∷ decimal at ∷ []) }
+    ensures room { array_vec_len line.new < LINE_ROOM }
+{
+    push_bytes(line, b"clock");
+    push_number(line, u64::from(world));
+    push_number(line, at);
+}
+
+// A goroutine misused an object.
+fn fill_panic(line: &mut Line, p: Party, reason: Reason)
+    requires { line.old.items ≡ [] }
+    ensures words { line.new.items
+        ≡ join_with_byte space (codes "panic" ∷ party_word p ∷ reason_word reason ∷ []) }
+    ensures room { array_vec_len line.new < LINE_ROOM }
+{
+    push_bytes(line, b"panic");
+    push_party(line, p);
+    match reason {
+        Reason::Unmade => push_word(line, b"unmade"),
+        Reason::Twice => push_word(line, b"twice"),
     }
 }
 

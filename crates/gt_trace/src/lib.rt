@@ -5,6 +5,6 @@ mod entries;
 mod line;
 mod names;
 mod print;
-mod words;
+mod timers;
 
 pub use print::{write_line, write_trace};
