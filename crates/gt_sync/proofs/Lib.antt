@@ -1,0 +1,4 @@
+pub mod Moves
+pub mod Shown
+pub mod Room
+pub mod Numbers
