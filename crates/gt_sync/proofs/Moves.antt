@@ -98,7 +98,7 @@ pub IsMoving-end : (before now : List (List ℕ)) (from to count members : ℕ) 
 IsMoving-end before now from to count members none i =
     i.queues
     ∙ ap (λ xs. set (set before from xs) to (waiting_in now to)) none
-    ∙ ap (set (set before from [])  to) (sym (append-nil (waiting_in now to)) ∙ ap (λ xs. waiting_in now to ++ xs) (sym none) ∙ i.moved)
+    ∙ ap (set (set before from []) to) (sym (append-nil (waiting_in now to)) ∙ ap (λ xs. waiting_in now to ++ xs) (sym none) ∙ i.moved)
 
 -- the numbers of a list of the first ones
 pub Contains-range : (n m : ℕ) → Contains (range_with_len 0 n) m → m < n

@@ -112,9 +112,9 @@ IsChosen-drawn w f f' n kept lawful first fq fm =
     let size = kept.numbers in
     let there : n < w.members = omega arith in
     let left : free_numbers f' ≡ without (free_numbers f) n =
-        rw fq
-        (get_or-set_same f.queues 0 (drop 1 (free_numbers f)) [] (omega arith)
-        ∙ sym (without-first n (free_numbers f) first (lawful.once 0))) in
+    rw fq
+    (get_or-set_same f.queues 0 (drop 1 (free_numbers f)) [] (omega arith)
+    ∙ sym (without-first n (free_numbers f) first (lawful.once 0))) in
     record {
       there = there;
       fits = (rw (length-shown w.queues w.members kept.lists) there, waiting_in-shown w.queues n ∙ kept.free.empty n stands);

@@ -40,15 +40,15 @@ module _ (w : Contents) (g : ℕ) (lawful : IsLawful w) (gl : g < w.members) (fr
       let size : length all ≡ w.members + 1 = length-map-range_with_len (one_of_each w.queues g) 0 (w.members + 1) in
       let at : (i d : ℕ) → i < w.members + 1 → get_or all i d ≡ one_of_each w.queues g i = λ i d il. get_or-map-range_with_len (one_of_each w.queues g) 0 (w.members + 1) i i d il (omega arith) in
       let few : length all ≤ w.members =
-          length-le_from_distinct w.members all
-          (IsDistinct-from_apart nat_eq all
-          (λ i j d ij jl.
-              let jl' : j < w.members + 1 = omega arith in
-              let il' : i < w.members + 1 = omega arith in
-              rw (at i d il', at j d jl') (ne_eqb _ _ (differ i j ij jl'))))
-          (λ y h.
-              let il : h.0 < w.members + 1 = let l = h.1 in omega arith in
-              rw (← (sym (at h.0 y il) ∙ h.2)) (below h.0 il)) in
+      length-le_from_distinct w.members all
+      (IsDistinct-from_apart nat_eq all
+      (λ i j d ij jl.
+      let jl' : j < w.members + 1 = omega arith in
+      let il' : i < w.members + 1 = omega arith in
+      rw (at i d il', at j d jl') (ne_eqb _ _ (differ i j ij jl'))))
+      (λ y h.
+      let il : h.0 < w.members + 1 = let l = h.1 in omega arith in
+      rw (← (sym (at h.0 y il) ∙ h.2)) (below h.0 il)) in
       omega arith
 
 pub some_free : (w f : Contents) (g : ℕ) → IsKept w f → IsLawful w → g < w.members → ¬ IsWaiting w.queues g → waiting_in f.queues 0 ≢ []
@@ -56,7 +56,7 @@ some_free w f g kept lawful gl free none =
     too_many w g lawful gl free (λ n nl e. Contains-nil n (rw none at (kept.free.all n nl e)))
 
 -- at first all queues are empty, and all numbers free
-empty_list : (n k : ℕ) → get_or {A = List ℕ} (replicate n []) k [] ≡ []
+pub empty_list : (n k : ℕ) → get_or {A = List ℕ} (replicate n []) k [] ≡ []
 empty_list n k =
     elim (cases_lt k n) [
       | inl l ↦ get_or-replicate n k [] [] l

@@ -31,7 +31,8 @@ impl CondQ {
     pub fn wait(&mut self, g: u32, q: &mut Queues)
         requires here { HasQueue q.old self.old.queue }
         requires may_park { MayPark q.old g }
-        ensures { Parks q.old self.old.queue g q.new self.new.queue }
+        ensures parks { Parks q.old self.old.queue g q.new self.new.queue }
+        ensures here { HasQueue q.new self.new.queue }
     {
         q.join(&mut self.queue, g);
     }
@@ -43,6 +44,7 @@ impl CondQ {
         ensures none { IsNone result ↔ (waiters q.old self.old.queue ≡ []) }
         ensures queue { self.new.queue ≡ queue_left q.old self.old.queue }
         ensures queues { q.new ≡ first_gone q.old self.old.queue }
+        ensures here { HasQueue q.new self.new.queue }
     {
         q.take_first(&mut self.queue)
     }

@@ -57,6 +57,13 @@ impl Mu {
         }
     }
 
+    /// Tells a proof what is true of a mutex at all times. It does nothing.
+    pub fn lawful(&self)
+        ensures { self.now.locked ≡ false → self.now.queue ≡ None }
+    {
+        let _locked = self.locked;
+    }
+
     /// Goroutine g takes the mutex where it is free, and else waits for it, behind those that wait.
     pub fn lock(&mut self, g: u32, q: &mut Queues) -> LockStep
         requires here { HasQueue q.old self.old.queue }
@@ -65,13 +72,14 @@ impl Mu {
         ensures locked { IsTrue self.new.locked }
         ensures done { result ≡ LockStep.Done → (self.new.queue ≡ self.old.queue) × (q.new ≡ q.old) }
         ensures park { result ≡ LockStep.Park → Parks q.old self.old.queue g q.new self.new.queue }
+        ensures here { HasQueue q.new self.new.queue }
     {
-        if !self.locked {
-            self.locked = true;
-            return LockStep::Done;
+        if self.locked {
+            q.join(&mut self.queue, g);
+            return LockStep::Park;
         }
-        q.join(&mut self.queue, g);
-        LockStep::Park
+        self.locked = true;
+        LockStep::Done
     }
 
     /// Hands the mutex to the one that has waited longest, or frees it where nobody waits. Where it is free, nothing changes.
@@ -82,6 +90,7 @@ impl Mu {
         ensures locked { self.new.locked ≡ is_held result }
         ensures queue { self.new.queue ≡ queue_left q.old self.old.queue }
         ensures queues { q.new ≡ first_gone q.old self.old.queue }
+        ensures here { HasQueue q.new self.new.queue }
     {
         if !self.locked {
             return UnlockStep::NotLocked;

@@ -73,7 +73,8 @@ impl Queues {
     pub(crate) fn join(&mut self, queue: &mut Option<u32>, g: u32)
         requires here { HasQueue self.old queue.old }
         requires may_park { MayPark self.old g }
-        ensures { Parks self.old queue.old g self.new queue.new }
+        ensures parks { Parks self.old queue.old g self.new queue.new }
+        ensures here { HasQueue self.new queue.new }
     {
         if let Some(number) = *queue {
             self.waiting.enqueue(number + 1, g);
@@ -92,6 +93,7 @@ impl Queues {
         ensures first { result ≡ slice_get (waiters self.old queue.old) 0 }
         ensures queue { queue.new ≡ queue_left self.old queue.old }
         ensures queues { self.new ≡ first_gone self.old queue.old }
+        ensures here { HasQueue self.new queue.new }
     {
         let number = (*queue)?;
         let first = self.waiting.dequeue(number + 1);

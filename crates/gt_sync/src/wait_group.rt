@@ -1,5 +1,5 @@
 //! A WaitGroup.
-ghost use Rattle.std.specs.Prelude.{◌≡◌, ◌+ℤ◌, pos, None, FitsSigned};
+ghost use Rattle.std.specs.Prelude.{◌≡◌, ◌≤ℤ◌, ◌+ℤ◌, pos, None, FitsSigned};
 ghost use Rattle.std.specs.Int.{w64};
 ghost use Rattle.gt_sync.specs.Waiting.{waiters, HasQueue, MayPark, Parks};
 ghost use Rattle.gt_sync.specs.Steps.{add_step, wait_step, counter_after, queue_after, queues_after};
@@ -58,6 +58,14 @@ impl Wg {
         }
     }
 
+    /// Tells a proof what is true of a WaitGroup at all times. It does nothing.
+    pub fn lawful(&self)
+        ensures sign { pos 0 ≤ℤ self.now.counter }
+        ensures zero { self.now.counter ≡ pos 0 → self.now.queue ≡ None }
+    {
+        let _counter = self.counter;
+    }
+
     /// Adds n, which may be below 0, to the counter. Where the counter comes to 0, all that wait are woken, and
     /// `Queues::take_woken` hands them out. Where the sum is below 0, nothing changes.
     pub fn add(&mut self, n: i64, q: &mut Queues) -> AddStep
@@ -67,6 +75,7 @@ impl Wg {
         ensures counter { self.new.counter ≡ counter_after result self.old.counter n }
         ensures queue { self.new.queue ≡ queue_after result self.old.queue }
         ensures queues { q.new ≡ queues_after result q.old self.old.queue }
+        ensures here { HasQueue q.new self.new.queue }
     {
         let sum = self.counter + n;
         if sum < 0 {
@@ -88,6 +97,7 @@ impl Wg {
         ensures counter { self.new.counter ≡ self.old.counter }
         ensures done { result ≡ WaitStep.Done → (self.new.queue ≡ self.old.queue) × (q.new ≡ q.old) }
         ensures park { result ≡ WaitStep.Park → Parks q.old self.old.queue g q.new self.new.queue }
+        ensures here { HasQueue q.new self.new.queue }
     {
         if self.counter == 0 {
             return WaitStep::Done;

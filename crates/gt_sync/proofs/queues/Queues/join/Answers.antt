@@ -3,9 +3,9 @@ use Rattle.std.specs.List.{slice_get}
 use Rattle.gt_queue.specs.Contents.{waiting_in}
 use Rattle.gt_sync.specs.Waiting.{MayPark, IsQueueFor}
 use Rattle.gt_sync.specs.Kept.{waiting_of}
-use Rattle.gt_sync.proofs.Shown.{MayPark-free, waiting_of-joined}
+use Rattle.gt_sync.proofs.Shown.{MayPark-free, waiting_in-shown, waiting_of-joined}
 use Rattle.gt_sync.proofs.Room.{some_free, some_first}
-use Rattle.gt_sync.proofs.Numbers.{IsChosen, IsChosen-drawn, IsKept-filled, Changes-set, free_numbers, queue_at, joined_not_empty}
+use Rattle.gt_sync.proofs.Numbers.{IsChosen, IsChosen-drawn, IsKept-filled, Changes-set, free_numbers, queue_at, joined_not_empty, queue_there}
 use Rattle.gt_sync.proofs.queues.Queues.join.Goals as goal
 
 pub enqueue-requires-clause-free : goal.enqueue-requires-clause-free
@@ -51,10 +51,24 @@ invariant_of-self-2 c =
     (Changes-set w c.enqueue-2.new.self n _ c.enqueue-2.ensures.queues c.enqueue-2.ensures.members)
     (joined_not_empty w c.enqueue-2.new.self n c.args.g c.self.invariant.lists chosen.there c.enqueue-2.ensures.queues)
 
+pub returns-in-Some-clause-here : goal.returns-in-Some-clause-here
+returns-in-Some-clause-here c =
+    let w = c.self.inside.waiting in
+    let n = c.in-Some.number in
+    let here = rw (c.in-Some.is, ← c.self.view_is) at c.requires.here in
+    let some : queue_at w n ≢ [] = rw (waiting_in-shown w.queues n) at here in
+    rw (c.in-Some.is, waiting_in-shown c.enqueue.new.self.queues n)
+    (joined_not_empty w c.enqueue.new.self n c.args.g c.self.invariant.lists (queue_there w n c.self.invariant.lists some) c.enqueue.ensures.queues)
+
 pub returns : goal.returns
 returns c =
     let w = c.self.inside.waiting in
     let n = c.unwrap-number.result in
     let first : Some n ≡ slice_get (free_numbers c.self.inside.free) 0 = sym c.unwrap-number.ensures ∙ c.dequeue.ensures.first in
     let chosen = IsChosen-drawn w c.self.inside.free c.dequeue.new.self n c.self.invariant c.lawful-2.ensures first c.dequeue.ensures.queues c.dequeue.ensures.members in
-    rw (← c.self.view_is) (rw c.in_default.is chosen.fits, waiting_of-joined w c.enqueue-2.new.self n c.args.g c.enqueue-2.ensures.queues c.enqueue-2.ensures.members)
+    record {
+      parks = rw (← c.self.view_is) (rw c.in_default.is chosen.fits, waiting_of-joined w c.enqueue-2.new.self n c.args.g c.enqueue-2.ensures.queues c.enqueue-2.ensures.members);
+      here =
+          rw (waiting_in-shown c.enqueue-2.new.self.queues n)
+          (joined_not_empty w c.enqueue-2.new.self n c.args.g c.self.invariant.lists chosen.there c.enqueue-2.ensures.queues);
+    }
