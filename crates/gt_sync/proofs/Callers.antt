@@ -1,12 +1,12 @@
 -- What a caller makes of the clauses: who waits where after a call, and who may park.
-use Rattle.std.proofs.Common.{◌≡◌, ◌≢◌, ℕ, zero, suc, ◌+◌, ◌<◌, ◌≤◌, ap, arith, Option, Some, None, List, [], ◌∷◌, ◌++◌, drop, length, replicate, set, get_or-set_same, get_or-set_other, refl, sym, ◌∙◌, inl, inr}
+use Rattle.std.proofs.Common.{◌≡◌, ◌≢◌, ℕ, ◌+◌, ◌<◌, ◌≤◌, ap, Option, Some, None, List, [], ◌∷◌, ◌++◌, drop, length, set, get_or-set_same, get_or-set_other, refl, sym, ◌∙◌, inl, inr}
 use Rattle.std.specs.List.{Contains, slice_get}
 use Rattle.std.proofs.lemmas.Bool.{cases_eq, cases_lt}
 use Rattle.std.proofs.lemmas.List.{get_or_past, set_past}
 use Rattle.std.proofs.lemmas.List.Elements.{Contains-push_cases, Contains-append_cases}
 use Rattle.gt_queue.specs.Contents.{waiting_in, without}
 use Rattle.gt_queue.proofs.Members.{Contains-nil, Contains-there, Contains-from_first, Contains-without, without-first}
-use Rattle.gt_sync.specs.Waiting.{Waiting, waiters, queue_for, HasQueue, MayPark, Parks, IsQueueFor, IsLawful, no_waiters, queued, queue_left, first_gone, all_woken, handed_out}
+use Rattle.gt_sync.specs.Waiting.{Waiting, waiters, queue_for, HasQueue, MayPark, Parks, IsQueueFor, IsLawful, no_waiters, queue_left, first_gone, all_woken, handed_out}
 use Rattle.gt_sync.proofs.Room.{empty_list}
 
 -- two objects have no queue in common

@@ -1,14 +1,14 @@
 -- The numbers of the free queues: after each change they are those of the queues in which nobody waits.
-use Rattle.std.proofs.Common.{◌≡◌, ◌≢◌, ℕ, zero, suc, ◌+◌, ◌<◌, ◌≤◌, ◌^◌, add-one, ap, arith, Option, Some, None, List, [], ◌∷◌, ◌++◌, drop, length, set, get_or, get_or-set_same, get_or-set_other, refl, sym, ◌∙◌, inl, inr}
+use Rattle.std.proofs.Common.{◌≡◌, ◌≢◌, ℕ, ◌+◌, ◌<◌, ap, arith, Option, Some, None, List, [], ◌∷◌, ◌++◌, drop, length, set, get_or, get_or-set_same, get_or-set_other, refl, sym, ◌∙◌, inl, inr}
 use Rattle.std.specs.List.{Contains, slice_get}
 use Rattle.std.proofs.lemmas.Bool.{cases_eq, cases_lt}
 use Rattle.std.proofs.lemmas.List.{length-set, get_or_past}
 use Rattle.std.proofs.lemmas.List.Elements.{Contains-append_left, Contains-push, Contains-push_cases}
 use Rattle.gt_queue.specs.Contents.{Contents, IsWaiting, IsLawful, waiting_in, without}
-use Rattle.gt_queue.proofs.Members.{Contains-nil, Contains-without, without-first, without-keeps, Contains-from_first}
+use Rattle.gt_queue.proofs.Members.{Contains-without, without-first, without-keeps, Contains-from_first}
 use Rattle.gt_queue.proofs.Waiting.{queue_in}
 use Rattle.gt_sync.specs.Waiting.{HasQueue, IsQueueFor}
-use Rattle.gt_sync.specs.Kept.{waiting_of, AreFree, IsKept}
+use Rattle.gt_sync.specs.Kept.{waiting_of, IsKept}
 use Rattle.gt_sync.proofs.Shown.{waiting_in-shown, length-shown}
 
 -- the queue n

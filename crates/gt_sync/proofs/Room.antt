@@ -1,8 +1,8 @@
 -- There is a free queue for whoever stands in no list.
-use Rattle.std.proofs.Common.{rules, ◌≡◌, ◌≢◌, ℕ, zero, suc, ◌+◌, ◌-◌, ◌<◌, ◌≤◌, add-one, ap, arith, map, List, [], ◌∷◌, length, get_or, replicate, refl, sym, ◌∙◌, inl, inr}
-use Rattle.std.specs.List.{Contains, IsDistinct, range_with_len, slice_get}
+use Rattle.std.proofs.Common.{rules, ◌≡◌, ◌≢◌, ℕ, zero, suc, ◌+◌, ◌<◌, ◌≤◌, add-one, arith, map, List, [], ◌∷◌, length, get_or, replicate, refl, sym, ◌∙◌, inl, inr}
+use Rattle.std.specs.List.{Contains, range_with_len, slice_get}
 use Rattle.std.specs.Prelude.{nat_eq, Option, IsSome}
-use Rattle.std.proofs.lemmas.Bool.{cases_eq, cases_lt, ne_eqb}
+use Rattle.std.proofs.lemmas.Bool.{cases_lt, ne_eqb}
 use Rattle.std.proofs.lemmas.List.{get_or_past, get_or-replicate, length-replicate}
 use Rattle.std.proofs.lemmas.List.FromFn.{length-map-range_with_len, get_or-map-range_with_len, length-range_with_len, get_or-range_with_len}
 use Rattle.std.proofs.lemmas.Map.Keys.{IsDistinct-from_apart}

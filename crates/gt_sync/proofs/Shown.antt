@@ -1,10 +1,9 @@
 -- The lists as they are shown: the objects' queues are all lists but the first.
-use Rattle.std.proofs.Common.{◌≡◌, ◌≢◌, ℕ, zero, suc, ◌+◌, ◌<◌, add-one, ap, arith, List, [], ◌∷◌, ◌++◌, drop, length, set, get_or-set_same, get_or-set_other, refl, sym, ◌∙◌}
+use Rattle.std.proofs.Common.{◌≡◌, ℕ, zero, suc, ◌+◌, ◌<◌, add-one, arith, List, [], ◌∷◌, ◌++◌, drop, length, set, get_or-set_other, refl}
 use Rattle.std.specs.List.{Contains}
-use Rattle.std.proofs.lemmas.List.{length-set}
 use Rattle.gt_queue.specs.Contents.{Contents, IsWaiting, waiting_in}
 use Rattle.gt_queue.specs.Contents as lists
-use Rattle.gt_sync.specs.Waiting.{Waiting, MayPark, IsLawful, queued}
+use Rattle.gt_sync.specs.Waiting.{MayPark, IsLawful, queued}
 use Rattle.gt_sync.specs.Kept.{waiting_of}
 
 pub waiting_in-shown : (qs : List (List ℕ)) (n : ℕ) → waiting_in (drop 1 qs) n ≡ waiting_in qs (n + 1)

@@ -1,5 +1,5 @@
 use Rattle.std.proofs.Common.{◌∙◌, ap, set, ◌++◌, ◌∷◌, []}
-use Rattle.gt_queue.specs.Contents.{IsWaiting, waiting_in}
+use Rattle.gt_queue.specs.Contents.{waiting_in}
 use Rattle.gt_sync.proofs.Moves.{range-is_free, range-pushed}
 use Rattle.gt_sync.proofs.moving.all_below.Goals as goal
 

@@ -1,6 +1,6 @@
 use Rattle.std.proofs.Common.{◌≡◌, ◌∙◌, refl}
 use Rattle.gt_queue.proofs.Callers.{Contains-first}
-use Rattle.gt_sync.proofs.Moves.{IsMoving-start, IsMoving-step, IsMoving-end, left_is_free, moved_on, taken_from}
+use Rattle.gt_sync.proofs.Moves.{IsMoving-start, IsMoving-step, left_is_free, moved_on}
 use Rattle.gt_sync.proofs.moving.move_all.Goals as goal
 
 pub loop-member-init : goal.loop-member-init

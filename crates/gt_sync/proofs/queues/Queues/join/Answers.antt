@@ -1,11 +1,8 @@
-use Rattle.std.proofs.Common.{◌≡◌, ◌≢◌, ◌<◌, ◌+◌, ◌∙◌, sym, arith, [], Some, None, length}
+use Rattle.std.proofs.Common.{◌≡◌, ◌≢◌, ◌∙◌, sym, arith, [], Some, None}
 use Rattle.std.specs.List.{slice_get}
-use Rattle.gt_queue.specs.Contents.{waiting_in}
-use Rattle.gt_sync.specs.Waiting.{MayPark, IsQueueFor}
-use Rattle.gt_sync.specs.Kept.{waiting_of}
 use Rattle.gt_sync.proofs.Shown.{MayPark-free, waiting_in-shown, waiting_of-joined}
 use Rattle.gt_sync.proofs.Room.{some_free, some_first}
-use Rattle.gt_sync.proofs.Numbers.{IsChosen, IsChosen-drawn, IsKept-filled, Changes-set, free_numbers, queue_at, joined_not_empty, queue_there}
+use Rattle.gt_sync.proofs.Numbers.{IsChosen-drawn, IsKept-filled, Changes-set, free_numbers, queue_at, joined_not_empty, queue_there}
 use Rattle.gt_sync.proofs.queues.Queues.join.Goals as goal
 
 pub enqueue-requires-clause-free : goal.enqueue-requires-clause-free

@@ -1,5 +1,4 @@
 use Rattle.std.proofs.Common.{rules, ◌≡◌, ◌≢◌, []}
-use Rattle.gt_queue.specs.Contents.{waiting_in}
 use Rattle.gt_sync.proofs.Shown.{waiting_in-shown}
 use Rattle.gt_sync.proofs.Numbers.{queue_at, used_not_free, IsKept-returned, Changes-set}
 use Rattle.gt_sync.proofs.queues.Queues.take_first.Goals as goal

@@ -1,7 +1,4 @@
-use Rattle.std.proofs.Common.{◌≡◌, ◌≢◌, ◌∙◌, [], sym, ap, arith, ◌+◌, length, get_or-set_same, get_or-set_other}
-use Rattle.gt_queue.specs.Contents.{waiting_in}
-use Rattle.gt_sync.specs.Waiting.{HasQueue}
-use Rattle.gt_sync.specs.Kept.{waiting_of}
+use Rattle.std.proofs.Common.{◌≢◌, []}
 use Rattle.gt_sync.proofs.Shown.{waiting_in-shown}
 use Rattle.gt_sync.proofs.Numbers.{queue_at, used_not_free, IsKept-returned, Changes-both, emptied}
 use Rattle.gt_sync.proofs.queues.Queues.wake_all.Goals as goal

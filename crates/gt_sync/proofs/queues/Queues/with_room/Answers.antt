@@ -1,4 +1,4 @@
-use Rattle.std.proofs.Common.{arith, ◌+◌, ap, get_or, length, ◌∙◌, sym, [], ◌≡◌}
+use Rattle.std.proofs.Common.{arith, ◌+◌, ap, get_or, length, ◌∙◌, sym, []}
 use Rattle.std.proofs.lemmas.List.{length-replicate}
 use Rattle.gt_sync.proofs.Room.{AreFree-first}
 use Rattle.gt_sync.proofs.queues.Queues.with_room.Goals as goal
