@@ -1,5 +1,5 @@
 //! A condition variable's suspended goroutines.
-ghost use Rattle.std.specs.Prelude.{◌≡◌, ◌↔◌, [], length, slice_get, None, IsNone};
+ghost use Rattle.std.specs.Prelude.{◌≡◌, ◌↔◌, [], length, slice_get, IsNone};
 ghost use Rattle.gt_sync.specs.Waiting.{waiters, HasQueue, MayPark, Parks, queue_left, first_gone, all_woken};
 
 use crate::queues::Queues;

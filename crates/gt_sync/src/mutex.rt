@@ -1,5 +1,5 @@
 //! A mutex.
-ghost use Rattle.std.specs.Prelude.{◌≡◌, None, false, IsTrue};
+ghost use Rattle.std.specs.Prelude.{◌≡◌, false, IsTrue};
 ghost use Rattle.gt_sync.specs.Waiting.{waiters, HasQueue, MayPark, Parks, queue_left, first_gone};
 ghost use Rattle.gt_sync.specs.Steps.{lock_step, unlock_step, is_held};
 

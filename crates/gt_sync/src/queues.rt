@@ -1,5 +1,5 @@
 //! The queues of the goroutines that wait at objects.
-ghost use Rattle.std.specs.Prelude.{◌≡◌, ◌+◌, ◌<◌, ◌↔◌, [], ◌∷◌, length, slice_get, IsNone, IfNone, IfSome, IfOk, drop};
+ghost use Rattle.std.specs.Prelude.{◌≡◌, ◌↔◌, [], length, slice_get, IsNone, IfOk};
 ghost use Rattle.gt_sync.specs.Waiting.{IsLawful, no_waiters, handed_out, waiters, HasQueue, MayPark, Parks, queue_left, first_gone, all_woken};
 
 use crate::moving::{ONLY, all_below, move_all};
@@ -13,8 +13,8 @@ const TOO_MANY: usize = 0x7fff_ffff;
 const WOKEN: u32 = 0;
 
 /// The queues of goroutines. They are seen as the list of the objects' queues, each the list of those that wait there with the
-/// longest waiting first; the list `woken` of those that were woken together and not yet handed out; and the greatest number
-/// `goroutines` of a goroutine.
+/// longest waiting first; the list `woken` of those that were woken and are still to be handed out, in that order; and the
+/// greatest number `goroutines` of a goroutine.
 ///
 /// A goroutine waits at one object at most, so that one link for each is enough. An object has a queue only while somebody waits
 /// at it, so that one queue for each goroutine is enough.

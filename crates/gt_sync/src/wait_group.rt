@@ -1,5 +1,5 @@
 //! A WaitGroup.
-ghost use Rattle.std.specs.Prelude.{◌≡◌, ◌≤ℤ◌, ◌+ℤ◌, pos, None, FitsSigned};
+ghost use Rattle.std.specs.Prelude.{◌≡◌, ◌≤ℤ◌, ◌+ℤ◌, pos, FitsSigned};
 ghost use Rattle.std.specs.Int.{w64};
 ghost use Rattle.gt_sync.specs.Waiting.{waiters, HasQueue, MayPark, Parks};
 ghost use Rattle.gt_sync.specs.Steps.{add_step, wait_step, counter_after, queue_after, queues_after};
