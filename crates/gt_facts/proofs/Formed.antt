@@ -11,25 +11,27 @@ use Rattle.gt_model.specs.declared.script.What.{What}
 use Rattle.gt_model.specs.declared.script.Instr.{Instr}
 use Rattle.gt_model.specs.declared.entry.Entry.{Entry}
 use Rattle.gt_model.specs.declared.entry.Limits.{Limits}
-use Rattle.gt_model.specs.declared.entry.Party.{Party}
 use Rattle.gt_model.specs.declared.entry.Outcome.{Outcome}
 use Rattle.gt_model.specs.declared.state.Goroutine.{Goroutine}
 use Rattle.gt_model.specs.declared.state.Timer.{Timer}
 use Rattle.gt_model.specs.declared.state.Mode.{Mode}
-use Rattle.gt_model.specs.declared.state.Ending.{Ending}
 use Rattle.gt_model.specs.Times.{greatest_time}
-use Rattle.gt_model.specs.Tables.{change, change_numbered, at, flatten}
+use Rattle.gt_model.specs.Tables.{change, change_numbered, flatten}
 use Rattle.gt_rules.specs.State.{State, goroutine_at, stands_at, until_of, sleeps_until, clock, clock_of, world_of, timer_at}
 use Rattle.gt_model.specs.Script.{code_of, instr_at, is_func, names_func, func_of}
-use Rattle.gt_model.specs.Good.{IsGood, IsGoodCode, IsGoodInstr, NamesRightly, StartsRightly, is_finish}
-use Rattle.gt_rules.specs.Change.{sleeps}
-use Rattle.gt_rules.specs.After.{after, first_state, moved_on, moved, in_mode, begun, set_due, set_again, timer_world}
-use Rattle.gt_rules.specs.Legal.{May, Receives, operation, due_at, sleep_end}
+use Rattle.gt_model.specs.Good.{IsGood, IsGoodCode, IsGoodInstr, StartsRightly, is_finish}
+use Rattle.gt_rules.specs.declared.change.Move.{Move}
+use Rattle.gt_rules.specs.declared.change.Setting.{Setting}
+use Rattle.gt_rules.specs.declared.change.Start.{Start}
+use Rattle.gt_rules.specs.Change.{Change, change_of}
+use Rattle.gt_rules.specs.After.{after, first_state, moved_on, moved, in_mode, begun, set_due, set_again, timer_world, number_of, new_period, retimed, with_mover, with_starts, started_by, with_retimed, with_clock}
+use Rattle.gt_rules.specs.Legal.{May, operation}
 use Rattle.gt_rules.specs.Finish.{Legal}
 use Rattle.gt_rules.specs.History.{AllLegal, state_after}
 use Rattle.gt_facts.specs.Formed.{IsFormed, IsPlaced, IsPlacedIn}
 use Rattle.gt_model.proofs.GoodCode.{HasItem, has_item, all_at, main_within}
 use Rattle.gt_facts.proofs.Lookups.{Standing, standing, AtOperation, at_operation}
+use Rattle.gt_facts.proofs.Makers.{Maker, calls, receives, wakes, ticks, maker, Leaves, Sets, sets, Begins, AllBegin, starts, starts-few}
 use Rattle.gt_model.proofs.Items.{at-is}
 use Rattle.gt_model.proofs.Changes.{AllAt, AllNumbered, all-change, all-set, all_numbered-change, all_numbered-append, length-change, length-change_numbered}
 
@@ -118,12 +120,6 @@ follows : (script : Script) (s : State) (g : ℕ) (i : Instr) (r : Goroutine) �
     → r.place.at + 1 < length (code_of script r.place.func)
 follows script s g i r good h next e = follows_at script r.place.func r.place.at i good (instr_there script s g i r h e) next
 
--- what a goroutine stands at names rightly
-names_there : (script : Script) (s : State) (g : ℕ) (i : Instr) → IsGood script → stands_at script s g ≡ Some i → NamesRightly script i
-names_there script s g i good h =
-    let st : Standing script s g i = standing script s g i h in
-    (good_instr script st.who.place.func st.who.place.at i good st.on).names
-
 begins : (script : Script) (f : ℕ) → IsGood script → f < length script.funcs → 0 < length (code_of script f)
 begins script f good h =
     let found : HasItem script.funcs f = has_item script.funcs f h in
@@ -159,12 +155,6 @@ moved-formed : (script : Script) (s : State) (g : ℕ) (i : Instr) (r : Goroutin
 moved-formed script s g i r good formed h next e =
     record { world = formed.world.goroutines g r e; placed = follows script s g i r good h next e; until = tt }
 
-asleep-formed : (script : Script) (s : State) (g : ℕ) (i : Instr) (until : Option ℕ) (r : Goroutine) → IsGood script → IsFormed script s → stands_at script s g ≡ Some i → is_finish i ≡ false
-    → IfSome until (λ u. u ≤ greatest_time) → goroutine_at s g ≡ Some r → IsFormedGoroutine script (moved script (sleeps until) r)
-asleep-formed script s g i None r good formed h next time e = moved-formed script s g i r good formed h next e
-asleep-formed script s g i (Some until) r good formed h next time e =
-    record { world = formed.world.goroutines g r e; placed = follows script s g i r good h next e; until = time }
-
 placed_inside : (n place : ℕ) (m : Mode) → IsPlacedIn n place m → place < n
 placed_inside n place (Mode.Sleeping until) h = omega arith
 placed_inside n place _ h = h
@@ -192,6 +182,14 @@ ended-formed script s g r formed e = record {
   until = tt;
 }
 
+-- a goroutine that leaves its instruction
+leaves-formed : (script : Script) (s : State) (g : ℕ) (i : Instr) (m : Move) (r : Goroutine) → IsGood script → IsFormed script s → stands_at script s g ≡ Some i → Leaves i m → goroutine_at s g ≡ Some r
+    → IsFormedGoroutine script (moved script m r)
+leaves-formed script s g i (Move.GoesOn case_no) r good formed h next e = moved-formed script s g i r good formed h next e
+leaves-formed script s g i (Move.FallsAsleep until) r good formed h leaves e =
+    record { world = formed.world.goroutines g r e; placed = follows script s g i r good h leaves.0 e; until = leaves.1 }
+leaves-formed script s g i Move.Ends r good formed h leaves e = ended-formed script s g r formed e
+
 changed_goroutines : (script : Script) (s : State) (g : ℕ) (f : Goroutine → Goroutine) → IsFormed script s → ((r : Goroutine) → goroutine_at s g ≡ Some r → IsFormedGoroutine script (f r))
     → AreGoroutines script (change_numbered s.goroutines g f)
 changed_goroutines script s g f formed new = record { each = all_numbered-change (IsFormedGoroutine script) s.goroutines g f (goroutines-of script s formed).each new }
@@ -215,9 +213,6 @@ changed_timers script s t f formed new =
       each = all-change (λ (o : Option Timer). IfSome o IsFormedTimer) s.timers t f ts.each (λ o e. new o (ts.each t o e));
     }
 
-due_timers : (script : Script) (s : State) (t : ℕ) (due : Option ℕ) → IsFormed script s → IfSome due (λ d. d ≤ greatest_time) → AreTimers script (change s.timers t (set_due due))
-due_timers script s t due formed time = changed_timers script s t (set_due due) formed (λ o h. set_due-formed due o time h)
-
 set_timers : (script : Script) (s : State) (t : ℕ) (r : Timer) → IsFormed script s → IsFormedTimer r → AreTimers script (set s.timers t (Some r))
 set_timers script s t r formed new =
     let ts : AreTimers script s.timers = timers-of script s formed in
@@ -226,14 +221,7 @@ set_timers script s t r formed new =
       each = all-set (λ (o : Option Timer). IfSome o IsFormedTimer) s.timers t (Some r) ts.each new;
     }
 
--- ---- times and worlds
-
-due_at-time : (now d : ℕ) → due_at now d ≤ greatest_time
-due_at-time now d = omega arith
-
-sleep_end-time : (now d : ℕ) → IfSome (sleep_end now d) (λ until. until ≤ greatest_time)
-sleep_end-time now zero = tt
-sleep_end-time now (suc d) = due_at-time now (suc d)
+-- ---- worlds
 
 pub world_of-zero : (script : Script) (s : State) (g : ℕ) → IsFormed script s → world_of s g ≡ 0
 world_of-zero script s g formed = elim (goroutine_at s g) as (λ o. goroutine_at s g ≡ o → (elim o [ None ↦ 0 | Some r ↦ r.world ]) ≡ 0) [
@@ -261,95 +249,83 @@ func_of-within script t good h =
       | Some d ↦ λ e k. starts_what script d.what (all_at (λ (d : Decl). StartsRightly script d.what) script.decls t d good.starts e) k
     ] refl h
 
--- a goroutine stands at an instruction that is no end
-pub record StandsOn (script : Script) (s : State) (g : ℕ) : Type 0 where
-  pub instr : Instr
-  pub stands : stands_at script s g ≡ Some instr
-  pub next : is_finish instr ≡ false
-
 operation-next : (i : Instr) (n t : ℕ) → operation i n ≡ Some t → is_finish i ≡ false
 operation-next Instr.Finish n t e = cc
 operation-next _ n t e = refl
 
-receives-on : (script : Script) (s : State) (p : Party) (t : ℕ) → Receives script s p t → StandsOn script s p.g
-receives-on script s p t receives =
-    let at : AtOperation script s p t = at_operation script s p t receives.stands in
-    record { instr = at.instr; stands = at.stands; next = operation-next at.instr p.case_no t at.has }
+-- ---- the state after a change
 
--- ---- the state after an entry
+pub length-mover : (script : Script) (gs : List Goroutine) (m : Option (ℕ × Move)) → length (with_mover script gs m) ≡ length gs
+length-mover script gs None = refl
+length-mover script gs (Some m) = length-change_numbered gs m.0 (moved script m.1)
 
--- one goroutine is changed, and the timers
-formed-changes : (script : Script) (s : State) (g : ℕ) (f : Goroutine → Goroutine) (ts : List (Option Timer)) (ending : Ending)
-    → IsFormed script s → ((r : Goroutine) → goroutine_at s g ≡ Some r → IsFormedGoroutine script (f r)) → AreTimers script ts
-    → IsFormed script (record { clocks = s.clocks; entries = s.entries + 1; goroutines = change_numbered s.goroutines g f; timers = ts; ending = ending })
-formed-changes script s g f ts ending formed new timers =
-    let size : length (change_numbered s.goroutines g f) ≡ length s.goroutines = length-change_numbered s.goroutines g f in
-    let few : length s.goroutines ≤ s.entries + 1 = formed.few in
-    formed-parts script (record { clocks = s.clocks; entries = s.entries + 1; goroutines = change_numbered s.goroutines g f; timers = ts; ending = ending }) (clocks-of script s formed)
-    (changed_goroutines script s g f formed new) (omega arith) timers
+pub length-starts : (script : Script) (s : State) (gs : List Goroutine) (xs : List Start) → length (with_starts script s gs xs) ≡ length gs + length xs
+length-starts script s gs [] = omega arith
+length-starts script s gs (x ∷ xs) =
+    let rest : length (with_starts script s (gs ++ started_by script s x ∷ []) xs) ≡ length (gs ++ started_by script s x ∷ []) + length xs =
+    length-starts script s (gs ++ started_by script s x ∷ []) xs in
+    let one : length (gs ++ started_by script s x ∷ []) ≡ length gs + 1 = length-append gs (started_by script s x ∷ []) in
+    omega arith
 
--- one goroutine begins, and the timers are changed
-formed-begins : (script : Script) (s : State) (gs : List Goroutine) (r : Goroutine) (ts : List (Option Timer))
-    → IsFormed script s → AreGoroutines script gs → length gs ≡ length s.goroutines → IsFormedGoroutine script r → AreTimers script ts
-    → IsFormed script (record { clocks = s.clocks; entries = s.entries + 1; goroutines = gs ++ r ∷ []; timers = ts; ending = s.ending })
-formed-begins script s gs r ts formed all size new timers =
-    let more : length (gs ++ r ∷ []) ≡ length gs + 1 = length-append gs (r ∷ []) in
-    let few : length s.goroutines ≤ s.entries + 1 = formed.few in
-    formed-parts script (record { clocks = s.clocks; entries = s.entries + 1; goroutines = gs ++ r ∷ []; timers = ts; ending = s.ending }) (clocks-of script s formed)
-    (record { each = all_numbered-append (IsFormedGoroutine script) gs r all.each new }) (omega arith) timers
+mover-formed : (script : Script) (s : State) (m : Option (ℕ × Move)) (k : Option (ℕ × ℕ)) → IsGood script → IsFormed script s → Maker script s m k
+    → AreGoroutines script (with_mover script s.goroutines m)
+mover-formed script s m k good formed (calls g i n does goes leaves) =
+    changed_goroutines script s g (moved script n) formed (λ r e. leaves-formed script s g i n r good formed does.stands leaves e)
+mover-formed script s m k good formed (receives p t due call is come) =
+    let at : AtOperation script s p t = at_operation script s p t call.stands in
+    changed_goroutines script s p.g (moved_on script) formed
+    (λ r e. moved-formed script s p.g at.instr r good formed at.stands (operation-next at.instr p.case_no t at.has) e)
+mover-formed script s m k good formed (wakes g h) =
+    changed_goroutines script s g (moved_on script) formed (λ r e. woken-formed script s g (clock_of s g) r formed h e)
+mover-formed script s m k good formed _ = goroutines-of script s formed
 
--- a goroutine moves on, and the timers are changed
-formed-moves : (script : Script) (s : State) (g : ℕ) (i : Instr) (ts : List (Option Timer))
-    → IsGood script → IsFormed script s → stands_at script s g ≡ Some i → is_finish i ≡ false → AreTimers script ts
-    → IsFormed script (record { clocks = s.clocks; entries = s.entries + 1; goroutines = change_numbered s.goroutines g (moved_on script); timers = ts; ending = s.ending })
-formed-moves script s g i ts good formed h next timers =
-    formed-changes script s g (moved_on script) ts s.ending formed (λ r e. moved-formed script s g i r good formed h next e) timers
+starter-formed : (script : Script) (s : State) (x : Start) → IsGood script → IsFormed script s → Begins script x → IsFormedGoroutine script (started_by script s x)
+starter-formed script s (Start.ByGoroutine g f) good formed h = begun-formed script (world_of s g) f good (world_of-zero script s g formed) h
+starter-formed script s (Start.ByTimer t) good formed h =
+    begun-formed script (timer_world s t) (func_of script t) good (timer_world-zero script s t formed) (func_of-within script t good h)
+
+starts-formed : (script : Script) (s : State) (gs : List Goroutine) (xs : List Start) → IsGood script → IsFormed script s → AllBegin script xs → AreGoroutines script gs
+    → AreGoroutines script (with_starts script s gs xs)
+starts-formed script s gs [] good formed begin all = all
+starts-formed script s gs (x ∷ xs) good formed begin all =
+    starts-formed script s (gs ++ started_by script s x ∷ []) xs good formed begin.1
+    (record { each = all_numbered-append (IsFormedGoroutine script) gs (started_by script s x) all.each (starter-formed script s x good formed begin.0) })
+
+timer-formed : (script : Script) (s : State) (m : Option (ℕ × Move)) (t : ℕ) (x : Setting) → IsFormed script s → Sets script s t x
+    → AreTimers script (retimed script s m t s.timers x)
+timer-formed script s m t (Setting.Made due) formed h =
+    set_timers script s t _ formed (record { world = world_of-zero script s (number_of m) formed; due = h.time })
+timer-formed script s m t (Setting.SetAnew due) formed h =
+    changed_timers script s t (set_again due (new_period script s (number_of m) t)) formed
+    (λ o was. set_again-formed due (new_period script s (number_of m) t) o h.time was)
+timer-formed script s m t (Setting.Ended next) formed h = changed_timers script s t (set_due next) formed (λ o was. set_due-formed next o h.time was)
+
+timers-formed : (script : Script) (s : State) (m : Option (ℕ × Move)) (o : Option (ℕ × Setting)) → IsFormed script s → IfSome o (λ (x : ℕ × Setting). Sets script s x.0 x.1)
+    → AreTimers script (with_retimed script s m s.timers o)
+timers-formed script s m None formed h = timers-of script s formed
+timers-formed script s m (Some x) formed h = timer-formed script s m x.0 x.1 formed h
 
 set-clocks : (clocks : List ℕ) (to : ℕ) → clocks ≡ slice_index clocks 0 ∷ [] → to ≤ greatest_time → AreClocks (set clocks 0 to)
 set-clocks clocks to one time = subst (λ (cs : List ℕ). AreClocks (set cs 0 to)) (sym one) (record { one = refl; time = time })
 
+clocks-formed : (script : Script) (s : State) (m : Option (ℕ × Move)) (k : Option (ℕ × ℕ)) → IsFormed script s → Maker script s m k → AreClocks (with_clock s.clocks k)
+clocks-formed script s m k formed (ticks to up most) = set-clocks s.clocks to formed.one_clock most
+clocks-formed script s m k formed _ = clocks-of script s formed
+
 pub formed-after : (script : Script) (s : State) (e : Entry) → IsGood script → IsFormed script s → May script s e → IsFormed script (after script s e)
-formed-after script s (Entry.Say g n) good formed may = formed-moves script s g (Instr.Say n) s.timers good formed may.stands refl (timers-of script s formed)
-formed-after script s (Entry.Now g at) good formed may = formed-moves script s g Instr.Now s.timers good formed may.0.stands refl (timers-of script s formed)
-formed-after script s (Entry.Go g child f) good formed may =
-    let names : f < length script.funcs = names_there script s g (Instr.Go f) good may.0.stands in
-    formed-begins script s (change_numbered s.goroutines g (moved_on script)) (begun script (world_of s g) f) s.timers formed
-    (changed_goroutines script s g (moved_on script) formed (λ r e. moved-formed script s g (Instr.Go f) r good formed may.0.stands refl e))
-    (length-change_numbered s.goroutines g (moved_on script)) (begun-formed script (world_of s g) f good (world_of-zero script s g formed) names) (timers-of script s formed)
-formed-after script s (Entry.End g) good formed may =
-    formed-changes script s g (in_mode Mode.Ended) s.timers (after script s (Entry.End g)).ending formed (λ r e. ended-formed script s g r formed e) (timers-of script s formed)
-formed-after script s (Entry.Sleep g until) good formed may =
-    let time : IfSome until (λ u. u ≤ greatest_time) = subst (λ (o : Option ℕ). IfSome o (λ u. u ≤ greatest_time)) (sym may.2) (sleep_end-time (clock_of s g) may.0) in
-    formed-changes script s g (moved script (sleeps until)) s.timers s.ending formed
-    (λ r e. asleep-formed script s g (Instr.Sleep may.0) until r good formed may.1.stands refl time e) (timers-of script s formed)
-formed-after script s (Entry.Wake g) good formed may =
-    formed-changes script s g (moved_on script) s.timers s.ending formed (λ r e. woken-formed script s g (clock_of s g) r formed may e) (timers-of script s formed)
-formed-after script s (Entry.New g t due) good formed may =
-    let time : due ≤ greatest_time = subst (λ d. d ≤ greatest_time) (sym may.2) (due_at-time (clock_of s g) may.0) in
-    let new : Timer = record { world = world_of s g; due = Some due; period = 0 } in
-    formed-moves script s g (Instr.New t may.0) (set s.timers t (Some new)) good formed may.1.stands refl
-    (set_timers script s t new formed (record { world = world_of-zero script s g formed; due = time }))
-formed-after script s (Entry.Stop g t was) good formed may =
-    formed-moves script s g (Instr.Stop t) (change s.timers t (set_due None)) good formed may.0.stands refl (due_timers script s t None formed tt)
-formed-after script s (Entry.Reset g t was due) good formed may =
-    let time : due ≤ greatest_time = subst (λ d. d ≤ greatest_time) (sym may.3) (due_at-time (clock_of s g) may.0) in
-    formed-moves script s g (Instr.Reset t may.0) (change s.timers t (set_again due 0)) good formed may.1.stands refl
-    (changed_timers script s t (set_again due 0) formed (λ o h. set_again-formed due 0 o time h))
-formed-after script s (Entry.TRecv p t due next) good formed may =
-    let on : StandsOn script s p.g = receives-on script s p t may.0 in
-    let time : IfSome next (λ u. u ≤ greatest_time) = subst (λ (o : Option ℕ). IfSome o (λ u. u ≤ greatest_time)) (sym may.4) tt in
-    formed-moves script s p.g on.instr (change s.timers t (set_due next)) good formed on.stands on.next (due_timers script s t next formed time)
-formed-after script s (Entry.FireFunc t child) good formed may =
-    formed-begins script s s.goroutines (begun script (timer_world s t) (func_of script t)) (change s.timers t (set_due None)) formed (goroutines-of script s formed) refl
-    (begun-formed script (timer_world s t) (func_of script t) good (timer_world-zero script s t formed) (func_of-within script t good may.0)) (due_timers script s t None formed tt)
-formed-after script s (Entry.Clock zero to) good formed may =
+formed-after script s e good formed may =
+    let c : Change = change_of e in
+    let who : Maker script s c.mover c.clock = maker script s e may in
+    let movers : List Goroutine = with_mover script s.goroutines c.mover in
+    let same : length movers ≡ length s.goroutines = length-mover script s.goroutines c.mover in
+    let more : length (with_starts script s movers c.starts) ≡ length movers + length c.starts = length-starts script s movers c.starts in
+    let counts : length c.starts ≤ c.counted = starts-few e in
     let few : length s.goroutines ≤ s.entries + 1 = formed.few in
-    formed-parts script (after script s (Entry.Clock 0 to)) (set-clocks s.clocks to formed.one_clock may.1) (goroutines-of script s formed) (omega arith) (timers-of script s formed)
-formed-after script s (Entry.Clock (suc world) to) good formed may = absurd may
-formed-after script s (Entry.Panic p reason) good formed may =
-    let few : length s.goroutines ≤ s.entries + 1 = formed.few in
-    formed-parts script (after script s (Entry.Panic p reason)) (clocks-of script s formed) (goroutines-of script s formed) (omega arith) (timers-of script s formed)
-formed-after script s (Entry.Finish outcome) good formed may = absurd may
+    formed-parts script (after script s e)
+    (clocks-formed script s c.mover c.clock formed who)
+    (starts-formed script s movers c.starts good formed (starts script s e good may) (mover-formed script s c.mover c.clock good formed who))
+    (omega arith)
+    (timers-formed script s c.mover c.timer formed (sets script s e good may))
 
 pub formed-finish : (script : Script) (s : State) (outcome : Outcome) → IsFormed script s → IsFormed script (after script s (Entry.Finish outcome))
 formed-finish script s outcome formed =

@@ -1,4 +1,4 @@
--- What holds of each item of a list holds of one; a goroutine where it stands, and one that sleeps.
+-- What holds of each item of a list holds of one; a goroutine where it stands, and what it names there, and one that sleeps.
 use Rattle.std.proofs.Common.{◌≡◌, ℕ, zero, suc, List, [], ◌∷◌, refl, ap, slice_get, None, Some, option_map, Bool, true, false, eqb-true, ◌||◌, IsSomeAnd, ◌∙◌, Option}
 use Rattle.std.specs.List.{list_any, list_all}
 use Rattle.std.proofs.lemmas.Bool.{and_parts}
@@ -9,9 +9,13 @@ use Rattle.gt_model.specs.declared.state.Mode.{Mode}
 use Rattle.gt_model.specs.Tables.{numbered}
 use Rattle.gt_rules.specs.State.{State, goroutine_at, stands, stands_at, until_of, sleeps_until}
 use Rattle.gt_model.specs.Script.{instr_at}
+use Rattle.gt_model.specs.declared.script.Func.{Func}
+use Rattle.gt_model.specs.declared.script.Place.{Place}
+use Rattle.gt_model.specs.Good.{IsGood, IsGoodCode, NamesRightly}
+use Rattle.gt_model.proofs.GoodCode.{all_at}
 use Rattle.gt_rules.specs.Counted.{receives}
 use Rattle.gt_model.specs.declared.entry.Party.{Party}
-use Rattle.gt_rules.specs.Legal.{operation, operation_at}
+use Rattle.gt_rules.specs.Legal.{Does, operation, operation_at}
 
 pub all-item : {X : Type 0} (p : X → Bool) (xs : List X) (i : ℕ) (x : X) → slice_get xs i ≡ Some x → list_all p xs ≡ true → p x ≡ true
 all-item p [] i x e h = cc
@@ -59,6 +63,22 @@ standing script s g i e =
       | None ↦ λ p q. cc
       | Some r ↦ λ p q. record { who = r; there = p; at = stands-at script r i q; on = stands-on script r i q }
     ] refl e
+
+-- an instruction in the code of a good script names what it may
+pub names-instr_at : (script : Script) (p : Place) (i : Instr) → IsGood script → instr_at script p ≡ Some i → NamesRightly script i
+names-instr_at script p i good e =
+    elim (slice_get script.funcs p.func) as (λ o. slice_get script.funcs p.func ≡ o
+    → slice_get (elim o [ None ↦ [] | Some func ↦ func.code ]) p.at ≡ Some i → NamesRightly script i) [
+      | None ↦ λ found at. cc
+      | Some func ↦ λ found at.
+          let code : IsGoodCode script func.code = all_at (λ (f : Func). IsGoodCode script f.code) script.funcs p.func func good.code found in
+          (code.each p.at i at).names
+    ] refl e
+
+pub names-Does : (script : Script) (s : State) (g : ℕ) (i : Instr) → IsGood script → Does script s g i → NamesRightly script i
+names-Does script s g i good does =
+    let stands : Standing script s g i = standing script s g i does.stands in
+    names-instr_at script stands.who.place i good stands.on
 
 -- what stands at a receive of t is that receive
 pub receives-recv : (i : Instr) (t : ℕ) → receives t i ≡ true → i ≡ Instr.Recv t

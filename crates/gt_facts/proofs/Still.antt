@@ -15,11 +15,13 @@ use Rattle.gt_model.specs.Script.{instr_at, is_func}
 use Rattle.gt_rules.specs.Panics.{fault, fault_at, panic_of, panic_at}
 use Rattle.gt_rules.specs.Ready.{is_due, is_ready, is_ready_in, is_ready_instr}
 use Rattle.gt_model.specs.Good.{IsGood}
-use Rattle.gt_rules.specs.Legal.{Does, Receives, operation, operation_at, due_at, sleep_end, was_set}
-use Rattle.gt_rules.specs.Finish.{IsIdle}
+use Rattle.gt_rules.specs.declared.change.Move.{Move}
+use Rattle.gt_rules.specs.Change.{change_of}
+use Rattle.gt_rules.specs.Legal.{May, Does, Receives}
+use Rattle.gt_rules.specs.Finish.{IsIdle, IsProgramClock}
 use Rattle.gt_facts.specs.Still.{IsStill}
 use Rattle.gt_facts.proofs.Lookups.{Standing, standing, stands_recv, Asleep, sleeper}
-use Rattle.gt_facts.proofs.Named.{names-Does}
+use Rattle.gt_facts.proofs.Makers.{Maker, calls, receives, wakes, fires, ticks, panics, maker, idle-not}
 
 -- ---- a still program is idle
 
@@ -70,8 +72,8 @@ wakes_not script s g still h =
     true_false (is_ready script s a.who) ready (still.nobody_ready g a.who a.there)
 
 receives_not : (script : Script) (s : State) (p : Party) (t due : ℕ) → IsStill script s → Receives script s p t → due_of s t ≡ Some due → due ≤ clock_of s p.g → ⊥
-receives_not script s p t due still receives is h =
-    let st : Standing script s p.g (Instr.Recv t) = standing script s p.g (Instr.Recv t) (stands_recv script s p t receives.stands) in
+receives_not script s p t due still call is h =
+    let st : Standing script s p.g (Instr.Recv t) = standing script s p.g (Instr.Recv t) (stands_recv script s p t call.stands) in
     let here : due ≤ clock s st.who.world = subst (λ w. due ≤ clock s w) (world_there s p.g st.who st.there) h in
     let come : is_due (due_of s t) (clock s st.who.world) ≡ true =
     subst (λ (o : Option ℕ). is_due o (clock s st.who.world) ≡ true) (sym is) (le-leb due (clock s st.who.world) here) in
@@ -106,46 +108,25 @@ panics_not script s g n reason still h =
       | Some i ↦ λ e k. not_ready script s g i (standing script s g i e) still (or_left (is_some (fault script s i)) _ (faulty (fault script s i) n reason k))
     ] refl (panic_stands script s g ∙ h)
 
+-- nobody makes an entry but the program's clock
+clock-Maker : (script : Script) (s : State) (m : Option (ℕ × Move)) (k : Option (ℕ × ℕ)) → IsStill script s → Maker script s m k → is_some k ≡ true
+clock-Maker script s m k still (calls g i n does goes leaves) = absurd (goes_not script s g i still does goes)
+clock-Maker script s m k still (receives p t due call is come) = absurd (receives_not script s p t due still call is come)
+clock-Maker script s m k still (wakes g h) = absurd (wakes_not script s g still h)
+clock-Maker script s m k still (fires t func h) = absurd (fires_not script s t still func h)
+clock-Maker script s m k still (ticks to up most) = refl
+clock-Maker script s m k still (panics p reason h) = absurd (panics_not script s p.g p.case_no reason still h)
+
+moves-clock : (script : Script) (s : State) (e : Entry) → May script s e → is_some (change_of e).clock ≡ true → IsProgramClock e
+moves-clock script s (Entry.Clock zero to) may h = tt
+moves-clock script s (Entry.Clock (suc world) to) may h = may
+moves-clock script s _ may h = cc
+
 pub still-IsIdle : (script : Script) (s : State) → IsStill script s → IsIdle script s
-still-IsIdle script s still (Entry.Say g n) h = absurd (goes_not script s g (Instr.Say n) still h (λ w. refl))
-still-IsIdle script s still (Entry.Now g at) h = absurd (goes_not script s g Instr.Now still h.0 (λ w. refl))
-still-IsIdle script s still (Entry.Go g child f) h = absurd (goes_not script s g (Instr.Go f) still h.0 (λ w. refl))
-still-IsIdle script s still (Entry.End g) h = absurd (goes_not script s g Instr.Finish still h (λ w. refl))
-still-IsIdle script s still (Entry.Sleep g until) h = absurd (goes_not script s g (Instr.Sleep h.0) still h.1 (λ w. refl))
-still-IsIdle script s still (Entry.Wake g) h = absurd (wakes_not script s g still h)
-still-IsIdle script s still (Entry.New g t due) h = absurd (goes_not script s g (Instr.New t h.0) still h.1 (λ w. refl))
-still-IsIdle script s still (Entry.Stop g t was) h = absurd (goes_not script s g (Instr.Stop t) still h.0 (λ w. refl))
-still-IsIdle script s still (Entry.Reset g t was due) h = absurd (goes_not script s g (Instr.Reset t h.0) still h.1 (λ w. refl))
-still-IsIdle script s still (Entry.TRecv p t due next) h = absurd (receives_not script s p t due still h.0 h.2 h.3)
-still-IsIdle script s still (Entry.FireFunc t child) h = absurd (fires_not script s t still h.0 h.1)
-still-IsIdle script s still (Entry.Clock zero to) h = tt
-still-IsIdle script s still (Entry.Clock (suc world) to) h = h
-still-IsIdle script s still (Entry.Panic p reason) h = absurd (panics_not script s p.g p.case_no reason still h)
-still-IsIdle script s still (Entry.Finish outcome) h = h
+still-IsIdle script s still e may =
+    moves-clock script s e may (clock-Maker script s (change_of e).mover (change_of e).clock still (maker script s e may))
 
 -- ---- an idle program is still
-
--- the entry of who stands at an instruction without misuse
-does_not : (script : Script) (s : State) (g w : ℕ) (i : Instr) → IsGood script → IsIdle script s → clock_of s g ≡ clock s w → Does script s g i
-    → is_ready_instr script s w i ≡ true → ⊥
-does_not script s g w (Instr.Say n) good idle now does ready = idle (Entry.Say g n) does
-does_not script s g w Instr.Now good idle now does ready = idle (Entry.Now g (clock_of s g)) (does, refl)
-does_not script s g w (Instr.Sleep d) good idle now does ready = idle (Entry.Sleep g (sleep_end (clock_of s g) d)) (d, does, refl)
-does_not script s g w (Instr.Go f) good idle now does ready = idle (Entry.Go g (next_number s) f) (does, refl)
-does_not script s g w (Instr.New t d) good idle now does ready = idle (Entry.New g t (due_at (clock_of s g) d)) (d, does, refl)
-does_not script s g w (Instr.Stop t) good idle now does ready = idle (Entry.Stop g t (was_set script s t)) (does, refl)
-does_not script s g w (Instr.Reset t d) good idle now does ready = idle (Entry.Reset g t (was_set script s t) (due_at (clock_of s g) d)) (d, does, refl, refl)
-does_not script s g w (Instr.Recv t) good idle now does ready =
-    elim (due_of s t) as (λ o. due_of s t ≡ o → is_due o (clock s w) ≡ true → ⊥) [
-      | None ↦ λ is come. cc
-      | Some due ↦ λ is come.
-          let p : Party = record { g = g; case_no = 0 } in
-          let there : operation_at script s p ≡ Some t = ap (λ (o : Option Instr). elim o as (λ o. Option ℕ) [ None ↦ None | Some i ↦ operation i 0 ]) does.stands in
-          let receives : Receives script s p t = record { stands = there; calm = does.calm } in
-          let here : due ≤ clock_of s g = subst (λ now. due ≤ now) (sym now) (leb-true due (clock s w) come) in
-          idle (Entry.TRecv p t due None) (receives, names-Does script s g (Instr.Recv t) good does, is, here, refl)
-    ] refl ready
-does_not script s g w Instr.Finish good idle now does ready = idle (Entry.End g) does
 
 at_not : (script : Script) (s : State) (g : ℕ) (r : Goroutine) (i : Instr) → IsGood script → IsIdle script s → goroutine_at s g ≡ Some r → stands_at script s g ≡ Some i
     → (is_some (fault script s i) || is_ready_instr script s r.world i) ≡ true → ⊥
@@ -157,7 +138,7 @@ at_not script s g r i good idle e on ready =
     as (λ o. fault script s i ≡ o → (is_some o || is_ready_instr script s r.world i) ≡ true → ⊥) [
       | None ↦ λ is h.
           let calm : panic_at script s g ≡ None = panics ∙ ap (λ (o : Option Reason). elim o as (λ x. Option (ℕ × Reason)) [ None ↦ None | Some why ↦ Some (0, why) ]) is in
-          does_not script s g r.world i good idle now (record { stands = on; calm = calm }) h
+          idle-not script s g r.world i good idle now (record { stands = on; calm = calm }) h
       | Some reason ↦ λ is h.
           let misuse : panic_at script s g ≡ Some (0, reason) =
           panics ∙ ap (λ (o : Option Reason). elim o as (λ x. Option (ℕ × Reason)) [ None ↦ None | Some why ↦ Some (0, why) ]) is in

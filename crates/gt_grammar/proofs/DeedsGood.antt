@@ -18,7 +18,7 @@ use Rattle.gt_table.specs.Forms.{is_kind_function, is_kind_timer}
 use Rattle.gt_names.specs.declared.names.Declared.{Declared}
 use Rattle.gt_names.specs.Names.{Names, find}
 use Rattle.gt_grammar.specs.Deeds.{Deed, declares, opens, does, closes, decl_of, func_of, decls_in, code_in, funcs_in, script_in}
-use Rattle.gt_grammar.proofs.Rightly.{kind_in, names_in, Refers, Starts, Right}
+use Rattle.gt_grammar.proofs.Rightly.{kind_in, names_in, Ref, Refers, Starts, Right}
 use Rattle.gt_grammar.proofs.DeedNames.{Placed, placed, has_names, functions_are, HasFunc, Found, found}
 
 -- what a script has at the place of a name that is declared
@@ -72,35 +72,28 @@ is_timer-by (Some What.Function) Kind.Timer h e = cc
 is_timer-by (Some What.Function) Kind.AfterFunc h e = cc
 is_timer-by (Some What.Function) Kind.Function h e = cc
 
+-- what refers to a timer of either kind names one
+names-setting : (names : Names) (script : Script) → AllKnown names script → (t : ℕ) (r : Ref names) → is_kind_function r.declared.kind ≡ false → t ≡ r.declared.place → model_is_setting script t ≡ true
+names-setting names script known t r kind is =
+    let P : ℕ → Type 0 = λ x. model_is_setting script x ≡ true in
+    subst P (sym is) (is_setting-by (what_at script r.declared.place) r.declared.kind (known r.name r.declared r.known).kind kind)
+
+-- what stands last is of each instruction that sets a timer
 names_rightly-by : (names : Names) (script : Script) → AllKnown names script → (i : Instr) → Refers names i → NamesRightly script i
 names_rightly-by names script known (Instr.Say n) r = tt
 names_rightly-by names script known Instr.Now r = tt
 names_rightly-by names script known (Instr.Sleep d) r = r
 names_rightly-by names script known (Instr.Go f) r = omega (arith, r.2, func-within script r.0.name r.0.declared (known r.0.name r.0.declared r.0.known) r.1)
-names_rightly-by names script known (Instr.New t d) r =
-    let P : ℕ → Type 0 = λ x. model_is_setting script x ≡ true in
-    (subst P (sym r.2) (is_setting-by (what_at script r.0.declared.place) r.0.declared.kind (known r.0.name r.0.declared r.0.known).kind r.1), r.3)
-names_rightly-by names script known (Instr.Stop t) r =
-    let P : ℕ → Type 0 = λ x. model_is_setting script x ≡ true in
-    subst P (sym r.2) (is_setting-by (what_at script r.0.declared.place) r.0.declared.kind (known r.0.name r.0.declared r.0.known).kind r.1)
-names_rightly-by names script known (Instr.Reset t d) r =
-    let P : ℕ → Type 0 = λ x. model_is_setting script x ≡ true in
-    (subst P (sym r.2) (is_setting-by (what_at script r.0.declared.place) r.0.declared.kind (known r.0.name r.0.declared r.0.known).kind r.1), r.3)
+names_rightly-by names script known (Instr.Stop t) r = names-setting names script known t r.0 r.1 r.2
 names_rightly-by names script known (Instr.Recv o) r =
     let P : ℕ → Type 0 = λ x. model_is_timer script x ≡ true in
     subst P (sym r.2) (is_timer-by (what_at script r.0.declared.place) r.0.declared.kind (known r.0.name r.0.declared r.0.known).kind r.1)
 names_rightly-by names script known Instr.Finish r = absurd r
+names_rightly-by names script known _ r = (names-setting names script known _ r.0 r.1 r.2, r.3)
 
 no_finish : (names : Names) (i : Instr) → Refers names i → is_finish i ≡ false
-no_finish names (Instr.Say n) r = refl
-no_finish names Instr.Now r = refl
-no_finish names (Instr.Sleep d) r = refl
-no_finish names (Instr.Go f) r = refl
-no_finish names (Instr.New t d) r = refl
-no_finish names (Instr.Stop t) r = refl
-no_finish names (Instr.Reset t d) r = refl
-no_finish names (Instr.Recv o) r = refl
 no_finish names Instr.Finish r = absurd r
+no_finish names _ r = refl
 
 -- a code whose last instruction alone is the end
 abbrev Ends : Script → List Instr → Type 0

@@ -106,6 +106,7 @@ FitsRole names Role.Acts arg a (Step.Open decl) = ⊥
 FitsRole names Role.Acts arg a (Step.Do instr) = Refers names instr
 FitsRole names Role.Acts arg a Step.Close = ⊥
 
+-- what stands last is of each keyword that sets a timer
 pub fits : (names : Names) (k : Keyword) (w u : List ℕ) (a b : ℕ) → value_of names (form_of k).first w ≡ Some a → value_of names (form_of k).second u ≡ Some b
     → FitsRole names (form_of k).role (form_of k).first a (step_of k a b)
 fits names Keyword.Timer w u a b first second = (refl, refl, tt)
@@ -116,7 +117,6 @@ fits names Keyword.Say w u a b first second = tt
 fits names Keyword.Now w u a b first second = tt
 fits names Keyword.Sleep w u a b first second = duration-value w a first
 fits names Keyword.Go w u a b first second = function-by names w a (names w) refl first
-fits names Keyword.New w u a b first second = let r = setting-by names w a (names w) refl first in (r.0, r.1, r.2, duration-value u b second)
 fits names Keyword.Stop w u a b first second = setting-by names w a (names w) refl first
-fits names Keyword.Reset w u a b first second = let r = setting-by names w a (names w) refl first in (r.0, r.1, r.2, duration-value u b second)
 fits names Keyword.Recv w u a b first second = timer-by names w a (names w) refl first
+fits names _ w u a b first second = let r = setting-by names w a (names w) refl first in (r.0, r.1, r.2, duration-value u b second)

@@ -2,6 +2,7 @@ pub mod Numbers
 pub mod Shown
 pub mod Everyone
 pub mod GoesOn
+pub mod Rows
 pub mod Comes
 pub mod Panics
 pub mod Laws

@@ -1,10 +1,9 @@
 -- What the entries of a history tell is what the state after them has: one induction for all that is told, and then each quantity by the parts of a change.
-use Rattle.std.proofs.Common.{◌≡◌, ◌≢◌, ℕ, zero, suc, ◌+◌, ◌<◌, ◌==◌, List, [], ◌∷◌, ◌++◌, length, map, set, slice_index, refl, ap, subst, ◌∙◌, arith, if◌then◌else◌, Option, None, Some, Bool, true, false, is_some, IfSome, unwrap_or, length-append}
+use Rattle.std.proofs.Common.{◌≡◌, ◌≢◌, ℕ, zero, suc, ◌+◌, ◌<◌, ◌==◌, List, [], ◌∷◌, length, map, set, slice_index, refl, ap, subst, ◌∙◌, arith, if◌then◌else◌, Option, None, Some, Bool, true, false, is_some, IfSome, unwrap_or}
 use Rattle.gt_model.specs.declared.script.Script.{Script}
 use Rattle.gt_model.specs.declared.script.Decl.{Decl}
 use Rattle.gt_model.specs.declared.entry.Entry.{Entry}
 use Rattle.gt_model.specs.declared.entry.Limits.{Limits}
-use Rattle.gt_model.specs.declared.state.Goroutine.{Goroutine}
 use Rattle.gt_model.specs.declared.state.Timer.{Timer}
 use Rattle.gt_model.specs.declared.state.Ending.{Ending}
 use Rattle.gt_model.specs.Good.{IsGood}
@@ -12,14 +11,12 @@ use Rattle.gt_model.specs.Tables.{at, change}
 use Rattle.gt_rules.specs.State.{State, clock, timer_at, due_of}
 use Rattle.gt_rules.specs.declared.change.Move.{Move}
 use Rattle.gt_rules.specs.declared.change.Setting.{Setting}
-use Rattle.gt_rules.specs.declared.change.Start.{Start}
 use Rattle.gt_rules.specs.Change.{Change, change_of}
-use Rattle.gt_rules.specs.After.{after, first_state, option_or, moved, with_mover, with_starts, started_by, retimed, with_retimed, with_clock, set_due, set_again}
+use Rattle.gt_rules.specs.After.{after, first_state, option_or, with_mover, retimed, with_retimed, with_clock, set_due, set_again}
 use Rattle.gt_rules.specs.History.{AllLegal, state_after}
 use Rattle.gt_model.proofs.Items.{at-set_same, at-set_other, at-change_same, at-change_other}
-use Rattle.gt_model.proofs.Changes.{length-change_numbered}
 use Rattle.gt_facts.specs.Formed.{IsFormed}
-use Rattle.gt_facts.proofs.Formed.{formed-first, formed-Legal}
+use Rattle.gt_facts.proofs.Formed.{formed-first, formed-Legal, length-mover, length-starts}
 use Rattle.gt_facts.proofs.Fits.{Fits, FitsTimer, fits-Legal}
 use Rattle.gt_laws.specs.Told.{told, clock_by, clock_told, due_set, due_by, due_told, makes, made_by, made_told, ending_by, ending_told, entries_by, entries_told, started_told}
 use Rattle.gt_laws.specs.Told as told
@@ -57,18 +54,6 @@ ending-told script limits = shown-told script limits (λ (s : State). s.ending) 
 pub entries-told : (script : Script) (limits : Limits) (h : List Entry) → IsGood script → AllLegal script limits (first_state script) h
     → (state_after script (first_state script) h).entries ≡ entries_told h
 entries-told script limits = shown-told script limits (λ (s : State). s.entries) entries_by 0 (λ s e formed fits. refl) refl
-
-length-mover : (script : Script) (gs : List Goroutine) (m : Option (ℕ × Move)) → length (with_mover script gs m) ≡ length gs
-length-mover script gs None = refl
-length-mover script gs (Some m) = length-change_numbered gs m.0 (moved script m.1)
-
-length-starts : (script : Script) (s : State) (gs : List Goroutine) (xs : List Start) → length (with_starts script s gs xs) ≡ length gs + length xs
-length-starts script s gs [] = omega arith
-length-starts script s gs (x ∷ xs) =
-    let rest : length (with_starts script s (gs ++ started_by script s x ∷ []) xs) ≡ length (gs ++ started_by script s x ∷ []) + length xs =
-    length-starts script s (gs ++ started_by script s x ∷ []) xs in
-    let one : length (gs ++ started_by script s x ∷ []) ≡ length gs + 1 = length-append gs (started_by script s x ∷ []) in
-    omega arith
 
 pub started-told : (script : Script) (limits : Limits) (h : List Entry) → IsGood script → AllLegal script limits (first_state script) h
     → length (state_after script (first_state script) h).goroutines ≡ started_told h
@@ -117,12 +102,6 @@ due_in (Some r) = r.due
 due-in : (o : Option Timer) → (elim o as (λ o. Option ℕ) [ None ↦ None | Some r ↦ r.due ]) ≡ due_in o
 due-in None = refl
 due-in (Some r) = refl
-
--- what a timer has after a setting, by the timer that it had
-abbrev resettled : Timer → Setting → Option Timer → Option Timer
-resettled new (Setting.Made due) o = Some new
-resettled new (Setting.SetAnew due) o = set_again due new.period o
-resettled new (Setting.Ended due) o = set_due due o
 
 says-timer : {V : Type 0} (show : Option Timer → V) (timers : List (Option Timer)) (u t : ℕ) (f : Option Timer → Option Timer) (v : V)
     → f None ≡ None → show (f (at timers u)) ≡ v → show (at (change timers u f) t) ≡ (if u == t then v else show (at timers t))

@@ -136,11 +136,9 @@ denied = Entry.New 1 0 1 ∷ Entry.Sleep 1 (Some 5) ∷ Entry.Clock 0 5 ∷ Entr
 abbrev pub fires_stopped : List Entry
 fires_stopped = Entry.New 1 0 5 ∷ Entry.Stop 1 0 (Some true) ∷ Entry.Clock 0 5 ∷ Entry.FireFunc 0 2 ∷ []
 
--- a receive of the value of a setting that a reset ended
+-- a timer that is set anew, and due; a receive of the value of its first setting, which the reset ended
+abbrev pub set_again : List Entry
+set_again = Entry.New 1 0 1 ∷ Entry.Reset 1 0 (Some true) 15 ∷ Entry.Clock 0 15 ∷ []
+
 abbrev pub stale : List Entry
-stale =
-    Entry.New 1 0 1
-    ∷ Entry.Reset 1 0 (Some true) 15
-    ∷ Entry.Clock 0 15
-    ∷ Entry.TRecv (record { g = 1; case_no = 0 }) 0 1 None
-    ∷ []
+stale = set_again ++ Entry.TRecv (record { g = 1; case_no = 0 }) 0 1 None ∷ []

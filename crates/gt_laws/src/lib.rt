@@ -33,7 +33,7 @@ pub fn nothing_comes_early()
         → IsGood script → History script limits h outcome → AtEach (InTime script) h }
 {}
 
-/// No value of a setting that a stop, a reset or a receive ended is received, and none twice.
+/// No value of a setting that was ended is received, be it ended by a stop, by a later setting or by a receive: none is received twice.
 pub fn no_value_is_stale()
     ensures { (script : Script) (limits : Limits) (h : List Entry) (outcome : Outcome)
         → IsGood script → History script limits h outcome → AtEach IsFresh h }
@@ -119,7 +119,7 @@ pub fn an_early_wake_breaks_the_law()
     ensures wrong_time { ¬ AtEach (InTime broken.one_sleep) broken.wrong_time }
 {}
 
-/// A receive of the value of a setting that a reset ended is no history, nor is a stop that denies a setting, or a timer that fires after it was stopped.
+/// A receive of the value of a setting that a later one ended is no history, nor is a stop that denies a setting, or a timer that fires after it was stopped.
 pub fn a_stale_value_breaks_the_law()
     ensures stale { ¬ AtEach IsFresh broken.stale }
     ensures denied { ¬ AtEach IsFresh broken.denied }

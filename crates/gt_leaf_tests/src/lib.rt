@@ -17,6 +17,8 @@ mod scan;
 #[cfg(test)]
 mod sched;
 #[cfg(test)]
+mod sync;
+#[cfg(test)]
 mod tie;
 #[cfg(test)]
 mod word_table;

@@ -1,14 +1,13 @@
 -- A run before its first entry is served: nothing is set, and nobody has a mark.
-use Rattle.std.proofs.Common.{◌≡◌, ℕ, zero, suc, ◌+◌, ◌-◌, ◌<◌, ◌≤◌, nat_lt, cond, List, [], ◌∷◌, ◌++◌, length, length-append, map, slice_get, count_by, sum_by, refl, sym, ap, subst, ◌∙◌, arith, Option, None, Some, Bool, true, false, ◌⊎◌, inl, inr}
+use Rattle.std.proofs.Common.{◌≡◌, ℕ, zero, suc, ◌+◌, ◌-◌, ◌<◌, ◌≤◌, nat_lt, cond, List, [], ◌∷◌, ◌++◌, length, length-append, map, slice_get, count_by, refl, sym, ap, subst, ◌∙◌, arith, Option, None, Some, true, false, ◌⊎◌, inl, inr}
 use Rattle.std.proofs.lemmas.Option.{slice_get_within}
-use Rattle.std.proofs.lemmas.Bool.{le-ltb}
 use Rattle.gt_model.specs.declared.script.Script.{Script}
 use Rattle.gt_model.specs.declared.script.Decl.{Decl}
 use Rattle.gt_model.specs.declared.script.What.{What}
 use Rattle.gt_model.specs.declared.state.Timer.{Timer}
 use Rattle.gt_model.specs.declared.entry.Limits.{Limits}
 use Rattle.gt_model.specs.Tables.{at}
-use Rattle.gt_rules.specs.State.{State, due_of, sleeps_until, timer_at}
+use Rattle.gt_rules.specs.State.{due_of, sleeps_until, timer_at}
 use Rattle.gt_rules.specs.After.{first_state}
 use Rattle.gt_rec.specs.declared.RecKind.{RecKind}
 use Rattle.gt_rec.specs.Rec.{Rec, BitsRight}
@@ -17,11 +16,11 @@ use Rattle.gt_room.specs.Contents.{Contents}
 use Rattle.gt_lazy.specs.Slots.{LazyHeap, slot_with}
 use Rattle.gt_rows.specs.Agrees.{kind_by, kind_of_what, due_by, period_by, period_of_timer}
 use Rattle.gt_schedule.specs.Counts.{times}
-use Rattle.gt_schedule.specs.Schedule.{first_schedule, status_of, marks_at, mark_count}
+use Rattle.gt_schedule.specs.Schedule.{first_schedule, marks_at}
 use Rattle.gt_book.specs.View.{BookView, first_view}
 use Rattle.gt_runner.specs.declared.runner.Runner.{Runner}
 use Rattle.gt_runner.specs.Begun.{kind_at, AreFirst, AreUpTo}
-use Rattle.gt_runner.specs.Served.{IsWatched, AtKind, IsAt, AtNumber, IsTended, IsServed, MarkFitsAt, NamesTimers, is_heaped, record_count}
+use Rattle.gt_runner.specs.Served.{AtKind, IsAt, AtNumber, IsServed, MarkFitsAt, is_heaped, record_count}
 
 -- ---- the records, one by one
 

@@ -1,8 +1,7 @@
 -- What a whole call of a goroutine in hand does to a run.
-use Rattle.std.proofs.Common.{◌≡◌, ◌≢◌, ◌⊎◌, ℕ, zero, suc, ◌+◌, ◌-◌, ◌^◌, ◌<◌, ◌≤◌, List, [], ◌∷◌, length, set, slice_get, count_by, refl, sym, ap, subst, ◌∙◌, arith, Option, None, Some, IsSome, IsNone, IfSome, MatchOption, Bool, true, false, not, ◌||◌, is_some, is_none, inl, inr}
+use Rattle.std.proofs.Common.{◌≡◌, ◌≢◌, ℕ, zero, suc, ◌+◌, ◌<◌, ◌≤◌, List, [], ◌∷◌, length, set, slice_get, count_by, refl, sym, ap, subst, ◌∙◌, arith, Option, None, Some, IsNone, MatchOption, Bool, true, false, ◌||◌, is_some, inl, inr}
 use Rattle.std.specs.Option.{option_map}
 use Rattle.std.proofs.lemmas.Option.{slice_get_within}
-use Rattle.gt_model.specs.declared.script.Script.{Script}
 use Rattle.gt_model.specs.declared.script.Decl.{Decl}
 use Rattle.gt_model.specs.declared.script.What.{What}
 use Rattle.gt_model.specs.declared.script.Instr.{Instr}
@@ -10,41 +9,40 @@ use Rattle.gt_model.specs.declared.entry.Entry.{Entry}
 use Rattle.gt_model.specs.declared.entry.Reason.{Reason}
 use Rattle.gt_model.specs.declared.state.Goroutine.{Goroutine}
 use Rattle.gt_model.specs.declared.state.Mode.{Mode}
-use Rattle.gt_model.specs.Script.{what_at, names_timer, names_func}
+use Rattle.gt_model.specs.Script.{names_timer, names_func}
 use Rattle.gt_model.specs.Good.{is_setting, NamesRightly}
 use Rattle.gt_model.specs.declared.entry.Outcome.{Outcome}
-use Rattle.gt_model.proofs.Declared.{setting_declared, timer_setting}
-use Rattle.gt_rules.specs.State.{State, goroutine_at, stands_at, until_of, sleeps_until, clock_of}
+use Rattle.gt_model.proofs.Declared.{setting_declared}
+use Rattle.gt_rules.specs.State.{State, stands_at, until_of, sleeps_until, clock_of}
 use Rattle.gt_rules.specs.Panics.{fault}
-use Rattle.gt_rules.specs.Change.{Change, change_of}
+use Rattle.gt_rules.specs.Change.{change_of}
 use Rattle.gt_rules.specs.History.{ClockJumps}
 use Rattle.gt_facts.proofs.Lookups.{Standing, standing}
 use Rattle.gt_facts.proofs.Named.{names-instr_at}
 use Rattle.gt_rec.specs.declared.RecKind.{RecKind}
-use Rattle.gt_rec.specs.Rec.{Rec, needs_heap, has_channel}
+use Rattle.gt_rec.specs.Rec.{Rec}
 use Rattle.gt_rows.specs.Agrees.{kind_by, kind_of_what, of_declaration}
 use Rattle.gt_rows.specs.declared.answers.SetDone.{SetDone}
-use Rattle.gt_rows.specs.Lent.{IsLent, IsLentRec, IsKept}
-use Rattle.gt_rows.specs.Rows.{Parts, sets, SetsAt, SetsBy, SetRow, Arms, UnlessOver, stops, StopsAt, next_of}
+use Rattle.gt_rows.specs.Lent.{IsLent, IsKept}
+use Rattle.gt_rows.specs.Rows.{Parts, sets, SetsAt, SetsBy, SetRow, Arms, UnlessOver, next_of}
 use Rattle.gt_schedule.specs.declared.status.RunStatus.{RunStatus}
-use Rattle.gt_schedule.specs.Schedule.{Schedule, plainly, status_of, ticket_of, ServedBy}
+use Rattle.gt_schedule.specs.Schedule.{plainly, status_of, ticket_of, ServedBy}
 use Rattle.gt_schedule.proofs.Counting.{count-cons}
 use Rattle.gt_schedule.specs.Counts.{as_number}
 use Rattle.gt_book.specs.declared.step.Step.{Step}
 use Rattle.gt_book.specs.declared.answers.TimerOp.{TimerOp}
 use Rattle.gt_book.specs.declared.answers.Did.{Did}
-use Rattle.gt_book.specs.Steps.{step_of, step_of_instr, step_or_panic, Does, Steps}
+use Rattle.gt_book.specs.Steps.{step_of_instr, step_or_panic, Does, Steps}
 use Rattle.gt_book.specs.View.{BookView, Enters, IsLawful, Agrees, outcome_of}
 use Rattle.gt_book.proofs.Fitting.{Known, known}
 use Rattle.gt_book.proofs.Going.{IsStep, step-is, in_hand-goes, makes-served}
 use Rattle.gt_book.proofs.Passing.{enters-script, enters-limits}
 use Rattle.gt_runner.specs.declared.runner.Runner.{Runner}
-use Rattle.gt_runner.specs.Run.{IsAlone, Goes}
 use Rattle.gt_runner.specs.Calls.{HasRecord, After, Ready, WantsSet}
-use Rattle.gt_runner.specs.Served.{IsWatched, AtKind, IsAt, AtNumber, IsTended, IsServed, is_heaped, record_count, noted_at}
+use Rattle.gt_runner.specs.Served.{IsWatched, AtKind, IsAt, AtNumber, IsTended, is_heaped, record_count, noted_at}
 use Rattle.gt_runner.proofs.Fitting.{fit-enters, named-enters}
 use Rattle.gt_runner.proofs.Leaving.{Leaves}
-use Rattle.gt_runner.proofs.Tending.{Spares, tended-spared, Touches, tended-touched}
+use Rattle.gt_runner.proofs.Tending.{tended-spared, tended-touched}
 use Rattle.gt_runner.proofs.Touching.{stays-enters, sets-touches}
 use Rattle.gt_runner.proofs.Passes.{goes-enters, makes-no_clock}
 

@@ -1,15 +1,14 @@
 -- The heap learns of a change of a record, and the run is tended as before.
-use Rattle.std.proofs.Common.{◌≡◌, ◌≢◌, ℕ, zero, suc, ◌+◌, ◌<◌, ◌≤◌, nat_lt, if◌then◌else◌, List, [], ◌∷◌, All, length, set, slice_get, slice_index_or, get_or, count_by, map, refl, sym, ap, subst, ◌∙◌, arith, Option, None, Some, IsSome, IsTrue, IsSomeAnd, IfSome, Bool, true, false, ◌||◌, ◌==◌, is_some, inl, inr}
+use Rattle.std.proofs.Common.{◌≡◌, ℕ, ◌+◌, ◌<◌, ◌≤◌, nat_lt, if◌then◌else◌, List, [], ◌∷◌, All, length, set, slice_get, slice_index_or, count_by, map, refl, sym, ap, subst, ◌∙◌, arith, Option, None, Some, IsSome, IsTrue, IsSomeAnd, Bool, true, false, ◌==◌, is_some, inl, inr}
 use Rattle.std.specs.List.{find}
 use Rattle.std.specs.Option.{option_map}
 use Rattle.std.proofs.lemmas.Bool.{cases_eq, cases_lt, eq-eqb, ltb-false}
 use Rattle.std.proofs.lemmas.List.Elements.{All-head, All-tail}
 use Rattle.std.proofs.lemmas.Option.{slice_get_within}
-use Rattle.gt_model.specs.declared.script.Script.{Script}
 use Rattle.gt_rec.specs.declared.RecKind.{RecKind}
 use Rattle.gt_rec.specs.Rec.{Rec, BitsRight, needs_heap, has_channel, shown}
 use Rattle.gt_rec.specs.Changes.{out_of_heap, rekeyed}
-use Rattle.gt_lazy.specs.Slots.{LazyHeap, Slot, slot_with, unscanned, ChangesOnly, StandsAt, Holds, IsSettled, Scans, scanned_slot}
+use Rattle.gt_lazy.specs.Slots.{LazyHeap, Slot, slot_with, unscanned, StandsAt, IsSettled, Scans, scanned_slot}
 use Rattle.gt_lazy.specs.Cleaning.{cleaned}
 use Rattle.gt_lazy.specs.Running.{is_stale}
 use Rattle.gt_schedule.specs.Counts.{as_number}
@@ -18,9 +17,9 @@ use Rattle.gt_book.specs.View.{BookView}
 use Rattle.gt_rows.specs.Agrees.{kind_by, due_by, period_by}
 use Rattle.gt_rows.specs.Lent.{IsKept}
 use Rattle.gt_runner.specs.declared.runner.Runner.{Runner}
-use Rattle.gt_runner.specs.Served.{IsWatched, AtKind, IsAt, AtNumber, IsTended, is_heaped}
+use Rattle.gt_runner.specs.Served.{IsWatched, AtKind, AtNumber, IsTended, is_heaped}
 use Rattle.gt_runner.specs.Settled.{Held, StaleHead, HeadIsFresh, ScannedAreSettled, IsClean, stale_count, is_early}
-use Rattle.gt_runner.proofs.Tending.{KeepsNote, Stays, Touches, count-set, get-set_same, get-set_other}
+use Rattle.gt_runner.proofs.Tending.{Stays, Touches, count-set, get-set_same, get-set_other}
 use Rattle.gt_runner.proofs.Touching.{at-kind}
 
 -- ---- who stands in the heap

@@ -10,7 +10,7 @@ use Rattle.gt_model.specs.declared.state.Mode.{Mode}
 use Rattle.gt_model.specs.Tables.{numbered, change_numbered}
 use Rattle.gt_model.proofs.Items.{HasNumber, has_number, numbered-change_same, numbered-change_other, numbered-push_same, numbered-push_other}
 use Rattle.gt_model.proofs.Changes.{length-change_numbered}
-use Rattle.gt_rules.specs.State.{State, goroutine_at, stands, stands_at}
+use Rattle.gt_rules.specs.State.{State, stands, stands_at}
 use Rattle.gt_rules.specs.After.{after, changed, moved, with_mover, with_starts, started_by}
 use Rattle.gt_rules.specs.Change.{Change, change_of}
 use Rattle.gt_rules.specs.History.{state_after}
@@ -19,7 +19,7 @@ use Rattle.gt_rules.specs.declared.change.Start.{Start}
 use Rattle.gt_machine.specs.Outcomes.{due_outcome}
 use Rattle.gt_schedule.specs.declared.status.RunStatus.{RunStatus}
 use Rattle.gt_schedule.specs.Schedule.{Schedule, plainly, status_of, is_in_hand, is_parked, marks_at, gone_on, turned, moved_by, begun_by, with_new, rescheduled, scheduled, schedule_after, MayMove, ServedBy}
-use Rattle.gt_book.specs.View.{BookView, Enters, AreWoken, IsLawful, with_schedule, is_move, goer, maker, finish_by, finish_due, is_firm_at}
+use Rattle.gt_book.specs.View.{BookView, Enters, AreWoken, IsLawful, with_schedule, is_move, goer, maker, finish_by, is_firm_at}
 use Rattle.std.proofs.Common.{eqb}
 use Rattle.std.proofs.lemmas.Bool.{eqb-true}
 use Rattle.gt_model.specs.Script.{is_timer}

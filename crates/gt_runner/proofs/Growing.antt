@@ -1,13 +1,12 @@
 -- The record of a sleep is made before the first sleep of its goroutine.
-use Rattle.std.proofs.Common.{◌≡◌, ◌≢◌, ℕ, zero, suc, ◌+◌, ◌<◌, ◌≤◌, nat_lt, cond, List, [], ◌∷◌, ◌++◌, length, length-append, slice_get, count_by, refl, sym, ap, subst, ◌∙◌, arith, Option, None, Some, IsSomeAnd, Bool, true, false, inl, inr}
+use Rattle.std.proofs.Common.{◌≡◌, ◌≢◌, ℕ, zero, suc, ◌+◌, ◌≤◌, cond, List, [], ◌∷◌, ◌++◌, length, length-append, slice_get, count_by, refl, sym, ap, subst, ◌∙◌, arith, Option, None, Some, false, inl, inr}
 use Rattle.std.proofs.lemmas.Bool.{cases_eq, le-ltb}
 use Rattle.gt_model.specs.declared.script.Decl.{Decl}
 use Rattle.gt_rec.specs.declared.RecKind.{RecKind}
 use Rattle.gt_rec.specs.Rec.{Rec, BitsRight}
 use Rattle.gt_rec.specs.Changes.{unset_rec}
 use Rattle.gt_room.specs.Contents.{Contents}
-use Rattle.gt_lazy.specs.Slots.{slot_with}
-use Rattle.gt_rows.specs.Agrees.{kind_by, kind_of_what, due_by, period_by, period_of_timer}
+use Rattle.gt_rows.specs.Agrees.{kind_by, kind_of_what, period_of_timer}
 use Rattle.gt_rules.specs.State.{timer_at}
 use Rattle.gt_schedule.proofs.Counting.{count-cons}
 use Rattle.gt_book.specs.View.{BookView}

@@ -1,8 +1,7 @@
 -- What an entry leaves to the records that it does not touch.
-use Rattle.std.proofs.Common.{◌≡◌, ◌≢◌, ◌⊎◌, ℕ, zero, suc, ◌+◌, ◌-◌, ◌<◌, ◌≤◌, ◌==◌, nat_lt, cond, List, [], ◌∷◌, length, sum_by, slice_get, refl, sym, ap, subst, ◌∙◌, arith, Option, None, Some, IfSome, Bool, true, false, inl, inr}
-use Rattle.std.proofs.lemmas.Bool.{cases_eq, eq-eqb, ne_eqb, ltb-true, ltb-false}
+use Rattle.std.proofs.Common.{◌≡◌, ◌≢◌, ◌⊎◌, ℕ, suc, ◌+◌, ◌-◌, ◌≤◌, nat_lt, cond, List, [], ◌∷◌, length, sum_by, slice_get, refl, sym, ap, ◌∙◌, arith, Option, None, Some, IfSome, Bool, true, false, inl, inr}
+use Rattle.std.proofs.lemmas.Bool.{cases_eq, eq-eqb, ne_eqb, ltb-false}
 use Rattle.std.proofs.lemmas.List.Sums.{sum_by-cons}
-use Rattle.gt_model.specs.Tables.{numbered}
 use Rattle.gt_model.specs.declared.script.Script.{Script}
 use Rattle.gt_model.specs.declared.entry.Entry.{Entry}
 use Rattle.gt_rules.specs.State.{State, due_of, sleeps_until}
@@ -11,10 +10,10 @@ use Rattle.gt_rules.specs.Change.{Change, change_of}
 use Rattle.gt_rules.specs.declared.change.Move.{Move}
 use Rattle.gt_rules.specs.declared.change.Setting.{Setting}
 use Rattle.gt_schedule.specs.Counts.{times}
-use Rattle.gt_schedule.specs.Schedule.{Schedule, marks_at, mark_count}
+use Rattle.gt_schedule.specs.Schedule.{mark_count}
 use Rattle.gt_book.specs.View.{BookView, Enters, IsLawful}
 use Rattle.gt_rows.specs.Agrees.{due_by, period_by}
-use Rattle.gt_rows.specs.Frames.{due_after, until_after, timer_touched, sleep_touched, touched, period_after, timer_period_touched, period_touched}
+use Rattle.gt_rows.specs.Frames.{due_after, until_after, timer_touched, sleep_touched, period_after, timer_period_touched}
 use Rattle.gt_rows.proofs.Frames.{enters-dues, enters-periods, enters-marks}
 
 -- a change does not touch the record of number j: its timer is another, and who moves is another or neither slept nor falls asleep

@@ -1,5 +1,5 @@
 -- Where nobody runs, a record needs the heap exactly where its time counts.
-use Rattle.std.proofs.Common.{◌≡◌, ◌≢◌, ℕ, zero, suc, ◌+◌, ◌-◌, ◌<◌, ◌≤◌, ◌==◌, nat_lt, cond, List, [], ◌∷◌, length, slice_get, refl, sym, ap, subst, ◌∙◌, arith, Option, None, Some, IsSome, Bool, true, false, not, ◌&&◌, ◌||◌, is_some, inl, inr, eq-eqb}
+use Rattle.std.proofs.Common.{◌≡◌, ℕ, zero, suc, ◌-◌, ◌<◌, ◌≤◌, ◌==◌, nat_lt, cond, List, [], ◌∷◌, length, slice_get, refl, sym, ap, subst, ◌∙◌, arith, Option, None, Some, Bool, true, false, not, ◌&&◌, ◌||◌, is_some, eq-eqb}
 use Rattle.std.specs.Option.{option_or, option_map}
 use Rattle.std.proofs.lemmas.Bool.{ltb-true, ltb-false, lt-ltb, le-ltb}
 use Rattle.std.proofs.lemmas.Option.{slice_get_within}
@@ -9,9 +9,8 @@ use Rattle.gt_model.specs.declared.script.What.{What}
 use Rattle.gt_model.specs.declared.script.Instr.{Instr}
 use Rattle.gt_model.specs.declared.state.Goroutine.{Goroutine}
 use Rattle.gt_model.specs.declared.state.Timer.{Timer}
-use Rattle.gt_model.specs.declared.state.Mode.{Mode}
 use Rattle.gt_model.specs.Script.{what_at, is_func, is_timer, names_func, names_timer}
-use Rattle.gt_rules.specs.State.{State, goroutine_at, timer_at, stands_at, until_of, sleeps_until, due_of}
+use Rattle.gt_rules.specs.State.{State, goroutine_at, timer_at, until_of, sleeps_until, due_of}
 use Rattle.gt_rules.specs.Counted.{sleep_of, is_awaited, counted_timer}
 use Rattle.gt_facts.proofs.Lookups.{Standing, standing}
 use Rattle.gt_facts.proofs.Named.{names-instr_at}
@@ -22,8 +21,8 @@ use Rattle.gt_book.specs.Least.{NobodyRuns, counted_of}
 use Rattle.gt_book.specs.View.{BookView, IsLawful}
 use Rattle.gt_rows.specs.Agrees.{kind_by, kind_of_what, due_by, of_declaration}
 use Rattle.gt_runner.specs.declared.runner.Runner.{Runner}
-use Rattle.gt_runner.specs.Served.{IsWatched, AtKind, IsAt, AtNumber, IsTended, IsServed, MarkFitsAt}
-use Rattle.gt_runner.proofs.Watching.{stands-marked, marked-stands, awaited-stands, stands-awaited, right-of, left-of}
+use Rattle.gt_runner.specs.Served.{IsWatched, AtKind, IsAt, AtNumber, IsServed, MarkFitsAt}
+use Rattle.gt_runner.proofs.Watching.{stands-marked, marked-stands, awaited-stands, stands-awaited, right-of}
 
 -- ---- what a record shows that has no value
 

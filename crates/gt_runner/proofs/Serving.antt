@@ -1,21 +1,21 @@
 -- The head whose time has come is served: one entry is made, and the run is tended as before.
-use Rattle.std.proofs.Common.{◌≡◌, ◌≢◌, eqb, ℕ, zero, suc, ◌+◌, ◌-◌, ◌<◌, ◌≤◌, ◌==◌, nat_lt, nat_le, cond, if◌then◌else◌, List, [], ◌∷◌, length, set, slice_get, refl, sym, ap, subst, ◌∙◌, arith, Option, None, Some, IsSome, IsTrue, IsSomeAnd, MatchOption, Bool, true, false, not, ◌&&◌, ◌||◌, is_some, is_none, eq-eqb, inl, inr}
+use Rattle.std.proofs.Common.{◌≡◌, ◌≢◌, eqb, ℕ, zero, suc, ◌+◌, ◌-◌, ◌<◌, ◌≤◌, nat_lt, nat_le, if◌then◌else◌, List, [], ◌∷◌, length, set, slice_get, refl, sym, ap, subst, ◌∙◌, arith, Option, None, Some, IsSome, IsTrue, IsSomeAnd, MatchOption, Bool, true, false, not, ◌&&◌, ◌||◌, is_some, is_none, eq-eqb, inl, inr}
 use Rattle.std.specs.Option.{option_or, option_map, option_and_then}
-use Rattle.std.proofs.lemmas.Bool.{cases_eq, le-ltb, le-leb, ltb-true, eqb-true}
+use Rattle.std.proofs.lemmas.Bool.{le-ltb, le-leb, ltb-true, eqb-true}
 use Rattle.gt_model.specs.declared.script.Instr.{Instr}
 use Rattle.gt_model.specs.declared.entry.Entry.{Entry}
 use Rattle.gt_model.specs.declared.entry.Party.{Party}
 use Rattle.gt_model.specs.declared.entry.Outcome.{Outcome}
-use Rattle.gt_rules.specs.State.{State, clock, stands_at, sleeps_until, next_number}
+use Rattle.gt_rules.specs.State.{clock, sleeps_until, next_number}
 use Rattle.gt_rules.specs.Legal.{operation_at}
-use Rattle.gt_rules.specs.Change.{Change, change_of}
+use Rattle.gt_rules.specs.Change.{change_of}
 use Rattle.gt_rules.specs.History.{ClockJumps}
-use Rattle.gt_facts.proofs.Lookups.{AtOperation, at_operation, stands_recv}
+use Rattle.gt_facts.proofs.Lookups.{stands_recv}
 use Rattle.gt_rec.specs.declared.RecKind.{RecKind}
 use Rattle.gt_rec.specs.Ticks.{due_left}
-use Rattle.gt_rec.specs.Rec.{Rec, BitsRight, needs_heap, has_channel, in_flight, due_of_send, shown, is_awaited}
+use Rattle.gt_rec.specs.Rec.{Rec, needs_heap, has_channel, in_flight, due_of_send, shown, is_awaited}
 use Rattle.gt_rec.specs.Changes.{disarmed, out_of_heap, begun, send_begun, ended, received, taken}
-use Rattle.gt_lazy.specs.Slots.{LazyHeap, slot_with, Scans, StandsAt}
+use Rattle.gt_lazy.specs.Slots.{LazyHeap, Scans}
 use Rattle.gt_lazy.specs.Running.{is_stale, head_answer, head_run, due_answer, run_as, send_answer}
 use Rattle.gt_lazy.specs.declared.answer.Ran.{Ran}
 use Rattle.gt_rows.specs.declared.answers.HeadDone.{HeadDone}
@@ -23,16 +23,16 @@ use Rattle.gt_rows.specs.declared.answers.Delivered.{Delivered}
 use Rattle.gt_rows.specs.Lent.{IsKept, IsLentRec}
 use Rattle.gt_rows.specs.Rows.{Pair, Parts, Answers, HeadRow, HeadBy, FiresAs, Fires, Runs, DeliverRow, DeliversBy, DeliversTo, Gives}
 use Rattle.gt_schedule.specs.Counts.{as_number, often}
-use Rattle.gt_schedule.specs.Schedule.{Schedule, plainly, status_of, is_parked, is_in_hand, parties_at, mark_count, ServedBy}
-use Rattle.gt_book.specs.View.{BookView, Enters, IsLawful, outcome_of, is_at_receive, is_parked_at}
+use Rattle.gt_schedule.specs.Schedule.{plainly, status_of, is_parked, is_in_hand, parties_at, mark_count, ServedBy}
+use Rattle.gt_book.specs.View.{BookView, Enters, outcome_of, is_at_receive, is_parked_at}
 use Rattle.gt_book.proofs.Fitting.{first-waiting, asleep-parked}
 use Rattle.gt_runner.specs.declared.runner.Runner.{Runner}
-use Rattle.gt_runner.specs.Served.{IsWatched, IsTended, IsServed, is_heaped}
+use Rattle.gt_runner.specs.Served.{IsWatched, is_heaped}
 use Rattle.gt_runner.specs.Serves.{IsIdleRun, IsDueHead, Passing}
 use Rattle.gt_runner.proofs.Fitting.{fit-enters, named-enters}
 use Rattle.gt_runner.proofs.Leaving.{Leaves}
 use Rattle.gt_runner.proofs.Tending.{tended-touched}
-use Rattle.gt_runner.proofs.Touching.{Rests, rests-touches}
+use Rattle.gt_runner.proofs.Touching.{rests-touches}
 use Rattle.gt_model.specs.Script.{what_at, names_timer}
 use Rattle.gt_facts.proofs.Lookups.{sleeper}
 use Rattle.gt_rows.specs.Agrees.{kind_by, due_by, of_declaration}

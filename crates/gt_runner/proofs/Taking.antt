@@ -1,18 +1,17 @@
 -- A goroutine is taken, goes on, and a turn ends.
-use Rattle.std.proofs.Common.{◌≡◌, ◌≢◌, ℕ, ◌+◌, ◌-◌, ◌*◌, ◌<◌, ◌≤◌, List, [], ◌∷◌, length, slice_get, refl, sym, ap, subst, ◌∙◌, arith, Option, None, Some, inl, inr}
+use Rattle.std.proofs.Common.{◌≡◌, ◌≢◌, ℕ, ◌+◌, ◌<◌, ◌≤◌, length, slice_get, refl, sym, ap, subst, ◌∙◌, arith, Option, None, Some, inl, inr}
 use Rattle.gt_model.specs.Tables.{numbered}
 use Rattle.gt_model.proofs.Changes.{length-change_numbered}
 use Rattle.gt_model.proofs.Items.{numbered-change_other}
 use Rattle.gt_schedule.specs.declared.status.RunStatus.{RunStatus}
 use Rattle.gt_schedule.specs.Schedule.{Schedule, status_of, marks_at, taken, queued_count}
 use Rattle.gt_book.specs.declared.answers.Pick.{Pick}
-use Rattle.gt_book.specs.Least.{NobodyRuns}
 use Rattle.gt_book.specs.Steps.{Takes}
 use Rattle.gt_book.specs.View.{BookView, IsLawful, outcome_of, with_schedule}
 use Rattle.gt_book.proofs.Passing.{taken-in_hand}
 use Rattle.gt_runner.specs.declared.runner.Runner.{Runner}
-use Rattle.gt_runner.specs.Run.{HandsFree, IsAlone, Passes, Goes, GoesOn, hand, turn_left}
-use Rattle.gt_runner.specs.Served.{MarkFits, MarkFitsAt, awaited_by, IsTended, IsServed, NamesTimers}
+use Rattle.gt_runner.specs.Run.{IsAlone, Passes, Goes, hand, turn_left}
+use Rattle.gt_runner.specs.Served.{MarkFits, awaited_by, IsServed}
 use Rattle.gt_runner.specs.Serves.{IsTaken, ButMarks}
 use Rattle.gt_runner.proofs.Tending.{number-stays}
 use Rattle.gt_runner.proofs.Turning.{taken-queued}

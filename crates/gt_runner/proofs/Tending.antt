@@ -1,17 +1,17 @@
 -- A section of one record tends the others as they were.
-use Rattle.std.proofs.Common.{◌≡◌, ◌≢◌, ℕ, zero, suc, ◌+◌, ◌<◌, ◌≤◌, List, [], ◌∷◌, length, set, slice_get, count_by, refl, sym, ap, subst, ◌∙◌, arith, Option, None, Some, IsSome, IsSomeAnd, Bool, true, false, inl, inr}
+use Rattle.std.proofs.Common.{◌≡◌, ◌≢◌, ℕ, zero, suc, ◌+◌, ◌≤◌, List, [], ◌∷◌, length, set, slice_get, count_by, refl, sym, ap, subst, ◌∙◌, arith, Option, None, Some, IsSomeAnd, Bool, inl, inr}
 use Rattle.std.proofs.lemmas.Bool.{cases_eq}
 use Rattle.std.proofs.lemmas.List.{length-set}
 use Rattle.gt_rec.specs.declared.RecKind.{RecKind}
-use Rattle.gt_rec.specs.Rec.{Rec, needs_heap, has_channel, shown}
-use Rattle.gt_lazy.specs.Slots.{LazyHeap, Slot, slot_with}
+use Rattle.gt_rec.specs.Rec.{Rec}
+use Rattle.gt_lazy.specs.Slots.{LazyHeap, slot_with}
 use Rattle.gt_schedule.specs.Counts.{as_number}
 use Rattle.gt_schedule.specs.Schedule.{mark_count, most_goroutines}
 use Rattle.gt_schedule.proofs.Counting.{count-cons}
 use Rattle.gt_model.specs.declared.script.Script.{Script}
 use Rattle.gt_book.specs.View.{BookView}
-use Rattle.gt_rows.specs.Agrees.{Agrees, kind_by, due_by, period_by}
-use Rattle.gt_rows.specs.Lent.{IsKept, IsLentRec, IsPlaced}
+use Rattle.gt_rows.specs.Agrees.{kind_by, due_by, period_by}
+use Rattle.gt_rows.specs.Lent.{IsKept}
 use Rattle.gt_runner.specs.declared.runner.Runner.{Runner}
 use Rattle.gt_runner.specs.Served.{IsWatched, AtKind, IsAt, AtNumber, IsTended, is_heaped, record_count}
 

@@ -5,9 +5,8 @@ use Rattle.gt_model.specs.declared.entry.Outcome.{Outcome}
 use Rattle.gt_model.specs.Times.{greatest_time}
 use Rattle.gt_model.specs.Tables.{least}
 use Rattle.gt_rules.specs.State.{clock, due_of, sleeps_until}
-use Rattle.gt_rules.specs.Change.{change_of}
 use Rattle.gt_rules.specs.Counted.{counted}
-use Rattle.gt_rules.specs.Finish.{IsIdle, IsJump}
+use Rattle.gt_rules.specs.Finish.{IsIdle}
 use Rattle.gt_rec.specs.Rec.{Rec, needs_heap}
 use Rattle.gt_lazy.specs.Slots.{Slot, StandsAt}
 use Rattle.gt_lazy.specs.Running.{is_stale}
@@ -17,14 +16,13 @@ use Rattle.gt_book.specs.View.{BookView, Enters, IsLawful, outcome_of, with_entr
 use Rattle.gt_book.proofs.Counting.{least-counted, none-counted}
 use Rattle.gt_book.proofs.Idling.{idle-none, jumps-least, due-time, sleep-time}
 use Rattle.gt_runner.specs.declared.runner.Runner.{Runner}
-use Rattle.gt_runner.specs.Served.{IsTended, IsServed, MarkFitsAt, NamesTimers, IsWatched}
-use Rattle.gt_runner.specs.Settled.{Held, IsClean}
+use Rattle.gt_runner.specs.Served.{IsTended, MarkFitsAt, NamesTimers, IsWatched}
+use Rattle.gt_runner.specs.Settled.{IsClean}
 use Rattle.gt_runner.specs.Serves.{IsIdleRun, IsDueHead, Passing}
 use Rattle.gt_runner.proofs.Fitting.{fit-enters, named-enters}
 use Rattle.gt_runner.proofs.Needing.{Needing, needs-counted, counted-needing, shown-when}
 use Rattle.gt_runner.proofs.Cleanings.{FirstIs, head-stands}
 use Rattle.gt_runner.proofs.Calling.{tended-plain}
-use Rattle.gt_runner.proofs.Serving.{head-needs, head-when}
 use Rattle.gt_runner.proofs.Passes.{moves-enters, moves-deadlock}
 use Rattle.gt_runner.specs.Run.{Moves}
 

@@ -1,24 +1,22 @@
 -- What each section does to a run: it touches one record, and leaves the others alone.
-use Rattle.std.proofs.Common.{◌≡◌, ◌≢◌, ℕ, zero, suc, ◌+◌, ◌-◌, ◌^◌, ◌<◌, ◌≤◌, nat_lt, cond, min, unwrap_or, ◌||◌, List, [], ◌∷◌, length, set, slice_get, refl, sym, ap, subst, ◌∙◌, arith, Option, None, Some, IsSome, IsNone, IsSomeAnd, MatchOption, Bool, true, false, not, ◌&&◌, is_some, is_none, inl, inr}
+use Rattle.std.proofs.Common.{◌≡◌, ◌≢◌, ℕ, ◌+◌, ◌-◌, ◌^◌, ◌<◌, ◌≤◌, nat_lt, cond, min, unwrap_or, ◌||◌, List, [], set, slice_get, refl, sym, ap, subst, ◌∙◌, arith, Option, None, Some, IsSome, IsSomeAnd, Bool, true, false, not, ◌&&◌, is_some, is_none}
 use Rattle.std.proofs.lemmas.Bool.{lt-ltb}
 use Rattle.gt_model.specs.declared.entry.Entry.{Entry}
-use Rattle.gt_model.specs.declared.entry.Outcome.{Outcome}
 use Rattle.gt_rules.specs.Change.{change_of}
-use Rattle.gt_rec.specs.declared.RecKind.{RecKind}
 use Rattle.gt_rec.specs.Rec.{Rec, needs_heap, has_channel}
-use Rattle.gt_rec.specs.Changes.{armed, in_heap, more_blocked, less_blocked}
+use Rattle.gt_rec.specs.Changes.{armed, more_blocked, less_blocked}
 use Rattle.gt_model.specs.Tables.{numbered}
 use Rattle.gt_lazy.specs.Slots.{LazyHeap, slot_with}
 use Rattle.gt_schedule.specs.Counts.{as_number, times}
 use Rattle.gt_schedule.specs.Schedule.{Schedule, mark_count, marked, unmarked}
-use Rattle.gt_book.specs.View.{BookView, Enters, IsLawful, outcome_of, with_schedule}
+use Rattle.gt_book.specs.View.{BookView, Enters, IsLawful, with_schedule}
 use Rattle.gt_book.proofs.Passing.{enters-script, enters-limits}
 use Rattle.gt_rows.specs.declared.answers.SetDone.{SetDone}
 use Rattle.gt_rows.specs.Agrees.{kind_by}
-use Rattle.gt_rows.specs.Lent.{IsKept, Joins, Settles, joins}
-use Rattle.gt_rows.specs.Rows.{Parts, Arms, Answers, note_of, told_answer, set_answer}
+use Rattle.gt_rows.specs.Lent.{IsKept, Settles, joins}
+use Rattle.gt_rows.specs.Rows.{Arms}
 use Rattle.gt_runner.specs.declared.runner.Runner.{Runner}
-use Rattle.gt_runner.specs.Served.{IsWatched, AtKind, IsAt, AtNumber, is_heaped, early_due, least_of, noted_with, noted_at}
+use Rattle.gt_runner.specs.Served.{IsWatched, AtKind, IsAt, is_heaped, early_due, least_of, noted_with, noted_at}
 use Rattle.gt_runner.proofs.Marks.{count-marked_same, count-marked_other, count-unmarked_same, count-unmarked_other}
 use Rattle.gt_runner.proofs.Leaving.{Leaves, leaves-due, leaves-period, enters-mark_count}
 use Rattle.gt_runner.proofs.Tending.{KeepsNote, Stays, Touches}

@@ -1,21 +1,18 @@
 -- A goroutine that was taken is counted no more.
-use Rattle.std.proofs.Common.{◌≡◌, ◌≢◌, eqb, ℕ, zero, suc, ◌+◌, ◌-◌, ◌<◌, ◌≤◌, nat_lt, cond, if◌then◌else◌, List, [], ◌∷◌, length, set, slice_get, refl, sym, ap, subst, ◌∙◌, arith, Option, None, Some, Bool, true, false, eq-eqb, inl, inr}
+use Rattle.std.proofs.Common.{◌≡◌, ℕ, ◌<◌, ◌≤◌, cond, if◌then◌else◌, List, [], ◌∷◌, length, set, slice_get, refl, sym, ap, subst, ◌∙◌, arith, Option, None, Some, true, eq-eqb, inl, inr}
 use Rattle.std.proofs.lemmas.Bool.{lt-ltb, cases_eq}
 use Rattle.gt_model.specs.Tables.{numbered}
 use Rattle.gt_model.specs.Script.{is_timer}
 use Rattle.gt_model.proofs.Declared.{timer_setting}
 use Rattle.gt_rec.specs.Rec.{Rec, has_channel}
 use Rattle.gt_rec.specs.Changes.{less_blocked}
-use Rattle.gt_lazy.specs.Slots.{LazyHeap}
-use Rattle.gt_rows.specs.Agrees.{kind_by}
 use Rattle.gt_rows.specs.Lent.{IsLentRec, IsPlaced}
 use Rattle.gt_rows.specs.Rows.{UnblockRow}
-use Rattle.gt_schedule.specs.declared.status.RunStatus.{RunStatus}
-use Rattle.gt_schedule.specs.Counts.{as_number, times}
-use Rattle.gt_schedule.specs.Schedule.{Schedule, status_of, marks_at, mark_count, unmarked, without_first}
+use Rattle.gt_schedule.specs.Counts.{times}
+use Rattle.gt_schedule.specs.Schedule.{Schedule, marks_at, mark_count, unmarked, without_first}
 use Rattle.gt_book.specs.View.{BookView, with_schedule}
 use Rattle.gt_runner.specs.declared.runner.Runner.{Runner}
-use Rattle.gt_runner.specs.Served.{NamesTimers, IsTended, IsServed, IsServedBut, MarkFits, MarkFitsAt, awaited_by}
+use Rattle.gt_runner.specs.Served.{NamesTimers, IsServed, MarkFits, MarkFitsAt, awaited_by}
 use Rattle.gt_runner.specs.Calls.{HasRecord}
 use Rattle.gt_runner.specs.Serves.{IsTaken, ButMarks}
 use Rattle.gt_runner.proofs.Marks.{mark-counts}

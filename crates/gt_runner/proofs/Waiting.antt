@@ -3,15 +3,12 @@ use Rattle.std.proofs.Common.{◌≡◌, ◌≢◌, ◌⊎◌, ℕ, zero, suc, �
 use Rattle.std.specs.Option.{option_and_then}
 use Rattle.gt_model.specs.declared.script.Instr.{Instr}
 use Rattle.gt_model.specs.declared.entry.Entry.{Entry}
-use Rattle.gt_model.specs.declared.entry.Outcome.{Outcome}
 use Rattle.gt_model.specs.Tables.{numbered}
-use Rattle.gt_rules.specs.State.{stands_at, clock, clock_of}
-use Rattle.gt_rules.specs.Legal.{due_at}
-use Rattle.gt_rules.specs.Change.{change_of}
+use Rattle.gt_rules.specs.State.{stands_at, clock}
 use Rattle.gt_rec.specs.declared.RecKind.{RecKind}
 use Rattle.gt_rec.specs.Ticks.{due_left}
 use Rattle.gt_rec.specs.Rec.{Rec, needs_heap, has_channel, shown}
-use Rattle.gt_rec.specs.Changes.{disarmed, received, taken, more_blocked, less_blocked}
+use Rattle.gt_rec.specs.Changes.{received, taken}
 use Rattle.gt_lazy.specs.Slots.{LazyHeap}
 use Rattle.gt_rows.specs.declared.answers.SetDone.{SetDone}
 use Rattle.gt_rows.specs.declared.answers.StopDone.{StopDone}
@@ -21,7 +18,7 @@ use Rattle.gt_rows.specs.Lent.{IsLentRec, IsPlaced, IsKept}
 use Rattle.gt_rows.specs.Rows.{Pair, Parts, UnlessOver, StopRow, StopsBy, Stops, SleepRow, SleepsBy, BlockRow, BlockCases, BlocksBy, ReceivesAtOnce, Blocks, stops, StopsAt, next_of}
 use Rattle.gt_schedule.specs.declared.status.RunStatus.{RunStatus}
 use Rattle.gt_schedule.specs.declared.status.Ticket.{Ticket}
-use Rattle.gt_schedule.specs.Schedule.{Schedule, plainly, status_of, is_parked, marks_at, mark_count, marked, parked_at, ticket_of, IsLive}
+use Rattle.gt_schedule.specs.Schedule.{Schedule, plainly, status_of, is_parked, marks_at, mark_count, marked, parked_at, ticket_of}
 use Rattle.gt_book.specs.declared.step.Step.{Step}
 use Rattle.gt_book.specs.declared.answers.TimerOp.{TimerOp}
 use Rattle.gt_book.specs.View.{BookView, Enters, IsLawful, outcome_of, with_schedule}
@@ -37,15 +34,14 @@ use Rattle.gt_model.proofs.Declared.{timer_setting}
 use Rattle.gt_runner.proofs.Marks.{count-few}
 use Rattle.gt_runner.proofs.Fitting.{fit-receives, fit-remarked, fit-few, one-awaited, named-enters, named-remarked, named-one}
 use Rattle.gt_runner.proofs.Needing.{never-ticker}
-use Rattle.gt_runner.proofs.Leaving.{Leaves}
 use Rattle.gt_book.proofs.Passing.{enters-script, enters-limits, enters-jumps, enters-longer, enters-hands, parked_at-leaves_hand, parked_at-hands, parked_at-queued_count}
 use Rattle.gt_model.proofs.Items.{numbered-change_same, numbered-change_other}
 use Rattle.gt_schedule.proofs.Keeping.{numbered-le}
 use Rattle.gt_runner.specs.Run.{Goes, Jumps}
-use Rattle.gt_runner.proofs.Tending.{Touches, tended-touched, Spares, tended-spared, Stays}
-use Rattle.gt_runner.proofs.Touching.{Rests, rests-touches, Counts, counts-touches}
-use Rattle.gt_runner.specs.Calls.{HasRecord, After, Ready, IsEnrolled, CountedOrGone, Enrols, WaitsSomewhere, EnrolsSomewhere, Grows}
-use Rattle.gt_runner.proofs.Calling.{Armed, record-is, after-enters, after-armed, in_hand-awake, stands-awake, stands-stop, stands-sleep, running-row, setting-record, names-standing}
+use Rattle.gt_runner.proofs.Tending.{tended-touched, Spares, tended-spared, Stays}
+use Rattle.gt_runner.proofs.Touching.{rests-touches, counts-touches}
+use Rattle.gt_runner.specs.Calls.{HasRecord, After, Ready, IsEnrolled, CountedOrGone, Enrols}
+use Rattle.gt_runner.proofs.Calling.{record-is, after-enters, after-armed, in_hand-awake, stands-awake, stands-stop, stands-sleep, running-row, setting-record, names-standing}
 
 -- where the record stays is where it was
 pub placed-same : (h : LazyHeap) (r r' : Rec) → r'.id ≡ r.id → r'.heaped ≡ r.heaped → r'.key ≡ r.key → IsPlaced h r → IsPlaced h r'

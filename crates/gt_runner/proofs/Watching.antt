@@ -1,35 +1,25 @@
 -- Where nobody runs, the counted times are the due times of the records that need a heap.
-use Rattle.std.proofs.Common.{◌≡◌, ◌≢◌, eqb, ℕ, zero, suc, ◌+◌, ◌-◌, ◌<◌, ◌≤◌, ◌==◌, nat_lt, cond, List, [], ◌∷◌, length, slice_get, refl, sym, ap, subst, ◌∙◌, arith, Option, None, Some, IsSome, Bool, true, false, not, ◌&&◌, ◌||◌, is_some, inl, inr, eq-eqb}
+use Rattle.std.proofs.Common.{◌≡◌, ◌≢◌, eqb, ℕ, zero, suc, ◌+◌, ◌<◌, ◌==◌, List, [], ◌∷◌, refl, sym, ap, subst, ◌∙◌, arith, Option, None, Some, Bool, true, false, ◌&&◌, ◌||◌, eq-eqb}
 use Rattle.std.specs.List.{list_any}
-use Rattle.std.specs.Option.{option_or, option_map}
-use Rattle.std.proofs.lemmas.Bool.{ltb-true, ltb-false, lt-ltb, le-ltb, eqb-true}
-use Rattle.std.proofs.lemmas.Option.{slice_get_within}
+use Rattle.std.proofs.lemmas.Bool.{eqb-true}
 use Rattle.gt_model.specs.declared.script.Script.{Script}
-use Rattle.gt_model.specs.declared.script.Decl.{Decl}
-use Rattle.gt_model.specs.declared.script.What.{What}
 use Rattle.gt_model.specs.declared.script.Instr.{Instr}
 use Rattle.gt_model.specs.declared.state.Goroutine.{Goroutine}
-use Rattle.gt_model.specs.declared.state.Timer.{Timer}
 use Rattle.gt_model.specs.declared.state.Mode.{Mode}
 use Rattle.gt_model.specs.Tables.{numbered}
-use Rattle.gt_model.specs.Script.{what_at, is_func, is_timer, names_func, names_timer, instr_at}
 use Rattle.gt_model.proofs.Items.{HasNumber}
-use Rattle.gt_rules.specs.State.{State, goroutine_at, timer_at, stands, stands_at, until_of, sleeps_until, due_of}
-use Rattle.gt_rules.specs.Counted.{sleep_of, receives, awaits, is_awaited, counted_timer}
+use Rattle.gt_rules.specs.State.{State, goroutine_at, stands, stands_at}
+use Rattle.gt_rules.specs.Counted.{receives, awaits, is_awaited}
 use Rattle.gt_facts.proofs.Lookups.{any-numbered, receives-recv, Standing, standing}
-use Rattle.gt_facts.proofs.Named.{names-instr_at}
-use Rattle.gt_rec.specs.declared.RecKind.{RecKind}
-use Rattle.gt_rec.specs.Rec.{Rec, needs_heap, has_channel, in_flight, due_of_send, shown}
 use Rattle.gt_schedule.specs.declared.status.RunStatus.{RunStatus}
 use Rattle.gt_schedule.specs.Counts.{as_number, times}
 use Rattle.gt_schedule.specs.Schedule.{Schedule, plainly, status_of, is_parked, marks_at, mark_count}
-use Rattle.gt_book.specs.Least.{NobodyRuns, counted_of}
+use Rattle.gt_book.specs.Least.{NobodyRuns}
 use Rattle.gt_book.specs.View.{BookView, IsLawful, Agrees, is_at_receive, is_parked_at}
 use Rattle.gt_rules.specs.Legal.{operation}
-use Rattle.gt_book.proofs.Fitting.{has_status, has_goroutine, none-queued}
-use Rattle.gt_rows.specs.Agrees.{kind_by, kind_of_what, due_by, of_declaration}
+use Rattle.gt_book.proofs.Fitting.{has_status, none-queued}
 use Rattle.gt_runner.specs.declared.runner.Runner.{Runner}
-use Rattle.gt_runner.specs.Served.{IsWatched, AtKind, IsAt, AtNumber, IsTended, IsServed, MarkFits, MarkFitsAt, awaited_by, timers_of}
+use Rattle.gt_runner.specs.Served.{MarkFits, MarkFitsAt, awaited_by, timers_of}
 use Rattle.gt_runner.proofs.Marks.{HasMark, has-mark, mark-counts}
 
 -- ---- who stands somewhere is parked where nobody runs

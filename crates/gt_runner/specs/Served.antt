@@ -12,7 +12,7 @@ use Rattle.gt_model.specs.Script.{is_timer}
 use Rattle.gt_schedule.specs.Counts.{times}
 use Rattle.gt_schedule.specs.declared.status.RunStatus.{RunStatus}
 use Rattle.gt_schedule.specs.Schedule.{Schedule, status_of, marks_at, mark_count, most_goroutines}
-use Rattle.gt_book.specs.View.{BookView, outcome_of}
+use Rattle.gt_book.specs.View.{BookView}
 use Rattle.gt_rows.specs.Agrees.{kind_by, due_by}
 use Rattle.gt_rows.specs.Lent.{IsKept}
 use Rattle.gt_runner.specs.declared.runner.Runner.{Runner}

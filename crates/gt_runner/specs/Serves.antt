@@ -1,8 +1,8 @@
 -- What is needed where nobody runs, and what is left.
-use Rattle.std.specs.Prelude.{ℕ, ◌≡◌, ◌≤◌, true, false, length, slice_get}
+use Rattle.std.specs.Prelude.{ℕ, ◌≡◌, ◌≤◌, false, length, slice_get}
 use Rattle.std.specs.declared.option.Option.TheVariants.{None, Some}
 use Rattle.gt_rules.specs.State.{clock}
-use Rattle.gt_rec.specs.Rec.{Rec, needs_heap}
+use Rattle.gt_rec.specs.Rec.{Rec}
 use Rattle.gt_lazy.specs.Slots.{StandsAt}
 use Rattle.gt_lazy.specs.Running.{is_stale}
 use Rattle.gt_schedule.specs.declared.status.RunStatus.{RunStatus}

@@ -1,6 +1,5 @@
 -- A heap whose head may be read: the heap has learned of each change that matters to it.
-use Rattle.std.specs.Prelude.{ℕ, ◌<◌, ◌≤◌, ◌≡◌, nat_lt, Bool, true, false, List, All, slice_get, count_by, IsSomeAnd}
-use Rattle.std.specs.declared.option.Option.{Option}
+use Rattle.std.specs.Prelude.{ℕ, ◌≤◌, ◌≡◌, nat_lt, Bool, true, false, All, slice_get, count_by}
 use Rattle.std.specs.declared.option.Option.TheVariants.{None, Some}
 use Rattle.gt_rec.specs.Rec.{Rec, needs_heap}
 use Rattle.gt_lazy.specs.Slots.{Slot, StandsAt, slot_with}

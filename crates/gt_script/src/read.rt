@@ -128,10 +128,10 @@ fn earlier(line: u32, read: Result<Script, Unread>) -> Unread
 /// A text is UTF-8. Its lines end with a line feed, of which a carriage return in front is part, or with the text; words are
 /// separated by spaces and tabs; lines without words, and lines whose first word begins with `#`, are skipped. The other
 /// lines are `gotime script 1`, then declarations and functions in any order. A declaration is `timer T` or `afterfunc T F`;
-/// a function begins with `func F` and ends with `end`, and in between has instructions: `say N`, `now`, `sleep D`, `go F`,
-/// `new T D`, `stop T`, `reset T D`, and `recv T` for a `timer`. One function is `main`. Each name is declared once, before
-/// or after its uses. N is a number of 32 bits and D a duration of at most [`gt_model::CAP`] nanoseconds. A script has at
-/// most 4,096 names, 256 functions among them, and 100,000 instructions.
+/// a function begins with `func F` and ends with `end`, and in between has instructions, each a keyword and what follows it,
+/// as the rows of [`gt_table::Keyword::form`] say: numbers of 32 bits, durations of at most [`gt_model::CAP`] nanoseconds,
+/// and names that are declared as what is wanted there. One function is `main`. Each name is declared once, before or after
+/// its uses. A script has at most 4,096 names, 256 functions among them, and 100,000 instructions.
 ///
 /// # Errors
 ///

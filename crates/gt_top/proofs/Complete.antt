@@ -17,7 +17,7 @@ use Rattle.gt_laws.proofs.Ends.{each-ends, each-ends_where_stuck}
 use Rattle.gt_book.specs.View.{BookView, IsLawful, outcome_of}
 use Rattle.gt_machine.specs.Outcomes.{outcome_in}
 use Rattle.gt_top.specs.Answer.{IsRun}
-use Rattle.gt_top.specs.Run.{IsComplete}
+use Rattle.gt_runner.specs.Run.{IsComplete}
 
 ending-of : (e : Ending) (outcome : Outcome) → outcome_in e ≡ Some outcome → e ≡ Ending.Finished outcome
 ending-of (Ending.Finished o) outcome e = cc

@@ -1,4 +1,3 @@
-pub mod Run
 pub mod Words
 pub mod Call
 pub mod Answer

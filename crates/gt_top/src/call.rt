@@ -6,11 +6,11 @@ ghost use Rattle.gt_grammar.specs.Grammar.{Spells};
 ghost use Rattle.gt_top.specs.Call.{call_of, source_state, sink_state, ReadsAll};
 ghost use Rattle.gt_top.specs.Answer.{Answers, Simulates, IsAccepted, IsDoneOrNoMemory, ReadsNot, SpellsNot, Prints};
 
-use crate::runner::run_script;
 use crate::status::Status;
 use crate::words::{Order, read_words};
 use gt_io::{ReadError, Sink, Source, read_to_limit};
 use gt_model::{Limits, Script};
+use gt_runner::run_script;
 use gt_script::{Unread, read_script};
 use gt_trace::write_trace;
 use std::alloc::Global;

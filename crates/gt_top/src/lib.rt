@@ -2,7 +2,6 @@
 #![tactic(auto)]
 
 mod call;
-mod runner;
 mod status;
 mod words;
 

@@ -7,10 +7,11 @@ ghost use Rattle.gt_model.specs.Named.{IsNamed};
 ghost use Rattle.gt_trace.specs.Text.{space, goroutine_word, party_word, time_word, reason_word, outcome_word, words_of, line_of};
 
 use crate::line::{
-    LINE_ROOM, Line, push_bytes, push_goroutine, push_number, push_party, push_time, push_word,
+    LINE_ROOM, Line, push_bytes, push_flag, push_goroutine, push_number, push_party, push_time,
+    push_word,
 };
 use crate::names::name_of_function;
-use crate::timers::{fill_fire, fill_new, fill_reset, fill_stop, fill_tick};
+use crate::timers::{fill_fire, fill_tick, fill_timer};
 use gt_model::{Entry, Outcome, Party, Reason, Script};
 
 /// Builds the line of an entry.
@@ -96,6 +97,46 @@ fn fill_sleep(line: &mut Line, g: u32, until: Option<u64>)
 {
     fill_goroutine(line, b"sleep", g);
     push_time(line, until);
+}
+
+// A goroutine made a timer.
+fn fill_new(line: &mut Line, script: &Script, g: u32, t: u32, due: u64)
+    requires empty { line.old.items ≡ [] }
+    requires good { IsGood script.now }
+    requires named { IsNamed script.now (Entry.New g t due) }
+    ensures words { line.new.items
+        ≡ join_with_byte space (words_of script.now (Entry.New g t due)) }
+    ensures room { array_vec_len line.new < LINE_ROOM }
+{
+    fill_timer(line, b"new", script, g, t);
+    push_number(line, due);
+}
+
+// A goroutine stopped a timer.
+fn fill_stop(line: &mut Line, script: &Script, g: u32, t: u32, was: Option<bool>)
+    requires empty { line.old.items ≡ [] }
+    requires good { IsGood script.now }
+    requires named { IsNamed script.now (Entry.Stop g t was) }
+    ensures words { line.new.items
+        ≡ join_with_byte space (words_of script.now (Entry.Stop g t was)) }
+    ensures room { array_vec_len line.new < LINE_ROOM }
+{
+    fill_timer(line, b"stop", script, g, t);
+    push_flag(line, was);
+}
+
+// A goroutine set a timer anew.
+fn fill_reset(line: &mut Line, script: &Script, g: u32, t: u32, was: Option<bool>, due: u64)
+    requires empty { line.old.items ≡ [] }
+    requires good { IsGood script.now }
+    requires named { IsNamed script.now (Entry.Reset g t was due) }
+    ensures words { line.new.items
+        ≡ join_with_byte space (words_of script.now (Entry.Reset g t was due)) }
+    ensures room { array_vec_len line.new < LINE_ROOM }
+{
+    fill_timer(line, b"reset", script, g, t);
+    push_flag(line, was);
+    push_number(line, due);
 }
 
 // The clock of a world moved.

@@ -1,4 +1,4 @@
-// The lines of timers. A timer is shown by its name.
+// What the lines of timers share, and the lines of what timers do. A timer is shown by its name.
 ghost use Rattle.std.specs.Prelude.{◌≡◌, ◌+◌, ◌<◌, ◌≤◌, [], ◌∷◌, ◌++◌, length, IsTrue};
 ghost use Rattle.std.specs.List.{join_with_byte};
 ghost use Rattle.arrayvec.specs.ArrayVec.{array_vec_len};
@@ -7,8 +7,7 @@ ghost use Rattle.gt_model.specs.Named.{IsNamed};
 ghost use Rattle.gt_trace.specs.Text.{space, goroutine_word, name_of, words_of};
 
 use crate::line::{
-    LINE_ROOM, Line, push_bytes, push_flag, push_goroutine, push_number, push_party, push_time,
-    push_word,
+    LINE_ROOM, Line, push_bytes, push_goroutine, push_number, push_party, push_time, push_word,
 };
 use crate::names::declared_name;
 use gt_model::{Entry, Party, Script};
@@ -25,8 +24,8 @@ fn push_timer(line: &mut Line, script: &Script, t: u32)
     push_word(line, declared_name(script, t));
 }
 
-// A goroutine's line about a timer: what it did, and the timer's name.
-fn fill_timer(line: &mut Line, word: &[u8], script: &Script, g: u32, t: u32)
+/// Builds the front of a goroutine's line about a timer: what it did, and the timer's name.
+pub fn fill_timer(line: &mut Line, word: &[u8], script: &Script, g: u32, t: u32)
     requires empty { line.old.items ≡ [] }
     requires brief { length word.now ≤ 5 }
     requires good { IsGood script.now }
@@ -38,46 +37,6 @@ fn fill_timer(line: &mut Line, word: &[u8], script: &Script, g: u32, t: u32)
     push_bytes(line, word);
     push_goroutine(line, g);
     push_timer(line, script, t);
-}
-
-/// A goroutine made a timer.
-pub fn fill_new(line: &mut Line, script: &Script, g: u32, t: u32, due: u64)
-    requires empty { line.old.items ≡ [] }
-    requires good { IsGood script.now }
-    requires named { IsNamed script.now (Entry.New g t due) }
-    ensures words { line.new.items
-        ≡ join_with_byte space (words_of script.now (Entry.New g t due)) }
-    ensures room { array_vec_len line.new < LINE_ROOM }
-{
-    fill_timer(line, b"new", script, g, t);
-    push_number(line, due);
-}
-
-/// A goroutine stopped a timer.
-pub fn fill_stop(line: &mut Line, script: &Script, g: u32, t: u32, was: Option<bool>)
-    requires empty { line.old.items ≡ [] }
-    requires good { IsGood script.now }
-    requires named { IsNamed script.now (Entry.Stop g t was) }
-    ensures words { line.new.items
-        ≡ join_with_byte space (words_of script.now (Entry.Stop g t was)) }
-    ensures room { array_vec_len line.new < LINE_ROOM }
-{
-    fill_timer(line, b"stop", script, g, t);
-    push_flag(line, was);
-}
-
-/// A goroutine set a timer anew.
-pub fn fill_reset(line: &mut Line, script: &Script, g: u32, t: u32, was: Option<bool>, due: u64)
-    requires empty { line.old.items ≡ [] }
-    requires good { IsGood script.now }
-    requires named { IsNamed script.now (Entry.Reset g t was due) }
-    ensures words { line.new.items
-        ≡ join_with_byte space (words_of script.now (Entry.Reset g t was due)) }
-    ensures room { array_vec_len line.new < LINE_ROOM }
-{
-    fill_timer(line, b"reset", script, g, t);
-    push_flag(line, was);
-    push_number(line, due);
 }
 
 /// A goroutine received the tick of a timer.

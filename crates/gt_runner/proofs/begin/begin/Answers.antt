@@ -1,4 +1,4 @@
-use Rattle.std.proofs.Common.{rules, ◌≡◌, ◌≤◌, ◌+◌, length, [], refl, sym, ap, subst, ◌∙◌, arith}
+use Rattle.std.proofs.Common.{rules, ◌≡◌, ◌≤◌, ◌+◌, length, [], refl, ap, subst, ◌∙◌}
 use Rattle.gt_book.specs.View.{first_view}
 use Rattle.gt_runner.specs.Served.{record_count}
 use Rattle.gt_runner.specs.Begun.{AreFirst}

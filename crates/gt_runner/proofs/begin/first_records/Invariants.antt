@@ -1,5 +1,4 @@
-use Rattle.std.proofs.Common.{◌≡◌, ◌≤◌, ◌<◌, ◌+◌, length, slice_get, Some}
-use Rattle.gt_rec.specs.Rec.{Rec, BitsRight}
+use Rattle.std.proofs.Common.{◌≡◌, ◌≤◌, ◌+◌, length}
 use Rattle.gt_runner.specs.Begun.{AreUpTo}
 use Rattle.gt_runner.proofs.begin.first_records.Given as goal
 

@@ -1,6 +1,5 @@
-use Rattle.std.proofs.Common.{rules, ◌≡◌, ◌<◌, length, set, slice_get, refl, sym, ap, subst, ◌∙◌, Some, arith}
+use Rattle.std.proofs.Common.{◌≡◌, length, set, slice_get, refl, ap, ◌∙◌, Some, arith}
 use Rattle.std.proofs.lemmas.List.{length-set}
-use Rattle.gt_rec.specs.Rec.{Rec}
 use Rattle.gt_runner.specs.Served.{noted_at}
 use Rattle.gt_runner.specs.Calls.{HasRecord}
 use Rattle.gt_runner.proofs.Tending.{get-set_same}

@@ -1,16 +1,16 @@
 use Rattle.gt_rules.specs.State.{stands_at}
-use Rattle.std.proofs.Common.{ℕ, Option, ◌≡◌, ◌⊎◌, refl, sym, ap, subst, ◌∙◌, Some, false, inl, inr}
+use Rattle.std.proofs.Common.{ℕ, Option, ◌≡◌, ◌⊎◌, refl, sym, ap, subst, ◌∙◌, Some, inl, inr}
 use Rattle.gt_model.specs.declared.script.Instr.{Instr}
 use Rattle.gt_book.specs.declared.answers.TimerOp.{TimerOp}
 use Rattle.gt_book.specs.declared.step.Step.{Step}
-use Rattle.gt_book.specs.View.{BookView, outcome_of}
+use Rattle.gt_book.specs.View.{BookView}
 use Rattle.gt_book.specs.Steps.{Steps}
 use Rattle.gt_book.specs.declared.answers.Did.{Did}
 use Rattle.gt_book.proofs.Setting.{NeedsOnly, ParksUnder, steps-timer, steps-enrolled, is_enrolled}
 use Rattle.gt_rows.specs.Rows.{next_of}
 use Rattle.gt_schedule.specs.declared.status.Ticket.{Ticket}
 use Rattle.gt_runner.specs.declared.runner.Runner.{Runner}
-use Rattle.gt_runner.specs.Calls.{Ready, After, WantsSet, IsEnrolled, Enrols}
+use Rattle.gt_runner.specs.Calls.{Ready, WantsSet, IsEnrolled, Enrols}
 use Rattle.gt_runner.proofs.Growing.{ready-same, after-same}
 use Rattle.gt_runner.proofs.Calling.{steps-after, stands-recv}
 use Rattle.gt_runner.proofs.Waiting.{parked-enrolled, after-enrols}

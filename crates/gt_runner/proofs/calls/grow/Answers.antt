@@ -1,6 +1,6 @@
-use Rattle.std.proofs.Common.{◌≡◌, ◌++◌, ◌∷◌, [], ap, sym, subst, ◌∙◌, length}
+use Rattle.std.proofs.Common.{◌≡◌, ◌++◌, ◌∷◌, [], ap, subst, ◌∙◌, length}
 use Rattle.gt_rec.specs.declared.RecKind.{RecKind}
-use Rattle.gt_rec.specs.Rec.{Rec, BitsRight}
+use Rattle.gt_rec.specs.Rec.{BitsRight}
 use Rattle.gt_rec.specs.Changes.{unset_rec}
 use Rattle.gt_runner.proofs.Growing.{tended-grown}
 use Rattle.gt_runner.proofs.calls.grow.Goals as goal

@@ -1,10 +1,9 @@
-use Rattle.std.proofs.Common.{◌≡◌, ◌<◌, ◌≤◌, ◌+◌, length, set, slice_get, refl, sym, ap, subst, ◌∙◌, Some, arith}
+use Rattle.std.proofs.Common.{◌≡◌, ◌+◌, length, set, slice_get, refl, sym, ap, subst, ◌∙◌, Some, arith}
 use Rattle.gt_model.specs.declared.script.Script.{Script}
 use Rattle.gt_book.specs.declared.answers.TimerOp.{TimerOp}
 use Rattle.gt_book.specs.declared.step.Step.{Step}
 use Rattle.gt_book.specs.View.{BookView}
 use Rattle.gt_rows.specs.Rows.{next_of}
-use Rattle.gt_runner.specs.declared.runner.Runner.{Runner}
 use Rattle.gt_runner.specs.Served.{noted_at}
 use Rattle.gt_runner.specs.Calls.{HasRecord, Ready}
 use Rattle.gt_runner.proofs.Tending.{get-set_same}

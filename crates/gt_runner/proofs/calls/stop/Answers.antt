@@ -1,9 +1,8 @@
 use Rattle.std.proofs.Common.{refl}
 use Rattle.gt_model.specs.declared.script.Instr.{Instr}
-use Rattle.gt_model.specs.Good.{is_setting}
 use Rattle.gt_runner.specs.Calls.{HasRecord}
 use Rattle.gt_runner.proofs.Calling.{setting-record, record-within, record-lent, names-standing, stands-stop}
-use Rattle.gt_runner.proofs.Waiting.{after-stop, stop-stops}
+use Rattle.gt_runner.proofs.Waiting.{after-stop}
 use Rattle.gt_runner.proofs.calls.stop.Goals as goal
 
 pub at_mut-requires : goal.at_mut-requires

@@ -1,4 +1,4 @@
-use Rattle.std.proofs.Common.{◌≡◌, ◌<◌, ◌≤◌, ℕ, Option, Some, refl, sym, ap, subst, ◌∙◌, arith}
+use Rattle.std.proofs.Common.{◌≡◌, ◌<◌, ◌≤◌, ℕ, Option, Some, refl, sym, ap, subst, arith}
 use Rattle.gt_model.specs.Times.{greatest_time}
 use Rattle.gt_model.specs.Tables.{least}
 use Rattle.gt_rules.specs.State.{clock}

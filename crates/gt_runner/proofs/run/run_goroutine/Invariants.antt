@@ -1,4 +1,3 @@
-use Rattle.std.proofs.Common.{◌≡◌}
 use Rattle.gt_runner.specs.Run.{GoesOn, turn_left}
 use Rattle.gt_runner.specs.Served.{IsServed}
 use Rattle.gt_runner.proofs.run.run_goroutine.Given as goal

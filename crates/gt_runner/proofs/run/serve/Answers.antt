@@ -1,9 +1,8 @@
-use Rattle.std.proofs.Common.{◌≡◌, set, slice_get, Some, refl, sym, ap, subst, ◌∙◌, true}
+use Rattle.std.proofs.Common.{◌≡◌, set, slice_get, Some, refl, ap, subst, ◌∙◌}
 use Rattle.gt_rec.specs.Rec.{Rec, has_channel}
 use Rattle.gt_rows.specs.Rows.{DeliverRow}
-use Rattle.gt_rows.specs.Lent.{IsLentRec}
 use Rattle.gt_runner.proofs.Tending.{get-set_same}
-use Rattle.gt_runner.proofs.Serving.{Due, due-item, Sends, head-sends, heads-passing, sends-passing, set-twice}
+use Rattle.gt_runner.proofs.Serving.{Due, due-item, head-sends, heads-passing, sends-passing, set-twice}
 use Rattle.gt_runner.proofs.run.serve.Goals as goal
 
 pub returns-in_default : goal.returns-in_default

@@ -1,6 +1,5 @@
 use Rattle.std.proofs.Common.{◌≡◌, ◌∙◌, ap, None}
 use Rattle.gt_book.specs.View.{outcome_of}
-use Rattle.gt_runner.specs.Run.{Passes}
 use Rattle.gt_runner.proofs.Turning.{alone-taken, less-run}
 use Rattle.gt_runner.proofs.Taking.{after-taken, alone-marks, passes-marks, running-marks}
 use Rattle.gt_runner.proofs.run.turn.Goals as goal

@@ -1,6 +1,6 @@
 use Rattle.std.proofs.Common.{sym, ◌∙◌, refl}
 use Rattle.gt_runner.proofs.Calling.{record-within, record-is}
-use Rattle.gt_runner.proofs.Unblocking.{taken-record, unblocked-served, unmarked-served, but-unmarked}
+use Rattle.gt_runner.proofs.Unblocking.{taken-record, unblocked-served, unmarked-served}
 use Rattle.gt_runner.proofs.run.unblock.Goals as goal
 
 pub at_mut-requires : goal.at_mut-requires

@@ -1,8 +1,7 @@
 use Rattle.std.proofs.Common.{refl}
-use Rattle.gt_runner.specs.declared.runner.Runner.{Runner}
 use Rattle.gt_runner.specs.Settled.{StaleHead}
 use Rattle.gt_runner.proofs.Tending.{tended-touched}
-use Rattle.gt_runner.proofs.Cleanings.{Cleans, cleans-item, cleans-touches, stale-fewer, stale-item}
+use Rattle.gt_runner.proofs.Cleanings.{cleans-item, cleans-touches, stale-fewer, stale-item}
 use Rattle.gt_runner.proofs.settling.clean.Goals as goal
 
 pub loop-id-smaller : goal.loop-id-smaller

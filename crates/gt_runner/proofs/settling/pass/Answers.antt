@@ -1,10 +1,9 @@
 use Rattle.std.proofs.Common.{◌≡◌, sym, subst, refl}
 use Rattle.gt_lazy.specs.Slots.{LazyHeap}
-use Rattle.gt_runner.specs.declared.runner.Runner.{Runner}
 use Rattle.gt_runner.specs.Served.{IsTended}
 use Rattle.gt_runner.specs.Settled.{ScannedAreSettled}
 use Rattle.gt_runner.proofs.Tending.{tended-touched}
-use Rattle.gt_runner.proofs.Cleanings.{Cleans, cleans-item, cleans-touches, entry-stands, inside-items, stands-item, bits-item, scanned-more, tended-unscanned, none-scanned, tended-unnoted, clean-scanned}
+use Rattle.gt_runner.proofs.Cleanings.{cleans-item, cleans-touches, entry-stands, inside-items, stands-item, bits-item, scanned-more, tended-unscanned, none-scanned, tended-unnoted, clean-scanned}
 use Rattle.gt_runner.proofs.settling.pass.Goals as goal
 
 pub loop-place-init : goal.loop-place-init
