@@ -244,7 +244,9 @@ pub tended-plain : (x x' : Runner) (e : Entry) → IsTended x → IsLawful x.boo
     → x'.records ≡ x.records → x'.heap ≡ x.heap → x'.noted ≡ x.noted → IsTended x'
 tended-plain x x' e tended lawful enters leaves records_are heap_is noted_is =
     tended-spared x x' tended (record {
-      records_are = records_are; heap_is = heap_is; noted_is = noted_is;
+      records_are = records_are;
+      heap_is = heap_is;
+      noted_is = noted_is;
       limits = enters-limits x.book e x'.book enters;
       script_is = enters-script x.book e x'.book enters;
       stays = λ j. stays-enters x.book e x'.book x.heap x.heap j lawful enters (leaves j) refl refl;
@@ -297,8 +299,15 @@ after-armed x x' g id r r' e due period done ready a =
     after-enters x x' g e ready a.arms.entered a.served a.clock
     (tended-touched x x' id r r' ready.served.tended
     (sets-touches x x' id r r' e due period done ready.lawful (record {
-      there = a.there; id_is = a.id_is; watched = a.watched; records_are = a.records_are; spare = a.spare; noted_is = a.noted_is;
-      arms = a.arms; leaves = a.leaves; kept = a.kept;
+      there = a.there;
+      id_is = a.id_is;
+      watched = a.watched;
+      records_are = a.records_are;
+      spare = a.spare;
+      noted_is = a.noted_is;
+      arms = a.arms;
+      leaves = a.leaves;
+      kept = a.kept;
     })))
 
 pub names-standing : (v : BookView) (g : ℕ) (i : Instr) → IsLawful v → stands_at v.script v.state g ≡ Some i → NamesRightly v.script i
@@ -339,7 +348,14 @@ after-set x x' g t r r' done ready wants h there records_are spare noted_is row 
       | inl e ↦
           let arms = subst (SetsBy old g new done) e by in
           after-armed x x' g t r r' _ _ _ done ready (record {
-            there = there; id_is = own.1; watched = own.2; records_are = records_are; spare = spare; noted_is = noted_is; arms = arms; kept = kept;
+            there = there;
+            id_is = own.1;
+            watched = own.2;
+            records_are = records_are;
+            spare = spare;
+            noted_is = noted_is;
+            arms = arms;
+            kept = kept;
             leaves = λ j n. record { timer = λ e. n (sym e); mover = inr (awake, refl) };
             served = goes;
             clock = tt;
@@ -347,7 +363,14 @@ after-set x x' g t r r' done ready wants h there records_are spare noted_is row 
       | inr e ↦
           let arms = subst (SetsBy old g new done) e by in
           after-armed x x' g t r r' _ _ _ done ready (record {
-            there = there; id_is = own.1; watched = own.2; records_are = records_are; spare = spare; noted_is = noted_is; arms = arms; kept = kept;
+            there = there;
+            id_is = own.1;
+            watched = own.2;
+            records_are = records_are;
+            spare = spare;
+            noted_is = noted_is;
+            arms = arms;
+            kept = kept;
             leaves = λ j n. record { timer = λ e. n (sym e); mover = inr (awake, refl) };
             served = goes;
             clock = tt;

@@ -30,7 +30,11 @@ held-kind x id s r None there is e at = (let off : ◌≡◌ {A = Option Slot} N
 held-kind x id s r (Some kind) there is e watched =
     let heaped : r.heaped ≡ Some x.heap.number = in_heap r.heaped refl in
     record {
-      rec = r; there = there; id_is = is; watched = watched; heaped = heaped;
+      rec = r;
+      there = there;
+      id_is = is;
+      watched = watched;
+      heaped = heaped;
       key_is = subst (λ o. IsSomeAnd o (λ (s : Slot). s.key ≡ r.key)) (ap (slot_with x.heap.slots) is ∙ e) (watched.kept.placed.here heaped);
     }
   where
@@ -65,15 +69,36 @@ cleaned-is r = by r.zombie r.modified refl refl
   where
     by : (z m : Bool) → r.zombie ≡ z → r.modified ≡ m → Cleaned r (cleaned r)
     by true m e f = subst (λ b. Cleaned r (if b then out_of_heap r else (if r.modified then rekeyed r else r))) (sym e) (record {
-      id = refl; kind = refl; period = refl; blocked = refl; when = refl; ready = refl; sending = refl; fresh = refl;
+      id = refl;
+      kind = refl;
+      period = refl;
+      blocked = refl;
+      when = refl;
+      ready = refl;
+      sending = refl;
+      fresh = refl;
     })
     by false true e f = subst (λ b. Cleaned r (if b then out_of_heap r else (if r.modified then rekeyed r else r))) (sym e)
         (subst (λ b. Cleaned r (if b then rekeyed r else r)) (sym f) (record {
-          id = refl; kind = refl; period = refl; blocked = refl; when = refl; ready = refl; sending = refl; fresh = e;
+          id = refl;
+          kind = refl;
+          period = refl;
+          blocked = refl;
+          when = refl;
+          ready = refl;
+          sending = refl;
+          fresh = e;
         }))
     by false false e f = subst (λ b. Cleaned r (if b then out_of_heap r else (if r.modified then rekeyed r else r))) (sym e)
         (subst (λ b. Cleaned r (if b then rekeyed r else r)) (sym f) (record {
-          id = refl; kind = refl; period = refl; blocked = refl; when = refl; ready = refl; sending = refl; fresh = rw (f, e) refl;
+          id = refl;
+          kind = refl;
+          period = refl;
+          blocked = refl;
+          when = refl;
+          ready = refl;
+          sending = refl;
+          fresh = rw (f, e) refl;
         }))
 
 -- the heap has looked at the entry of a record
@@ -152,7 +177,10 @@ cleans-touches x x' id place r r' c =
       spare = c.spare;
       limits = ap (λ (b : BookView). b.limits) c.book_is;
       stays = λ j n. subst (λ b'. Stays x.book b' x.heap x'.heap j) (sym c.book_is) (record {
-        script_is = refl; due = refl; period = refl; count = refl;
+        script_is = refl;
+        due = refl;
+        period = refl;
+        count = refl;
         slot = c.scans.entries.others j (λ e. n (e ∙ c.id_is));
         number_is = c.scans.number;
       });
@@ -309,12 +337,16 @@ unnoted-kind : (x : Runner) (id : ℕ) (r : Rec) (o : Option RecKind) → Scanne
     → AtKind x.book x.heap x.noted id r o → AtKind x.book x.heap None id r o
 unnoted-kind x id r None scanned all there is at = at
 unnoted-kind x id r (Some kind) scanned all there is w = record {
-  kept = w.kept; inside = w.inside; heaped = w.heaped;
+  kept = w.kept;
+  inside = w.inside;
+  heaped = w.heaped;
   early = λ n v at low.
       let key : r.when ≡ Some r.key = all-settled x scanned all id r there is w n in
       let same : v ≡ r.key = cc in
       absurd (omega arith);
-  blocked = w.blocked; none_ready = w.none_ready; none_sent = w.none_sent;
+  blocked = w.blocked;
+  none_ready = w.none_ready;
+  none_sent = w.none_sent;
 }
 
 unnoted-at : (x : Runner) (id : ℕ) (o : Option Rec) → slice_get x.records.items id ≡ o → ScannedAreSettled x → All (λ (s : Slot). IsTrue s.scanned) x.heap.slots
@@ -325,7 +357,9 @@ unnoted-at x id (Some r) there scanned all at = record { id_is = at.id_is; watch
 pub tended-unnoted : (x : Runner) → IsTended x → ScannedAreSettled x → All (λ (s : Slot). IsTrue s.scanned) x.heap.slots → IsTended (unnoted_run x)
 tended-unnoted x t scanned all = record {
   at = λ id. unnoted-at x id (slice_get x.records.items id) refl scanned all (t.at id);
-  declared = t.declared; record_room = t.record_room; heap_room = t.heap_room;
+  declared = t.declared;
+  record_room = t.record_room;
+  heap_room = t.heap_room;
 }
 
 -- ---- the head may be read
@@ -410,13 +444,15 @@ head-first (s ∷ rest) key id first with_id = record { slot = s; there = refl; 
 pub head-stands : (x : Runner) (key id : ℕ) → IsTended x → (f : FirstIs x.heap.slots key id) → (h : Held x id f.slot) × StandsAt x.heap 0 h.rec
 head-stands x key id t f =
     let own : slot_with x.heap.slots id ≡ Some f.slot = ap (slot_with x.heap.slots) f.id_is ∙ own-entry x f.slot f.there in
-    let h : Held x id f.slot = held x id f.slot t own in
-    (h, record {
-      within = within x.heap.slots f.slot f.there;
-      heaped = h.heaped;
-      id = λ d. ap (λ (s : Slot). s.id) (first x.heap.slots f.slot d f.there) ∙ (sym f.id_is ∙ sym h.id_is);
-      key = λ d. ap (λ (s : Slot). s.key) (first x.heap.slots f.slot d f.there) ∙ h.key_is;
-    })
+    let h : Held x id f.slot = held x id f.slot t own in (
+      h,
+      record {
+        within = within x.heap.slots f.slot f.there;
+        heaped = h.heaped;
+        id = λ d. ap (λ (s : Slot). s.id) (first x.heap.slots f.slot d f.there) ∙ (sym f.id_is ∙ sym h.id_is);
+        key = λ d. ap (λ (s : Slot). s.key) (first x.heap.slots f.slot d f.there) ∙ h.key_is;
+      },
+    )
   where
     within : (slots : List Slot) (s : Slot) → slice_get slots 0 ≡ Some s → 0 < length slots
     within [] s e = cc
@@ -450,8 +486,15 @@ cleans-item x id place s r r' heap h e record_is scans settled shows bits =
       id_is = subst (λ (r : Rec). r.id ≡ id) is h.id_is;
       watched = subst (IsWatched x.book x.heap x.noted) is (h.watched);
       heaped = subst (λ (r : Rec). r.heaped ≡ Some x.heap.number) is (held-heaped x id s h);
-      records_are = refl; spare = refl; book_is = refl; noted_is = refl;
-      record_is = record_is; scans = scans; settled = settled; shows = shows; bits = bits;
+      records_are = refl;
+      spare = refl;
+      book_is = refl;
+      noted_is = refl;
+      record_is = record_is;
+      scans = scans;
+      settled = settled;
+      shows = shows;
+      bits = bits;
     }
   where
     held-heaped : (x : Runner) (id : ℕ) (s : Slot) (h : Held x id s) → h.rec.heaped ≡ Some x.heap.number
@@ -466,13 +509,15 @@ pub entry-stands : (x : Runner) (place key id : ℕ) (b : Bool) → IsTended x �
     → slot_with x.heap.slots id ≡ Some (record { key = key; id = id; scanned = b })
     → (h : Held x id (record { key = key; id = id; scanned = b })) × StandsAt x.heap place h.rec
 entry-stands x place key id b t within at with_id =
-    let h : Held x id (record { key = key; id = id; scanned = b }) = held x id (record { key = key; id = id; scanned = b }) t with_id in
-    (h, record {
-      within = within;
-      heaped = h.heaped;
-      id = λ d. ap (λ (s : Slot). s.id) (at d) ∙ sym h.id_is;
-      key = λ d. ap (λ (s : Slot). s.key) (at d) ∙ h.key_is;
-    })
+    let h : Held x id (record { key = key; id = id; scanned = b }) = held x id (record { key = key; id = id; scanned = b }) t with_id in (
+      h,
+      record {
+        within = within;
+        heaped = h.heaped;
+        id = λ d. ap (λ (s : Slot). s.id) (at d) ∙ sym h.id_is;
+        key = λ d. ap (λ (s : Slot). s.key) (at d) ∙ h.key_is;
+      },
+    )
 
 -- the head is not stale, where the call that looks for a stale one says so
 pub fresh-item : (x : Runner) (key id : ℕ) (r : Rec) → IsTended x → FirstIs x.heap.slots key id → slice_get x.records.items id ≡ Some r → is_stale r ≡ false → HeadIsFresh x

@@ -229,7 +229,10 @@ shows-needing : (x : Runner) (id w : ℕ) (r : Rec) → slice_get x.records.item
 shows-needing x id w r there is watched due waited =
     let at : r.when ≡ Some w = sym (shown-when r watched.none_ready watched.none_sent) ∙ (watched.kept.rec.agrees.shown ∙ (ap (due_by x.book.script x.book.state) is ∙ due)) in
     record {
-      rec = r; there = there; id_is = is; watched = watched;
+      rec = r;
+      there = there;
+      id_is = is;
+      watched = watched;
       needs = needs (has_channel r.kind) refl;
       when_is = at;
     }

@@ -111,8 +111,14 @@ leaves-passing x x' id r r1 r' e idle c = record {
   moves = moves-enters x.book e x'.book idle.lawful c.enters c.clock idle.nobody.hands;
   served = λ _. record {
     tended = tended-touched x x' id r r' idle.served.tended (rests-touches x x' id r r' e idle.lawful (record {
-      there = c.there; id_is = c.id_is; watched = c.watched; records_are = c.records_are; spare = c.spare; noted_is = c.noted_is;
-      enters = c.enters; leaves = c.leaves;
+      there = c.there;
+      id_is = c.id_is;
+      watched = c.watched;
+      records_are = c.records_are;
+      spare = c.spare;
+      noted_is = c.noted_is;
+      enters = c.enters;
+      leaves = c.leaves;
       slots = λ j n. c.scans.entries.others j (λ e. n (e ∙ c.id_is));
       number_is = c.scans.number;
       room =
@@ -120,9 +126,14 @@ leaves-passing x x' id r r1 r' e idle c = record {
           let now : as_number (is_heaped r') ≡ 0 = ap (λ o. as_number (is_some o)) c.none_heaped in
           let free : x'.heap.spare ≡ x.heap.spare + 1 = c.scans.spare ∙ ap (λ o. x.heap.spare + (if is_some o then 0 else 1)) c.out in
           omega arith);
-      kept = c.kept; same_id = c.same_id; same_kind = c.same_kind; same_blocked = c.same_blocked;
+      kept = c.kept;
+      same_id = c.same_id;
+      same_kind = c.same_kind;
+      same_blocked = c.same_blocked;
       inside = λ some. absurd (none-some r'.heaped c.none_heaped some);
-      needs_not = c.needs_not; none_ready = c.none_ready; none_sent = c.none_sent;
+      needs_not = c.needs_not;
+      none_ready = c.none_ready;
+      none_sent = c.none_sent;
     }));
     marks = fit-enters x.book e x'.book idle.lawful idle.marks_many c.enters c.served idle.served.marks;
     named = named-enters x.book e x'.book c.enters idle.served.named;
@@ -161,8 +172,12 @@ fires-passing x x' id d r r' e reply idle is there records_are spare noted_is fi
       id_is = subst (λ (r : Rec). r.id ≡ id) is d.id_is;
       watched = subst (IsWatched x.book x.heap x.noted) is d.watched;
       heaped = subst (λ (r : Rec). r.heaped ≡ Some x.heap.number) is d.stands.heaped;
-      records_are = records_are; spare = spare; noted_is = noted_is;
-      enters = fires.entered; leaves = leaves; scans = fires.scans;
+      records_are = records_are;
+      spare = spare;
+      noted_is = noted_is;
+      enters = fires.entered;
+      leaves = leaves;
+      scans = fires.scans;
       out = ap (λ (r : Rec). r.heaped) rec_is;
       kept = kept;
       same_id = ap (λ (r : Rec). r.id) rec_is;
@@ -172,7 +187,8 @@ fires-passing x x' id d r r' e reply idle is there records_are spare noted_is fi
       needs_not = ap needs_heap rec_is;
       none_ready = ap (λ (r : Rec). r.ready) rec_is;
       none_sent = ap (λ (r : Rec). r.sending) rec_is;
-      served = served; clock = jumps;
+      served = served;
+      clock = jumps;
     })
 
 -- ---- by what the head was
@@ -217,7 +233,8 @@ pub due-item : (x : Runner) (id : ℕ) (r : Rec) → IsDueHead x id → slice_ge
 due-item x id r d there =
     let is : d.rec ≡ r = (let own = d.there in cc) in
     record {
-      head = d; is = is;
+      head = d;
+      is = is;
       id_is = subst (λ (r : Rec). r.id ≡ id) is d.id_is;
       watched = subst (IsWatched x.book x.heap x.noted) is d.watched;
       heaped = subst (λ (r : Rec). r.heaped ≡ Some x.heap.number) is d.stands.heaped;
@@ -305,7 +322,8 @@ head-sends x x' id r r' reply seq idle d row e =
           let runs = subst (FiresAs (parts x r) r.seq (parts x' r') reply) k by in
           let answer : reply ≡ HeadDone.Send r.seq = runs.answer in
           record {
-            kind = k; book_is = runs.book;
+            kind = k;
+            book_is = runs.book;
             rec_is = runs.rec ∙ (run-due r now d.fresh d.come ∙ ap (λ k. run_as k r now) k);
             scans = runs.scans;
             seq_is = cc;
@@ -404,13 +422,22 @@ sends-passing x x' id seq r r1 r' b1 h1 reply idle d there s records_are spare n
     let rec_is : r' ≡ taken (ended (out_of_heap (begun r now)) seq) None = gives.rec ∙ ap (λ r. taken (ended r seq) None) s.rec_is in
     let same1 : r'.id ≡ r1.id = ap (λ (r : Rec). r.id) gives.rec in
     leaves-passing x x' id r r1 r' (Entry.TRecv waiter.0 id r.key None) idle (record {
-      there = there; id_is = d.id_is; watched = d.watched; heaped = d.heaped; records_are = records_are; spare = spare; noted_is = noted_is;
+      there = there;
+      id_is = d.id_is;
+      watched = d.watched;
+      heaped = d.heaped;
+      records_are = records_are;
+      spare = spare;
+      noted_is = noted_is;
       enters = enters;
       leaves = λ j n. record { timer = λ e. n (sym e); mover = inr (at.1, refl) };
       scans = subst (λ h. Scans x.heap h 0 r r1) (sym heap_is) s.scans;
       out = ap (λ (r : Rec). r.heaped) s.rec_is;
-      kept = record { rec = lent; placed = subst (λ h. Rattle.gt_rows.specs.Lent.IsPlaced h r') (sym heap_is)
-          (placed-same h1 r1 r' same1 (ap (λ (r : Rec). r.heaped) gives.rec) (ap (λ (r : Rec). r.key) gives.rec) kept1.placed) };
+      kept = record {
+        rec = lent;
+        placed = subst (λ h. Rattle.gt_rows.specs.Lent.IsPlaced h r') (sym heap_is)
+            (placed-same h1 r1 r' same1 (ap (λ (r : Rec). r.heaped) gives.rec) (ap (λ (r : Rec). r.key) gives.rec) kept1.placed);
+      };
       same_id = ap (λ (r : Rec). r.id) rec_is;
       same_kind = ap (λ (r : Rec). r.kind) rec_is;
       same_blocked = ap (λ (r : Rec). r.blocked) rec_is;

@@ -83,14 +83,23 @@ head-of x id key tended clean f =
     let here : slice_get x.records.items f.slot.id ≡ Some h.0.rec = subst (λ i. slice_get x.records.items i ≡ Some h.0.rec) f.id_is h.0.there in
     let same : fresh.0.rec ≡ h.0.rec = same-item (slice_get x.records.items f.slot.id) fresh.0.rec h.0.rec fresh.0.there here in
     record {
-      rec = h.0.rec; there = h.0.there; id_is = h.0.id_is; watched = h.0.watched; stands = h.1;
+      rec = h.0.rec;
+      there = h.0.there;
+      id_is = h.0.id_is;
+      watched = h.0.watched;
+      stands = h.1;
       fresh = subst (λ r. is_stale r ≡ false) same fresh.1;
       key_is = f.key_is ∙ h.0.key_is;
     }
 
 pub head-due : (x : Runner) (id key : ℕ) → Head x id key → key ≤ clock x.book.state 0 → IsDueHead x id
 head-due x id key h come = record {
-  rec = h.rec; there = h.there; id_is = h.id_is; watched = h.watched; stands = h.stands; fresh = h.fresh;
+  rec = h.rec;
+  there = h.there;
+  id_is = h.id_is;
+  watched = h.watched;
+  stands = h.stands;
+  fresh = h.fresh;
   come = subst (λ k. k ≤ clock x.book.state 0) h.key_is come;
 }
 

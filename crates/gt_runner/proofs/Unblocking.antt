@@ -71,10 +71,24 @@ unblocked-served x x' g t r r' taken e there records_are spare noted_is heap_is 
     let left : without_first t (t ∷ []) ≡ [] = ap (λ b. cond b [] (t ∷ [])) (eq-eqb t t refl) in
     record {
       tended = tended-touched x x' t r r' taken.but.tended (uncounts-touches x x' t g r r' (record {
-        there = there; id_is = own.1; watched = own.2; channel = channel; records_are = records_are; spare = spare; noted_is = noted_is; heap_is = heap_is;
-        book_is = row.0; marks = t ∷ []; has_marks = has; marked_there = own_marked; record_is = rec_is;
-        kept = record { rec = lent; placed = subst (λ h. IsPlaced h r') (sym heap_is)
-            (placed-same x.heap r r' (ap (λ (r : Rec). r.id) rec_is) (ap (λ (r : Rec). r.heaped) rec_is) (ap (λ (r : Rec). r.key) rec_is) own.2.kept.placed) };
+        there = there;
+        id_is = own.1;
+        watched = own.2;
+        channel = channel;
+        records_are = records_are;
+        spare = spare;
+        noted_is = noted_is;
+        heap_is = heap_is;
+        book_is = row.0;
+        marks = t ∷ [];
+        has_marks = has;
+        marked_there = own_marked;
+        record_is = rec_is;
+        kept = record {
+          rec = lent;
+          placed = subst (λ h. IsPlaced h r') (sym heap_is)
+              (placed-same x.heap r r' (ap (λ (r : Rec). r.id) rec_is) (ap (λ (r : Rec). r.heaped) rec_is) (ap (λ (r : Rec). r.key) rec_is) own.2.kept.placed);
+        };
       }));
       marks = subst (λ (b : BookView). (h : ℕ) → MarkFitsAt b.script b.state b.schedule h) (sym book_is)
           (fit-remarked x.book g (without_first t) (t ∷ []) has taken.but.marks

@@ -70,7 +70,12 @@ after-stop x x' g t r r' reply ready next h there records_are spare noted_is hea
     let number_is : x'.heap.number ≡ x.heap.number = ap (λ (h : LazyHeap). h.number) heap_is in
     after-enters x x' g _ ready s.entered (in_hand-goes (status_of x.book.schedule g) ready.alone.in_hand) tt
     (tended-touched x x' t r r' ready.served.tended (rests-touches x x' t r r' _ ready.lawful (record {
-      there = there; id_is = own.1; watched = own.2; records_are = records_are; spare = spare; noted_is = noted_is;
+      there = there;
+      id_is = own.1;
+      watched = own.2;
+      records_are = records_are;
+      spare = spare;
+      noted_is = noted_is;
       enters = s.entered;
       leaves = λ j n. record { timer = λ e. n (sym e); mover = inr (in_hand-awake x.book g ready.lawful ready.alone.in_hand, refl) };
       slots = λ j n. ap (λ (h : LazyHeap). Rattle.gt_lazy.specs.Slots.slot_with h.slots j) heap_is;
@@ -103,7 +108,14 @@ after-sleep x x' g d id r r' reply ready next its h there records_are spare note
     let by : SleepsBy old g new reply (next_of x.book g) = running-row x.book SetDone.Over reply (new ≡ old) (SleepsBy old g new reply (next_of x.book g)) ready.running row in
     let arms = subst (SleepsBy old g new reply) next by in
     after-armed x x' g id r r' _ _ _ reply ready (record {
-      there = there; id_is = own.1; watched = own.2; records_are = records_are; spare = spare; noted_is = noted_is; arms = arms; kept = kept;
+      there = there;
+      id_is = own.1;
+      watched = own.2;
+      records_are = records_are;
+      spare = spare;
+      noted_is = noted_is;
+      arms = arms;
+      kept = kept;
       leaves = λ j n. record { timer = tt; mover = inl (λ e. n (sym e ∙ sym its)) };
       served = ready.alone.in_hand;
       clock = tt;
@@ -155,7 +167,12 @@ blocks-enrols x x' ticket t r r' reply (Some got) en h channel there records_are
       does = inr (got.0, (got.1, enters));
       served = record {
         tended = tended-touched x x' t r r' en.but.tended (rests-touches x x' t r r' _ en.lawful (record {
-          there = there; id_is = own.1; watched = own.2; records_are = records_are; spare = spare; noted_is = unnoted;
+          there = there;
+          id_is = own.1;
+          watched = own.2;
+          records_are = records_are;
+          spare = spare;
+          noted_is = unnoted;
           enters = enters;
           leaves = λ j n. record { timer = λ e. n (sym e); mover = inr (stands-awake x.book g (Instr.Recv t) en.waits, refl) };
           slots = λ j n. ap (λ (h : LazyHeap). Rattle.gt_lazy.specs.Slots.slot_with h.slots j) row.heap;
@@ -185,8 +202,15 @@ blocks-enrols x x' ticket t r r' reply None en h channel there records_are spare
       does = inl book_is;
       served = record {
         tended = tended-touched x x' t r r' en.but.tended (counts-touches x x' t g r r' (record {
-          there = there; id_is = own.1; watched = own.2; records_are = records_are; spare = spare; noted_is = noted_is;
-          book_is = row.book; place = row.place; unmarked = en.unmarked;
+          there = there;
+          id_is = own.1;
+          watched = own.2;
+          records_are = records_are;
+          spare = spare;
+          noted_is = noted_is;
+          book_is = row.book;
+          place = row.place;
+          unmarked = en.unmarked;
           few = subst (λ i. mark_count x.book.schedule i + 1 ≤ 2 ^ 32 - 1) (sym own.1) few;
           kept = kept;
         }));
@@ -263,13 +287,18 @@ empty-marks m g many e none =
 
 spares-parked : (x x1 : Runner) (m : Schedule) → x1.book ≡ with_schedule x.book m → m.marks ≡ x.book.schedule.marks → x1.records ≡ x.records → x1.heap ≡ x.heap → x1.noted ≡ x.noted → Spares x x1
 spares-parked x x1 m is marks records_are heap_is noted_is = record {
-  records_are = records_are; heap_is = heap_is; noted_is = noted_is;
+  records_are = records_are;
+  heap_is = heap_is;
+  noted_is = noted_is;
   limits = ap (λ (b : BookView). b.limits) is;
   script_is = ap (λ (b : BookView). b.script) is;
   stays = λ j. subst (λ b'. Stays x.book b' x.heap x.heap j) (sym is) (record {
-    script_is = refl; due = refl; period = refl;
+    script_is = refl;
+    due = refl;
+    period = refl;
     count = ap (λ xs. mark_count (record x.book.schedule { marks = xs }) j) marks;
-    slot = refl; number_is = refl;
+    slot = refl;
+    number_is = refl;
   });
 }
 

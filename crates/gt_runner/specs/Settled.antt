@@ -46,7 +46,3 @@ pub record IsClean (x : Runner) : Type 0 where
 -- a time before the head's was noted
 abbrev pub is_early : Runner → Bool
 is_early x = elim x.noted [ None ↦ false | Some v ↦ elim (slice_get x.heap.slots 0) [ None ↦ false | Some s ↦ nat_lt v s.key ] ]
-
--- the same run with other records, another heap and another note
-abbrev pub SameBook : Runner → Runner → Type 0
-SameBook x x' = x'.book ≡ x.book

@@ -35,7 +35,12 @@ fn set(run: &mut Runner, g: u32, t: u32)
     requires wants { WantsSet run.old.book g t }
     ensures { After run.old run.new g }
 {
-    let _done = sec_set(&mut run.heap, run.records.at_mut(t as usize), &mut run.book, g);
+    let _done = sec_set(
+        &mut run.heap,
+        run.records.at_mut(t as usize),
+        &mut run.book,
+        g,
+    );
     run.noted = noted_at(run.noted, run.records.at(t as usize));
 }
 
@@ -72,7 +77,12 @@ fn sleep(run: &mut Runner, g: u32)
     run.book.lawful();
     let id = run.book.script().decls.as_slice().len() as u32 + g;
     grow(run, id);
-    let _done = sec_sleep(&mut run.heap, run.records.at_mut(id as usize), &mut run.book, g);
+    let _done = sec_sleep(
+        &mut run.heap,
+        run.records.at_mut(id as usize),
+        &mut run.book,
+        g,
+    );
     run.noted = noted_at(run.noted, run.records.at(id as usize));
 }
 

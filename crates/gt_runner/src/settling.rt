@@ -38,8 +38,7 @@ fn clean(run: &mut Runner)
     ensures book { run.new.book ≡ run.old.book }
 {
     while let Some(id) = stale_head(run) {
-        let _how = run.heap
-            .clean_head(run.records.at_mut(id as usize));
+        let _how = run.heap.clean_head(run.records.at_mut(id as usize));
     }
 }
 
@@ -63,8 +62,7 @@ fn pass(run: &mut Runner)
     run.heap.begin_pass();
     while let Some(place) = run.heap.next_unscanned() {
         let (_, id, _) = run.heap.entry(place);
-        let _how = run.heap
-            .scan_one(place, run.records.at_mut(id as usize));
+        let _how = run.heap.scan_one(place, run.records.at_mut(id as usize));
     }
     run.noted = None;
 }

@@ -35,9 +35,11 @@ loop-id-preserved c =
     subst (λ (ds : List Decl). slice_get ds c.loop-id.id ≡ Some d) decls
     (slice_get_read c.as_slice-decls.result.now (length c.as_slice-decls.result.now) c.loop-id.id d refl inside c.index-decls-id.is) in
     let is : c.unset.result ≡ unset_rec c.loop-id.id (kind_at d.what) =
-    c.unset.ensures.value ∙ (ap (unset_rec c.loop-id.id) c.kind_of.ensures ∙ ap (λ (d : Decl). unset_rec c.loop-id.id (kind_at d.what)) (sym c.index-decls-id.is)) in
-    (up-to-more c.args.script.now c.loop-id.id c.loop-id.records c.put.new.self c.unset.result d c.loop-id.invariant.0 c.put.ensures.items there is c.unset.ensures.bits,
-      omega arith, omega arith)
+    c.unset.ensures.value ∙ (ap (unset_rec c.loop-id.id) c.kind_of.ensures ∙ ap (λ (d : Decl). unset_rec c.loop-id.id (kind_at d.what)) (sym c.index-decls-id.is)) in (
+      up-to-more c.args.script.now c.loop-id.id c.loop-id.records c.put.new.self c.unset.result d c.loop-id.invariant.0 c.put.ensures.items there is c.unset.ensures.bits,
+      omega arith,
+      omega arith,
+    )
 
 pub returns-clause-first : goal.returns-clause-first
 returns-clause-first c =

@@ -46,10 +46,14 @@ wait-requires c =
     let steps : Steps x.book c.args.g c.step_plain.new.self (Did.Timer (TimerOp.Enrolled c.in-Enrolled.ticket)) =
     subst (λ w. Steps x.book c.args.g c.step_plain.new.self (Did.Timer w)) c.in-Enrolled.is c.in-Timer.ensures in
     let parks : ParksUnder x.book c.args.g c.in-Enrolled.ticket c.step_plain.new.self = steps-enrolled x.book c.args.g c.step_plain.new.self c.in-Enrolled.ticket c.requires.ready.running steps in
-    record { enrolled = (parks.at,
-      subst (λ ticket. IsEnrolled (record x { book = c.step_plain.new.self }) ticket parks.at) (sym parks.its)
-      (parked-enrolled x (record x { book = c.step_plain.new.self }) c.args.g parks.at c.requires.ready (stands-recv x.book c.args.g parks.at parks.waits) parks.parked refl refl refl
-      c.lawful.ensures.lawful c.lawful.ensures.marks)) }
+    record {
+      enrolled = (
+        parks.at,
+        subst (λ ticket. IsEnrolled (record x { book = c.step_plain.new.self }) ticket parks.at) (sym parks.its)
+            (parked-enrolled x (record x { book = c.step_plain.new.self }) c.args.g parks.at c.requires.ready (stands-recv x.book c.args.g parks.at parks.waits) parks.parked refl refl refl
+            c.lawful.ensures.lawful c.lawful.ensures.marks),
+      );
+    }
 
 -- what the two ways to set a timer have in common
 new-needs : (x : Runner) (g : ℕ) (new : BookView) (w : TimerOp) (t : ℕ) → Ready x g → ((d : ℕ) × (w ≡ TimerOp.New t d)) ⊎ ((d : ℕ) × (w ≡ TimerOp.Reset t d))

@@ -17,9 +17,10 @@ loop-id-preserved c =
     let x = c.loop-id.run in
     let h : StaleHead x c.in-Some.id = c.in-Some.ensures.some in
     let k = cleans-item x c.in-Some.id 0 h.slot c.at_mut.result.now c.clean_head-how.new.rec c.clean_head-how.new.self h.held c.at_mut.ensures.value c.clean_head-how.ensures.record
-    c.clean_head-how.ensures.scans c.clean_head-how.ensures.settled c.clean_head-how.ensures.shows c.clean_head-how.ensures.bits in
-    (tended-touched x _ c.in-Some.id c.at_mut.result.now c.clean_head-how.new.rec c.loop-id.invariant.0 (cleans-touches x _ c.in-Some.id 0 c.at_mut.result.now c.clean_head-how.new.rec k),
-      c.loop-id.invariant.1)
+    c.clean_head-how.ensures.scans c.clean_head-how.ensures.settled c.clean_head-how.ensures.shows c.clean_head-how.ensures.bits in (
+      tended-touched x _ c.in-Some.id c.at_mut.result.now c.clean_head-how.new.rec c.loop-id.invariant.0 (cleans-touches x _ c.in-Some.id 0 c.at_mut.result.now c.clean_head-how.new.rec k),
+      c.loop-id.invariant.1,
+    )
 
 pub returns-clause-fresh : goal.returns-clause-fresh
 returns-clause-fresh c = c.in_default.ensures.none refl

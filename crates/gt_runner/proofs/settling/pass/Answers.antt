@@ -35,10 +35,11 @@ loop-place-preserved c =
     let x = c.loop-place.run in
     let h = entry-stands x c.in-Some.place c.entry-id.result.0 c.entry-id.result.1 c.entry-id.result.2 c.loop-place.invariant.0 c.in-Some.ensures.within c.entry-id.ensures.at c.entry-id.ensures.with in
     let k = cleans-item x c.entry-id.result.1 c.in-Some.place _ c.at_mut.result.now c.scan_one-how.new.rec c.scan_one-how.new.self h.0 c.at_mut.ensures.value c.scan_one-how.ensures.record
-    c.scan_one-how.ensures.scans c.scan_one-how.ensures.settled c.scan_one-how.ensures.shows c.scan_one-how.ensures.bits in
-    (tended-touched x _ c.entry-id.result.1 c.at_mut.result.now c.scan_one-how.new.rec c.loop-place.invariant.0 (cleans-touches x _ c.entry-id.result.1 c.in-Some.place c.at_mut.result.now c.scan_one-how.new.rec k),
+    c.scan_one-how.ensures.scans c.scan_one-how.ensures.settled c.scan_one-how.ensures.shows c.scan_one-how.ensures.bits in (
+      tended-touched x _ c.entry-id.result.1 c.at_mut.result.now c.scan_one-how.new.rec c.loop-place.invariant.0 (cleans-touches x _ c.entry-id.result.1 c.in-Some.place c.at_mut.result.now c.scan_one-how.new.rec k),
       c.loop-place.invariant.1,
-      scanned-more x _ c.entry-id.result.1 c.in-Some.place c.at_mut.result.now c.scan_one-how.new.rec k c.loop-place.invariant.2)
+      scanned-more x _ c.entry-id.result.1 c.in-Some.place c.at_mut.result.now c.scan_one-how.new.rec k c.loop-place.invariant.2,
+    )
 
 pub returns-clause-tended : goal.returns-clause-tended
 returns-clause-tended c = tended-unnoted c.loop-place.run c.loop-place.invariant.0 c.loop-place.invariant.2 (c.in_default.ensures.none.0 refl)
