@@ -34,14 +34,7 @@ use Rattle.gt_chtimer.proofs.Asking.{Panics, panic-or-needs, Echoes, Panicked, p
 
 stops-is : (i : Instr) (t : ℕ) → stops i ≡ Some t → i ≡ Instr.Stop t
 stops-is (Instr.Stop u) t h = let is : u ≡ t = cc in ap Instr.Stop is
-stops-is (Instr.Say n) t h = cc
-stops-is Instr.Now t h = cc
-stops-is (Instr.Sleep d) t h = cc
-stops-is (Instr.Go f) t h = cc
-stops-is (Instr.New u d) t h = cc
-stops-is (Instr.Reset u d) t h = cc
-stops-is (Instr.Recv o) t h = cc
-stops-is Instr.Finish t h = cc
+stops-is _ t h = cc
 
 stop-stands : (b : BookView) (g t : ℕ) → StopsAt b g t → stands_at b.script b.state g ≡ Some (Instr.Stop t)
 stop-stands b g t h =

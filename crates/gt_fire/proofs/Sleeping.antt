@@ -33,14 +33,7 @@ use Rattle.gt_fire.proofs.Heads.{not-below}
 instr-asks : (b : BookView) (g : ℕ) (i : Instr) → sleeps i ≡ true → (d : ℕ) × (step_or_panic b.state g i (fault b.script b.state i) ≡ Step.Needs (TimerOp.Sleep d))
 instr-asks b g (Instr.Sleep zero) h = cc
 instr-asks b g (Instr.Sleep (suc d)) h = (suc d, refl)
-instr-asks b g (Instr.Say n) h = cc
-instr-asks b g Instr.Now h = cc
-instr-asks b g (Instr.Go f) h = cc
-instr-asks b g (Instr.New t d) h = cc
-instr-asks b g (Instr.Stop t) h = cc
-instr-asks b g (Instr.Reset t d) h = cc
-instr-asks b g (Instr.Recv o) h = cc
-instr-asks b g Instr.Finish h = cc
+instr-asks b g _ h = cc
 
 sleep-step : (b : BookView) (g : ℕ) → StandsAtSleep b g → (d : ℕ) × (next_of b g ≡ Some (Step.Needs (TimerOp.Sleep d)))
 sleep-step b g stands =

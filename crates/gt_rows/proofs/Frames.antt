@@ -56,19 +56,10 @@ same-cond false x = refl
 woken-is : (script : Script) (s : State) (m : Schedule) (e : Entry) (h : List Entry) → AreWoken script s m (e ∷ h) → IsWoken script s m e
 woken-is script s m (Entry.Say g n) h woken = record { g = g; change = refl; parked = woken.0.0; firm = woken.0.1 }
 woken-is script s m (Entry.Now g now) h woken = record { g = g; change = refl; parked = woken.0.0; firm = woken.0.1 }
-woken-is script s m (Entry.Go g child f) h woken = absurd woken.0
 woken-is script s m (Entry.End g) h woken = let none = rw (same-cond {X = Option ℕ} (is_none (ending_with g)) None) at woken in absurd none.0
 woken-is script s m (Entry.Sleep g None) h woken = record { g = g; change = refl; parked = woken.0.0; firm = woken.0.1 }
-woken-is script s m (Entry.Sleep g (Some until)) h woken = absurd woken.0
 woken-is script s m (Entry.Wake g) h woken = record { g = g; change = refl; parked = woken.0.0; firm = woken.0.1 }
-woken-is script s m (Entry.New g t due) h woken = absurd woken.0
-woken-is script s m (Entry.Stop g t was) h woken = absurd woken.0
-woken-is script s m (Entry.Reset g t was due) h woken = absurd woken.0
-woken-is script s m (Entry.TRecv p t due next) h woken = absurd woken.0
-woken-is script s m (Entry.FireFunc t child) h woken = absurd woken.0
-woken-is script s m (Entry.Clock world to) h woken = absurd woken.0
-woken-is script s m (Entry.Panic p reason) h woken = absurd woken.0
-woken-is script s m (Entry.Finish outcome) h woken = absurd woken.0
+woken-is script s m _ h woken = absurd woken.0
 
 -- what neither such an entry nor a finish changes
 record IsFrame {X : Type 0} (script : Script) (F : State → X) : Type 0 where

@@ -73,11 +73,8 @@ calm-no_clock script s g Instr.Now e h = let is : Entry.Now g (clock_of s g) ≡
 calm-no_clock script s g (Instr.Sleep zero) e h = let is : Entry.Sleep g None ≡ e = cc in subst (ClockJumps script 0 s) is tt
 calm-no_clock script s g (Instr.Sleep (suc d)) e h = cc
 calm-no_clock script s g (Instr.Go f) e h = let is : Entry.Go g (length s.goroutines + 1) f ≡ e = cc in subst (ClockJumps script 0 s) is tt
-calm-no_clock script s g (Instr.New t d) e h = cc
-calm-no_clock script s g (Instr.Stop t) e h = cc
-calm-no_clock script s g (Instr.Reset t d) e h = cc
-calm-no_clock script s g (Instr.Recv o) e h = cc
 calm-no_clock script s g Instr.Finish e h = let is : Entry.End g ≡ e = cc in subst (ClockJumps script 0 s) is tt
+calm-no_clock script s g _ e h = cc
 
 pub makes-no_clock : (old : BookView) (g : ℕ) (e : Entry) → step_of old.script old.state old.schedule g ≡ Some (Step.Makes e) → ClockJumps old.script 0 old.state e
 makes-no_clock old g e h =
@@ -106,12 +103,7 @@ steps-goes old g new did lawful alone none h other =
 -- no operation moves a clock
 op-no_clock : (script : Script) (s : State) (op : Op) → ClockJumps script 0 s (entry_of s op)
 op-no_clock script s (Op.New g t due period) = tt
-op-no_clock script s (Op.Stop g t was) = tt
-op-no_clock script s (Op.Reset g t was due period) = tt
-op-no_clock script s (Op.TRecv p t due next) = tt
-op-no_clock script s (Op.Fire t) = tt
-op-no_clock script s (Op.Sleep g until) = tt
-op-no_clock script s (Op.Wake g) = tt
+op-no_clock script s _ = tt
 
 commits-enters : (old : BookView) (op : Op) (new : BookView) (did : Commit) → is_gone old op ≡ false → Commits old op (is_gone old op) new did → Enters old (entry_of old.state op) new
 commits-enters old op new did here h =
