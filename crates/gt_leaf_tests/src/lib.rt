@@ -3,6 +3,8 @@
 #![tactic(auto)]
 
 #[cfg(test)]
+mod ctx;
+#[cfg(test)]
 mod heap;
 #[cfg(test)]
 mod lazy;
