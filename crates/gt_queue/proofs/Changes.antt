@@ -1,11 +1,10 @@
 -- The links make the queues that the calls promise.
-use Rattle.std.proofs.Common.{◌≡◌, ◌≢◌, ℕ, ◌+◌, ◌-◌, ◌^◌, ◌<◌, eqb, List, [], ◌∷◌, ◌++◌, length, get_or, take, drop, replicate, length-set, zero-add, refl, sym, ◌∙◌, ap, inl, inr, arith}
+use Rattle.std.proofs.Common.{◌≡◌, ◌≢◌, ℕ, ◌+◌, ◌-◌, ◌^◌, ◌<◌, eqb, List, [], ◌∷◌, ◌++◌, length, get_or, replicate, length-set, zero-add, refl, sym, ◌∙◌, ap, inl, inr, arith}
 use Rattle.std.specs.List.{Contains, swap, range_with_len}
 use Rattle.std.proofs.lemmas.Bool.{cases_eq, cases_lt}
-use Rattle.std.proofs.lemmas.List.{length-replicate, get_or-replicate, get_or_past, drop_all, append-nil, take_all}
+use Rattle.std.proofs.lemmas.List.{length-replicate, get_or-replicate, get_or_past}
 use Rattle.std.proofs.lemmas.List.Edits.{Swapped, swapped_from_swap, length-swap}
 use Rattle.std.proofs.lemmas.List.FromFn.{fill_by_all, length-range_with_len, get_or-range_with_len}
-use Rattle.std.proofs.lemmas.Grind.{get_or_default_zero}
 use Rattle.std.proofs.lemmas.Map.Keys.{IsDistinct-from_apart}
 use Rattle.gt_queue.specs.Contents.{waiting_in, IsWaiting, without}
 use Rattle.gt_queue.specs.Links.{walk, linked_queues, Leads, AreRings, IsLinked}
@@ -234,13 +233,6 @@ IsLinked-alone members queues few =
       };
     }
 
--- what a borrowed slice of all elements leaves
-pub written_back : (items new : List ℕ) (n : ℕ) → length new ≡ length items → n ≡ length items → take n (new ++ drop (length new) items) ≡ new
-written_back items new n as_many all =
-    ap (λ rest. take n (new ++ rest)) (drop_all (length new) items (omega arith))
-    ∙ ap (take n) (append-nil new)
-    ∙ take_all n new (omega arith)
-
 -- the links after a call: they make the queues that they show, and these are the queues that the call promises
 pub record Makes (members : ℕ) (next prev : List ℕ) (queues : List (List ℕ)) : Type 0 where
   pub linked : IsLinked members next prev (linked_queues members next)
@@ -266,11 +258,9 @@ module _ (members : ℕ) (next prev next' prev' : List ℕ) (l : IsLinked member
       (Makes-linked members _ _ (removed queues q m) (IsLinked-removed members next prev queues l q m stands))
 
 -- what stands after the node of a queue
-pub Begins-IsLinked : (members : ℕ) (next prev : List ℕ) (queues : List (List ℕ)) → IsLinked members next prev queues → (q node : ℕ) → q < length queues → node ≡ get_or next (members + q) node → Begins members (waiting_in queues q) node
+pub Begins-IsLinked : (members : ℕ) (next prev : List ℕ) (queues : List (List ℕ)) → IsLinked members next prev queues → (q node : ℕ) → q < length queues → node ≡ get_or next (members + q) 0 → Begins members (waiting_in queues q) node
 Begins-IsLinked members next prev queues l q node ql read =
-    let nodes = l.nodes in
-    let at_zero : node ≡ get_or next (members + q) 0 = read ∙ get_or_default_zero next (members + q) node (omega arith) in
-    let path = rw (← at_zero) at (l.leads q ql) in
+    let path = rw (← read) at (l.leads q ql) in
     record {
       member = λ low. Leads-first (λ k. get_or next k 0) members (waiting_in queues q) node (members + q) (omega arith) low path;
       nobody = λ high. Leads-nothing (λ k. get_or next k 0) members (waiting_in queues q) node (members + q) (λ x h. l.lawful.below q x h) high path;

@@ -4,3 +4,4 @@ pub mod Paths
 pub mod Waiting
 pub mod Changes
 pub mod Callers
+pub mod Nodes

@@ -2,7 +2,7 @@
 ghost use Rattle.std.specs.Prelude.{◌≡◌, ℕ, ◌+◌, ◌<◌, ◌^◌, ◌↔◌, [], ◌∷◌, ◌++◌, drop, map, replicate, length, slice_get, slice_set, Contains, IsTrue, IsNone, IfNone, IfOk};
 ghost use Rattle.gt_queue.specs.Contents.{IsLawful, IsWaiting, waiting_in, without};
 
-use crate::links::{alone, splice};
+use crate::links::{Links, splice};
 use std::alloc::{AllocError, Global};
 use std::marker::Model;
 
@@ -15,8 +15,8 @@ use std::marker::Model;
 #[derive(Drop)]
 pub struct Queues {
     members: usize,
-    next: Vec<u32>,
-    prev: Vec<u32>,
+    next: Links,
+    prev: Links,
 }
 
 impl Model for Queues {
@@ -27,12 +27,12 @@ impl Model for Queues {
     ghost use Rattle.gt_queue.specs.Links.{linked_queues, IsLinked};
 
     ghost view = { λ q. record {
-      queues = linked_queues q.members q.next.items;
+      queues = linked_queues q.members q.next;
       members = q.members;
     } };
 
     ghost invariant = { λ q.
-        IsLinked q.members q.next.items q.prev.items (linked_queues q.members q.next.items) };
+        IsLinked q.members q.next q.prev (linked_queues q.members q.next) };
 }
 
 impl Queues {
@@ -42,9 +42,8 @@ impl Queues {
         ensures queues { IfOk result (λ made. made.queues ≡ replicate queues []) }
         ensures members { IfOk result (λ made. made.members ≡ members) }
     {
-        let nodes = (members + queues) as u32;
-        let next = alone(alloc, nodes)?;
-        let prev = alone(alloc, nodes)?;
+        let next = Links::alone(alloc, members, queues)?;
+        let prev = Links::alone(alloc, members, queues)?;
         Ok(Queues {
             members,
             next,
@@ -71,12 +70,7 @@ impl Queues {
         ensures members { self.new.members ≡ self.old.members }
     {
         let end = self.members + queue as usize;
-        splice(
-            self.next.as_mut_slice(),
-            self.prev.as_mut_slice(),
-            end,
-            member as usize,
-        );
+        splice(&mut self.next, &mut self.prev, end, member as usize);
     }
 
     /// The member that has waited longest in a queue, or None where nobody waits there.
@@ -85,7 +79,7 @@ impl Queues {
         ensures first { result ≡ slice_get (waiting_in self.now.queues queue) 0 }
         ensures none { IsNone result ↔ (waiting_in self.now.queues queue ≡ []) }
     {
-        let node = self.next[self.members + queue as usize];
+        let node = self.next.at(self.members + queue as usize);
         if (node as usize) < self.members {
             Some(node)
         } else {
@@ -133,14 +127,9 @@ impl Queues {
         ensures members { self.new.members ≡ self.old.members }
     {
         let node = member as usize;
-        let after = self.next[node] as usize;
+        let after = self.next.at(node) as usize;
         if after != node {
-            splice(
-                self.next.as_mut_slice(),
-                self.prev.as_mut_slice(),
-                node,
-                after,
-            );
+            splice(&mut self.next, &mut self.prev, node, after);
         }
     }
 
@@ -149,7 +138,7 @@ impl Queues {
         requires { member < self.now.members }
         ensures { IsTrue result ↔ IsWaiting self.now.queues member }
     {
-        self.next[member as usize] != member
+        self.next.at(member as usize) != member
     }
 
     /// Whether nobody waits in a queue.

@@ -1,4 +1,9 @@
-use Rattle.std.proofs.Common.{rules, ◌≡◌, ◌+◌, ◌∷◌, ◌++◌, [], length, replicate, arith, refl, ap, ◌∙◌, None}
+use Rattle.std.proofs.Common.{rules, ◌≡◌, ◌+◌, ◌∷◌, ◌++◌, [], length, length-set, replicate, arith, ℕ, ◌≤◌, List, inl, inr, subst, refl, ap, ◌∙◌, None}
+use Rattle.std.proofs.lemmas.List.{length-replicate, get_or-replicate, get_or_past}
+use Rattle.std.proofs.lemmas.Bool.{cases_lt}
+use Rattle.std.specs.List.{Contains}
+use Rattle.gt_queue.specs.Contents.{waiting_in}
+use Rattle.gt_queue.proofs.Members.{Contains-nil}
 use Rattle.gt_schedule.specs.declared.status.RunStatus.{RunStatus}
 use Rattle.gt_schedule.proofs.Keeping.{begun-is}
 use Rattle.gt_schedule.proofs.scheduler.Scheduler.begin.Goals as goal
@@ -19,12 +24,30 @@ returns-clause-kept c =
     let marks : c.put-2.new.self.items ≡ None ∷ [] = c.put-2.ensures.items ∙ ap (λ xs. xs ++ None ∷ []) no_marks in
     let one : length c.put.new.self.items ≡ 1 = ap length statuses in
     let one_mark : length c.put-2.new.self.items ≡ 1 = ap length marks in
+    let made : c.in_ok-queues.queues.queues ≡ replicate (length c.args.script.now.decls + 1) [] = search rules in
+    let many : length c.enqueue.new.self.queues ≡ length c.args.script.now.decls + 1 =
+    ap length c.enqueue.ensures.queues ∙ (length-set c.in_ok-queues.queues.queues 0 _ ∙ (ap length made ∙ length-replicate (length c.args.script.now.decls + 1) [])) in
+    let names : length c.args.script.now.decls ≤ 4096 = search rules in
     record {
       running = rw statuses refl;
       members = search rules;
-      queues = search rules;
+      queues = omega arith;
       few = search rules;
       parks = omega arith;
       marks = omega arith;
       mark_room = search rules;
     }
+
+pub enqueue-requires-clause-free : goal.enqueue-requires-clause-free
+enqueue-requires-clause-free c w =
+    let made : c.in_ok-queues.queues.queues ≡ replicate (length c.args.script.now.decls + 1) [] = search rules in
+    let here : Contains (waiting_in (replicate (length c.args.script.now.decls + 1) []) w.0) 1 = subst (λ qs. Contains (waiting_in qs w.0) 1) made w.1 in
+    nobody (length c.args.script.now.decls + 1) w.0 here
+  where
+    nobody : (n q : ℕ) → Contains (waiting_in (replicate n []) q) 1 → ⊥
+    nobody n q h =
+        let size : length (replicate {A = List ℕ} n []) ≡ n = length-replicate n [] in
+        let empty : waiting_in (replicate n []) q ≡ [] =
+        elim (cases_lt q n) [ inl inside ↦ get_or-replicate n q [] [] inside | inr past ↦ get_or_past (replicate n []) q [] (omega arith) ] in
+        let inside : Contains [] 1 = subst (λ xs. Contains xs 1) empty h in
+        Contains-nil 1 inside
