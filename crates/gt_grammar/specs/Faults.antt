@@ -1,21 +1,23 @@
 -- What is wrong with the lines of a script: the first faulty line, and the first cause on it.
-use Rattle.std.specs.Prelude.{ℕ, ◌+◌, nat_lt, nat_le, Bool, true, false, not, ◌&&◌, ◌||◌, if◌then◌else◌, List, [], ◌∷◌, codes}
-use Rattle.std.specs.Option.{option_map, is_some}
+use Rattle.std.specs.Prelude.{ℕ, ◌+◌, nat_lt, nat_le, Bool, true, false, not, ◌&&◌, ◌||◌, if◌then◌else◌, List, [], ◌∷◌, length, codes}
+use Rattle.std.specs.Option.{option_map, is_some, unwrap_or}
 use Rattle.std.specs.declared.option.Option.{Option}
 use Rattle.std.specs.declared.option.Option.TheVariants.{None, Some}
-use Rattle.gt_model.specs.Good.{most_names, most_functions, most_instructions}
+use Rattle.gt_model.specs.Good.{most_names, most_functions, most_instructions, most_loops}
 use Rattle.gt_lines.specs.Words.{NumberedLine, is_end}
 use Rattle.gt_table.specs.declared.form.Arg.{Arg}
 use Rattle.gt_table.specs.declared.form.Role.{Role}
-use Rattle.gt_table.specs.Forms.{is_declaration, opens, closes, acts, is_amount, is_kind_function}
+use Rattle.gt_table.specs.Forms.{is_declaration, opens, acts, is_amount, is_kind_function}
 use Rattle.gt_table.specs.Table.{form_of}
 use Rattle.gt_names.specs.declared.names.Declared.{Declared}
 use Rattle.gt_names.specs.Names.{Names, names_of}
 use Rattle.gt_grammar.specs.declared.fault.Why.{Why}
 use Rattle.gt_grammar.specs.declared.fault.ScriptFault.{ScriptFault}
 use Rattle.gt_grammar.specs.declared.statement.Statement.{Statement}
-use Rattle.gt_grammar.specs.declared.progress.Progress.{Progress}
-use Rattle.gt_grammar.specs.Statements.{command_of, statement_of, is_head}
+use Rattle.gt_grammar.specs.Progress.{Progress}
+use Rattle.gt_grammar.specs.declared.progress.OpenLoop.{OpenLoop}
+use Rattle.gt_grammar.specs.declared.progress.Held.{Held}
+use Rattle.gt_grammar.specs.Statements.{command_of, statement_of, passes_of, is_head}
 
 -- a cause, and whether it applies
 pub record Test : Type 0 where
@@ -35,6 +37,7 @@ abbrev pub stands : Bool → Role → Bool
 stands inside (Role.Declares kind) = not inside
 stands inside Role.Closes = true
 stands inside Role.Acts = inside
+stands inside Role.Loops = inside
 
 abbrev pub role_of : Statement → Role
 role_of s = (form_of s.keyword).role
@@ -64,15 +67,35 @@ is_before names (Some place) = nat_lt place names
 abbrev pub declares_twice : Progress → Statement → Bool
 declares_twice p s = is_declaration (role_of s) && is_before p.names s.first
 
--- whether a reader is inside a function behind a line
-abbrev pub inside_after : Bool → Role → Bool
-inside_after inside (Role.Declares kind) = is_kind_function kind || inside
-inside_after inside Role.Closes = false
-inside_after inside Role.Acts = inside
+-- whether no loop is open
+abbrev pub are_none_open : List OpenLoop → Bool
+are_none_open [] = true
+are_none_open (inner ∷ outer) = false
 
--- whether a statement is an `end` without its function
-abbrev pub closes_nothing : Progress → Role → Bool
-closes_nothing p role = closes role && not p.inside
+-- whether a reader is inside a function behind a line
+abbrev pub inside_after : Progress → Role → Bool
+inside_after p (Role.Declares kind) = is_kind_function kind || p.inside
+inside_after p Role.Closes = not (are_none_open p.loops)
+inside_after p Role.Acts = p.inside
+inside_after p Role.Loops = p.inside
+
+-- a loop may end that holds something; one with passes holds more than loops that are passed over
+abbrev pub may_end : Bool → Held → Bool
+may_end repeats Held.Nothing = false
+may_end repeats Held.Skipped = not repeats
+may_end repeats Held.Entered = true
+
+-- whether the innermost block that is open may not end: no function is open, or a loop that holds too little
+abbrev pub ends_wrongly : Bool → List OpenLoop → Bool
+ends_wrongly inside [] = not inside
+ends_wrongly inside (inner ∷ outer) = not (may_end inner.repeats inner.held)
+
+-- whether a statement is an `end` that may not stand there, or a fifth loop in four others
+abbrev pub nests_wrongly : Progress → Role → Bool
+nests_wrongly p (Role.Declares kind) = false
+nests_wrongly p Role.Closes = ends_wrongly p.inside p.loops
+nests_wrongly p Role.Acts = false
+nests_wrongly p Role.Loops = nat_le most_loops (length p.loops)
 
 -- whether a line brings the names, functions or instructions above their limits
 abbrev pub brings_too_many : Progress → Role → Bool
@@ -87,9 +110,9 @@ causes is_last lacks_main p s =
     test (not (stands p.inside (role_of s))) Why.Word
     ∷ test (not (names_rightly s)) Why.Name
     ∷ test (declares_twice p s) Why.Twice
-    ∷ test (is_last && inside_after p.inside (role_of s)) Why.Missing
+    ∷ test (is_last && inside_after p (role_of s)) Why.Missing
     ∷ test (not (counts_rightly s)) Why.Number
-    ∷ test (closes_nothing p (role_of s)) Why.Nest
+    ∷ test (nests_wrongly p (role_of s)) Why.Nest
     ∷ test (brings_too_many p (role_of s)) Why.Many
     ∷ test lacks_main Why.NoMain
     ∷ []
@@ -122,20 +145,52 @@ head_cause names is_last line =
 abbrev pub count_if : Bool → ℕ → ℕ
 count_if b n = if b then n + 1 else n
 
+-- the innermost loop holds this now
+abbrev pub holding : Held → List OpenLoop → List OpenLoop
+holding held [] = []
+holding held (inner ∷ outer) = record inner { held = held } ∷ outer
+
+-- a loop that ended stands in the innermost one: one that is passed over adds nothing to what is entered
+abbrev pub held_with : Bool → Held → Held
+held_with true held = Held.Entered
+held_with false Held.Nothing = Held.Skipped
+held_with false Held.Skipped = Held.Skipped
+held_with false Held.Entered = Held.Entered
+
+abbrev pub ended_in : Bool → List OpenLoop → List OpenLoop
+ended_in repeats [] = []
+ended_in repeats (inner ∷ outer) = record inner { held = held_with repeats inner.held } ∷ outer
+
+abbrev pub loop_ended : List OpenLoop → List OpenLoop
+loop_ended [] = []
+loop_ended (inner ∷ outer) = ended_in inner.repeats outer
+
+-- the loops that are open behind a line with this role, the innermost first; a loop that it opens has so many passes
+abbrev pub loops_after : List OpenLoop → Role → ℕ → List OpenLoop
+loops_after loops (Role.Declares kind) count = loops
+loops_after loops Role.Closes count = loop_ended loops
+loops_after loops Role.Acts count = holding Held.Entered loops
+loops_after loops Role.Loops count = (record { repeats = nat_lt 0 count; held = Held.Nothing }) ∷ loops
+
 -- how far a reader is behind a line
-abbrev pub progress_with : Progress → Role → Progress
-progress_with p role = record {
-  inside = inside_after p.inside role;
+abbrev pub progress_with : Progress → Role → ℕ → Progress
+progress_with p role count = record {
+  inside = inside_after p role;
+  loops = loops_after p.loops role count;
   names = count_if (is_declaration role) p.names;
   functions = count_if (opens role) p.functions;
   instructions = count_if (acts role) p.instructions;
 }
 
+-- how many passes a word spells, if it does
+abbrev pub count_of : List ℕ → ℕ
+count_of word = unwrap_or (passes_of word) 0
+
 abbrev pub progress_after : Progress → NumberedLine → Progress
-progress_after p line = elim (command_of line.words) [ None ↦ p | Some c ↦ progress_with p (form_of c.keyword).role ]
+progress_after p line = elim (command_of line.words) [ None ↦ p | Some c ↦ progress_with p (form_of c.keyword).role (count_of c.first) ]
 
 abbrev pub no_progress : Progress
-no_progress = record { inside = false; names = 0; functions = 0; instructions = 0 }
+no_progress = record { inside = false; loops = []; names = 0; functions = 0; instructions = 0 }
 
 -- a fault, where there is a cause; else what is wrong further on
 abbrev pub fault_or : Option Why → ℕ → Option ScriptFault → Option ScriptFault

@@ -1,9 +1,10 @@
 -- The script language: what its lines say.
-use Rattle.std.specs.Prelude.{ℕ, Bool, true, false, ◌&&◌, if◌then◌else◌, List, [], ◌∷◌, codes}
+use Rattle.std.specs.Prelude.{ℕ, nat_le, Bool, true, false, ◌&&◌, if◌then◌else◌, List, [], ◌∷◌, codes}
 use Rattle.std.specs.Option.{option_map, option_and_then}
 use Rattle.std.specs.Str.{bytes_eq}
 use Rattle.std.specs.declared.option.Option.{Option}
 use Rattle.std.specs.declared.option.Option.TheVariants.{None, Some}
+use Rattle.gt_model.specs.Good.{most_passes}
 use Rattle.gt_lines.specs.Words.{Words}
 use Rattle.gt_lines.specs.Number.{number_of}
 use Rattle.gt_table.specs.declared.form.Arg.{Arg}
@@ -72,6 +73,10 @@ setting_place d = if is_kind_function d.kind then None else Some d.place
 abbrev pub function_place : Declared → Option ℕ
 function_place d = if is_kind_function d.kind then Some d.func else None
 
+-- how many passes of a loop a word spells: at most 1,000,000
+abbrev pub passes_of : List ℕ → Option ℕ
+passes_of word = elim (number_of word) [ None ↦ None | Some n ↦ if nat_le n most_passes then Some n else None ]
+
 -- The value of a word: for a name the place at which it is declared first, for an amount the amount. None where the word is wrong
 abbrev pub value_of : Names → Arg → List ℕ → Option ℕ
 value_of names Arg.Nothing word = Some 0
@@ -81,6 +86,7 @@ value_of names Arg.Setting word = option_and_then setting_place (names word)
 value_of names Arg.Function word = option_and_then function_place (names word)
 value_of names Arg.Duration word = duration_of word
 value_of names Arg.Number word = number_of word
+value_of names Arg.Passes word = passes_of word
 
 -- a command, with its names looked up and its amounts read
 abbrev pub statement_of : Names → Command → Statement

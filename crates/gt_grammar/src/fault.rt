@@ -25,7 +25,8 @@ pub enum Why {
     Missing,
     /// A number or a duration is spelled wrongly or out of range.
     Number,
-    /// An `end` without its function.
+    /// An `end` without its loop or function, a fifth loop inside four others, or the `end` of a loop that holds nothing, or has passes
+    /// and holds only loops without passes.
     Nest,
     /// The line brings the declared names above 4,096, the functions above 256, or the instructions above 100,000.
     Many,

@@ -1,9 +1,9 @@
 -- What a script keeps to that the reader accepts.
-use Rattle.std.specs.Prelude.{ℕ, ◌+◌, ◌-◌, ◌<◌, ◌≤◌, ◌≡◌, ◌≢◌, ◌==◌, nat_le, Bool, true, false, cond, ◌&&◌, ◌||◌, IsTrue, List, [], ◌∷◌, ◌++◌, length, map, slice_get, sum_by, codes}
+use Rattle.std.specs.Prelude.{ℕ, zero, suc, ◌+◌, ◌-◌, ◌^◌, ◌<◌, ◌≤◌, ◌≡◌, ◌≢◌, ◌==◌, nat_le, Bool, true, false, cond, if◌then◌else◌, ◌&&◌, ◌||◌, IsTrue, List, [], ◌∷◌, ◌++◌, length, map, filter, slice_get, sum_by, codes}
 use Rattle.std.specs.List.{All, list_all}
 use Rattle.std.specs.Option.{option_map, option_and_then}
 use Rattle.std.specs.declared.option.Option.{Option}
-use Rattle.std.specs.declared.option.Option.TheVariants.{Some}
+use Rattle.std.specs.declared.option.Option.TheVariants.{None, Some}
 use Rattle.gt_model.specs.declared.script.Script.{Script}
 use Rattle.gt_model.specs.declared.script.Decl.{Decl}
 use Rattle.gt_model.specs.declared.script.Func.{Func}
@@ -32,6 +32,14 @@ abbrev pub is_name : List ℕ → Bool
 is_name [] = false
 is_name (b ∷ bs) = is_letter b && list_all is_name_byte bs && nat_le (length bs) 31
 
+-- the greatest number of passes that a loop may have
+abbrev pub most_passes : ℕ
+most_passes = 1000000
+
+-- how deep loops may stand in one another
+abbrev pub most_loops : ℕ
+most_loops = 4
+
 -- What an instruction names is declared as such, and its times are at most the greatest. A channel timer alone is received from
 abbrev pub NamesRightly : Script → Instr → Type 0
 NamesRightly script (Instr.Say n) = Unit {0}
@@ -42,6 +50,8 @@ NamesRightly script (Instr.New t d) = IsTrue (is_setting script t) × (d ≤ gre
 NamesRightly script (Instr.Stop t) = IsTrue (is_setting script t)
 NamesRightly script (Instr.Reset t d) = IsTrue (is_setting script t) × (d ≤ greatest_time)
 NamesRightly script (Instr.Recv o) = IsTrue (is_timer script o)
+NamesRightly script (Instr.LoopTop depth count past) = count ≤ most_passes
+NamesRightly script (Instr.LoopEnd depth top) = Unit {0}
 NamesRightly script Instr.Finish = Unit {0}
 
 -- whether an instruction is the end of a function
@@ -54,9 +64,41 @@ pub record IsGoodInstr (script : Script) (n i : ℕ) (instr : Instr) : Type 0 wh
   pub names : NamesRightly script instr
   pub last : is_finish instr ≡ i + 1 == n
 
+-- whether a goroutine that goes on from the index i meets an instruction that makes an entry before it meets the end of a loop; it looks at no more than so many
+-- instructions. It passes over the loops with a count of 0, and enters the others
+abbrev pub meets_instr : ℕ → List Instr → ℕ → Bool
+meets_instr zero code i = false
+meets_instr (suc more) code i = elim (slice_get code i) [
+  | None ↦ false
+  | Some x ↦ elim x [
+    | Instr.LoopTop depth count past ↦ meets_instr more code (if count == 0 then past else i + 1)
+    | Instr.LoopEnd depth top ↦ false
+    | _ ↦ true
+  ]
+]
+
+-- the loop whose top has the index i has its end in the code, and a loop in it stands deeper and ends before it does
+pub record IsGoodLoop (code : List Instr) (i depth count past : ℕ) : Type 0 where
+  pub shallow : depth < most_loops
+  pub ahead : i + 1 < past
+  pub within : past < length code
+  pub end : slice_get code (past - 1) ≡ Some (Instr.LoopEnd depth i)
+  pub nested : (j inner passes behind : ℕ) → i < j → j < past → slice_get code j ≡ Some (Instr.LoopTop inner passes behind) → (depth < inner) × (behind < past)
+  -- each pass makes an entry
+  pub moves : 0 < count → meets_instr (length code) code (i + 1) ≡ true
+
+-- the end of a loop has the index i: its top stands before it
+pub record IsGoodEnd (code : List Instr) (i depth top : ℕ) : Type 0 where
+  pub before : top < i
+  pub count : ℕ
+  pub begin : slice_get code top ≡ Some (Instr.LoopTop depth count (i + 1))
+
 pub record IsGoodCode (script : Script) (code : List Instr) : Type 0 where
   pub some : 0 < length code
+  pub short : length code < 2 ^ 32
   pub each : (i : ℕ) (x : Instr) → slice_get code i ≡ Some x → IsGoodInstr script (length code) i x
+  pub loops : (i depth count past : ℕ) → slice_get code i ≡ Some (Instr.LoopTop depth count past) → IsGoodLoop code i depth count past
+  pub ends : (i depth top : ℕ) → slice_get code i ≡ Some (Instr.LoopEnd depth top) → IsGoodEnd code i depth top
 
 -- a declaration names what it starts
 abbrev pub StartsRightly : Script → What → Type 0
@@ -78,9 +120,16 @@ most_instructions = 100000
 abbrev pub most_entries : ℕ
 most_entries = 200000
 
--- how many instructions a script has: `Finish` stands for no line with an instruction
+-- whether an instruction stands for a line with an instruction: the bounds of a loop and the end of a function do not
+abbrev pub is_line : Instr → Bool
+is_line (Instr.LoopTop depth count past) = false
+is_line (Instr.LoopEnd depth top) = false
+is_line Instr.Finish = false
+is_line _ = true
+
+-- how many instructions a script has
 abbrev pub instruction_count : Script → ℕ
-instruction_count script = sum_by (λ (f : Func). length f.code - 1) script.funcs
+instruction_count script = sum_by (λ (f : Func). length (filter is_line f.code)) script.funcs
 
 -- whether a declaration is that of a function
 abbrev pub is_function : What → Bool

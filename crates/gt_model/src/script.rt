@@ -58,6 +58,11 @@ pub enum Instr {
     Reset { t: u32, d: u64 },
     /// Receive from a timer.
     Recv { o: u32 },
+    /// The top of a loop, around which are `depth` other loops of the function: with a count of 0 the loop is passed over, to the index `past`, behind its
+    /// end; else its body is passed `count` times. It makes no entry.
+    LoopTop { depth: u8, count: u32, past: u32 },
+    /// The end of the loop whose top has the index `top`. It makes no entry.
+    LoopEnd { depth: u8, top: u32 },
     /// The end of the function.
     Finish,
 }
@@ -69,4 +74,6 @@ pub struct Place {
     pub func: u32,
     /// The index in that function's code.
     pub at: u32,
+    /// How many passes are left of the loops round it, the present one among them: by depth, the outermost first.
+    pub loops: [u32; 4],
 }

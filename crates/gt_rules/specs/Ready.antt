@@ -15,9 +15,11 @@ abbrev pub is_due : Option ℕ → ℕ → Bool
 is_due None now = false
 is_due (Some due) now = nat_le due now
 
--- whether a goroutine of world w could go on that stands at this instruction and makes no panic
+-- Whether a goroutine of world w could go on that stands at this instruction and makes no panic. Nobody stands at the bounds of a loop
 abbrev pub is_ready_instr : Script → State → ℕ → Instr → Bool
 is_ready_instr script s w (Instr.Recv o) = is_due (due_of s o) (clock s w)
+is_ready_instr script s w (Instr.LoopTop depth count past) = false
+is_ready_instr script s w (Instr.LoopEnd depth top) = false
 is_ready_instr script s w _ = true
 
 abbrev pub is_ready_in : Script → State → Goroutine → Mode → Bool
@@ -33,6 +35,8 @@ is_ready script s r = is_ready_in script s r r.mode
 -- an instruction that can go on by another cause than the receive of a timer
 abbrev pub goes_on : Instr → Bool
 goes_on (Instr.Recv o) = false
+goes_on (Instr.LoopTop depth count past) = false
+goes_on (Instr.LoopEnd depth top) = false
 goes_on _ = true
 
 -- Whether a parked goroutine is firmly ready: by another cause than the time of its sleep or the receive of a timer.

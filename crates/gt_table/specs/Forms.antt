@@ -2,6 +2,7 @@
 use Rattle.std.specs.Prelude.{ℕ, Bool, true, false}
 use Rattle.std.specs.declared.option.Option.{Option}
 use Rattle.std.specs.declared.option.Option.TheVariants.{None, Some}
+use Rattle.gt_model.specs.Good.{most_passes}
 use Rattle.gt_model.specs.Times.{greatest_time}
 use Rattle.gt_table.specs.declared.form.Arg.{Arg}
 use Rattle.gt_table.specs.declared.form.Kind.{Kind}
@@ -12,11 +13,13 @@ abbrev pub declared_kind : Role → Option Kind
 declared_kind (Role.Declares kind) = Some kind
 declared_kind Role.Closes = None
 declared_kind Role.Acts = None
+declared_kind Role.Loops = None
 
 abbrev pub is_declaration : Role → Bool
 is_declaration (Role.Declares kind) = true
 is_declaration Role.Closes = false
 is_declaration Role.Acts = false
+is_declaration Role.Loops = false
 
 abbrev pub is_kind_function : Kind → Bool
 is_kind_function Kind.Timer = false
@@ -33,17 +36,27 @@ abbrev pub opens : Role → Bool
 opens (Role.Declares kind) = is_kind_function kind
 opens Role.Closes = false
 opens Role.Acts = false
+opens Role.Loops = false
 
 abbrev pub closes : Role → Bool
 closes (Role.Declares kind) = false
 closes Role.Closes = true
 closes Role.Acts = false
+closes Role.Loops = false
 
 -- whether it is an instruction
 abbrev pub acts : Role → Bool
 acts (Role.Declares kind) = false
 acts Role.Closes = false
 acts Role.Acts = true
+acts Role.Loops = false
+
+-- whether it opens a loop
+abbrev pub loops : Role → Bool
+loops (Role.Declares kind) = false
+loops Role.Closes = false
+loops Role.Acts = false
+loops Role.Loops = true
 
 -- whether a word is wanted there
 abbrev pub is_wanted : Arg → Bool
@@ -54,6 +67,7 @@ is_wanted Arg.Setting = true
 is_wanted Arg.Function = true
 is_wanted Arg.Duration = true
 is_wanted Arg.Number = true
+is_wanted Arg.Passes = true
 
 -- whether a word of this kind spells an amount; the others are names
 abbrev pub is_amount : Arg → Bool
@@ -64,6 +78,7 @@ is_amount Arg.Setting = false
 is_amount Arg.Function = false
 is_amount Arg.Duration = true
 is_amount Arg.Number = true
+is_amount Arg.Passes = true
 
 -- the greatest value of a word of this kind: a place and a number have 32 bits, a duration is a time
 abbrev pub most_of : Arg → ℕ
@@ -74,3 +89,4 @@ most_of Arg.Setting = 4294967295
 most_of Arg.Function = 4294967295
 most_of Arg.Duration = greatest_time
 most_of Arg.Number = 4294967295
+most_of Arg.Passes = most_passes

@@ -27,6 +27,7 @@ row_of Keyword.Timer = row (codes "timer") (Role.Declares Kind.Timer) Arg.NewNam
 row_of Keyword.AfterFunc = row (codes "afterfunc") (Role.Declares Kind.AfterFunc) Arg.NewName Arg.Function (λ a f. Step.Declare (What.AfterFunc f))
 row_of Keyword.Func = row (codes "func") (Role.Declares Kind.Function) Arg.NewName Arg.Nothing (λ decl b. Step.Open decl)
 row_of Keyword.End = row (codes "end") Role.Closes Arg.Nothing Arg.Nothing (λ a b. Step.Close)
+row_of Keyword.Loop = row (codes "loop") Role.Loops Arg.Passes Arg.Nothing (λ n b. Step.Loop n)
 row_of Keyword.Say = row (codes "say") Role.Acts Arg.Number Arg.Nothing (λ n b. Step.Do (Instr.Say n))
 row_of Keyword.Now = row (codes "now") Role.Acts Arg.Nothing Arg.Nothing (λ a b. Step.Do Instr.Now)
 row_of Keyword.Sleep = row (codes "sleep") Role.Acts Arg.Duration Arg.Nothing (λ d b. Step.Do (Instr.Sleep d))
@@ -38,7 +39,7 @@ row_of Keyword.Recv = row (codes "recv") Role.Acts Arg.Timer Arg.Nothing (λ o b
 
 abbrev pub keywords : List Keyword
 keywords =
-    Keyword.Timer ∷ Keyword.AfterFunc ∷ Keyword.Func ∷ Keyword.End ∷ Keyword.Say ∷ Keyword.Now ∷ Keyword.Sleep ∷ Keyword.Go ∷ Keyword.New
+    Keyword.Timer ∷ Keyword.AfterFunc ∷ Keyword.Func ∷ Keyword.End ∷ Keyword.Loop ∷ Keyword.Say ∷ Keyword.Now ∷ Keyword.Sleep ∷ Keyword.Go ∷ Keyword.New
     ∷ Keyword.Stop ∷ Keyword.Reset ∷ Keyword.Recv ∷ []
 
 abbrev pub keyword_in : List Keyword → List ℕ → Option Keyword

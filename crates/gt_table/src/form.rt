@@ -29,6 +29,8 @@ pub enum Arg {
     Duration,
     /// A number of 32 bits.
     Number,
+    /// A number of passes of a loop: 0 to 1,000,000.
+    Passes,
 }
 
 /// Where a line stands, and what it is there.
@@ -36,10 +38,12 @@ pub enum Arg {
 pub enum Role {
     /// It stands outside functions and declares a name. The declaration of a function opens it.
     Declares { kind: Kind },
-    /// It closes a function.
+    /// It closes the innermost loop that is open, or else the function.
     Closes,
     /// It stands inside a function and is an instruction.
     Acts,
+    /// It stands inside a function and opens a loop.
+    Loops,
 }
 
 /// What a keyword makes of its line.
@@ -59,7 +63,9 @@ pub enum Step {
     Open { decl: u32 },
     /// Goes on with an instruction.
     Do { instr: Instr },
-    /// Closes the function.
+    /// Opens a loop with so many passes.
+    Loop { count: u32 },
+    /// Closes the innermost loop that is open, or else the function.
     Close,
 }
 
@@ -78,13 +84,13 @@ impl Arg {
     pub fn is_amount(self) -> bool
         ensures { result ≡ is_amount self }
     {
-        matches!(self, Arg::Duration | Arg::Number)
+        matches!(self, Arg::Duration | Arg::Number | Arg::Passes)
     }
 }
 
 impl Role {
     ghost use Rattle.std.specs.Prelude.{◌≡◌};
-    ghost use Rattle.gt_table.specs.Forms.{declared_kind, is_declaration, opens, closes, acts};
+    ghost use Rattle.gt_table.specs.Forms.{declared_kind, is_declaration, opens, closes, acts, loops};
 
     /// What it declares a name as, if it declares one.
     pub fn declared_kind(self) -> Option<Kind>
@@ -92,7 +98,7 @@ impl Role {
     {
         match self {
             Role::Declares { kind } => Some(kind),
-            Role::Closes | Role::Acts => None,
+            Role::Closes | Role::Acts | Role::Loops => None,
         }
     }
 
@@ -109,11 +115,11 @@ impl Role {
     {
         match self {
             Role::Declares { kind } => matches!(kind, Kind::Function),
-            Role::Closes | Role::Acts => false,
+            Role::Closes | Role::Acts | Role::Loops => false,
         }
     }
 
-    /// Whether it closes a function.
+    /// Whether it closes a loop or a function.
     pub fn closes(self) -> bool
         ensures { result ≡ closes self }
     {
@@ -125,6 +131,13 @@ impl Role {
         ensures { result ≡ acts self }
     {
         matches!(self, Role::Acts)
+    }
+
+    /// Whether it opens a loop.
+    pub fn loops(self) -> bool
+        ensures { result ≡ loops self }
+    {
+        matches!(self, Role::Loops)
     }
 }
 
