@@ -1,5 +1,5 @@
 -- When the deeds of lines follow one another rightly.
-use Rattle.std.proofs.Common.{◌≡◌, ℕ, ◌+◌, ◌<◌, ◌≤◌, Bool, true, false, List, [], ◌∷◌, Option, None, Some, ltb}
+use Rattle.std.proofs.Common.{◌≡◌, ℕ, ◌+◌, ◌<◌, ◌≤◌, Bool, true, false, List, [], ◌∷◌, Option, None, Some, ltb as nat_lt, length}
 use Rattle.gt_model.specs.declared.script.What.{What}
 use Rattle.gt_model.specs.declared.script.Instr.{Instr}
 use Rattle.gt_model.specs.Times.{greatest_time}
@@ -7,7 +7,10 @@ use Rattle.gt_table.specs.declared.form.Kind.{Kind}
 use Rattle.gt_table.specs.Forms.{is_kind_function, is_kind_timer}
 use Rattle.gt_names.specs.declared.names.Declared.{Declared}
 use Rattle.gt_names.specs.Names.{Names, Naming, is_free_name, Declaration, declaration}
-use Rattle.gt_grammar.specs.Deeds.{Deed, declares, opens, does, closes}
+use Rattle.gt_grammar.specs.declared.progress.OpenLoop.{OpenLoop}
+use Rattle.gt_grammar.specs.declared.progress.Held.{Held}
+use Rattle.gt_grammar.specs.Faults.{holding, may_end, loop_ended}
+use Rattle.gt_grammar.specs.Deeds.{Deed, declares, opens, does, loops, closes}
 
 abbrev pub kind_in : What → Kind
 kind_in What.Timer = Kind.Timer
@@ -21,7 +24,7 @@ place_of (Some d) = d.place
 
 abbrev pub is_declared_before : ℕ → Option Declared → Bool
 is_declared_before n None = false
-is_declared_before n (Some d) = ltb d.place n
+is_declared_before n (Some d) = nat_lt d.place n
 
 abbrev pub naming_as : List ℕ → Kind → Naming
 naming_as name kind = record { name = name; kind = kind }
@@ -31,6 +34,7 @@ names_in n f [] = []
 names_in n f (declares name what ∷ rest) = declaration (naming_as name (kind_in what)) n f ∷ names_in (n + 1) f rest
 names_in n f (opens name decl ∷ rest) = declaration (naming_as name Kind.Function) n f ∷ names_in (n + 1) (f + 1) rest
 names_in n f (does instr ∷ rest) = names_in n f rest
+names_in n f (loops count ∷ rest) = names_in n f rest
 names_in n f (closes ∷ rest) = names_in n f rest
 
 -- a name that is declared
@@ -49,6 +53,8 @@ Refers names (Instr.New t d) = (r : Ref names) × (is_kind_function r.declared.k
 Refers names (Instr.Stop t) = (r : Ref names) × (is_kind_function r.declared.kind ≡ false) × (t ≡ r.declared.place)
 Refers names (Instr.Reset t d) = (r : Ref names) × (is_kind_function r.declared.kind ≡ false) × (t ≡ r.declared.place) × (d ≤ greatest_time)
 Refers names (Instr.Recv o) = (r : Ref names) × (is_kind_timer r.declared.kind ≡ true) × (o ≡ r.declared.place)
+Refers names (Instr.LoopTop depth count past) = ⊥
+Refers names (Instr.LoopEnd depth top) = ⊥
 Refers names Instr.Finish = ⊥
 
 abbrev pub Starts : Names → What → Type 0
@@ -61,11 +67,18 @@ pub record IsNew (names : Names) (name : List ℕ) (n : ℕ) : Type 0 where
   pub free : is_free_name name ≡ true
   pub first : is_declared_before n (names name) ≡ false
 
--- deeds that follow one another rightly, behind so many names, functions and instructions
-abbrev pub Right : Names → Bool → ℕ → ℕ → ℕ → List Deed → Type 0
-Right names inside n f k [] = inside ≡ false
-Right names inside n f k (declares name what ∷ rest) = (inside ≡ false) × (n < 4096) × IsNew names name n × Starts names what × Right names false (n + 1) f k rest
-Right names inside n f k (opens name decl ∷ rest) =
-    (inside ≡ false) × (n < 4096) × (f < 256) × IsNew names name n × (decl ≡ place_of (names name)) × Right names true (n + 1) (f + 1) k rest
-Right names inside n f k (does instr ∷ rest) = (inside ≡ true) × (k < 100000) × Refers names instr × Right names true n f (k + 1) rest
-Right names inside n f k (closes ∷ rest) = (inside ≡ true) × Right names false n f k rest
+-- deeds that follow one another rightly, behind so many names, functions and instructions, where these loops are open, the innermost first
+abbrev pub Right : Names → Bool → List OpenLoop → ℕ → ℕ → ℕ → List Deed → Type 0
+Right names inside open_loops n f k [] = inside ≡ false
+Right names inside open_loops n f k (declares name what ∷ rest) =
+    (inside ≡ false) × (n < 4096) × IsNew names name n × Starts names what × Right names false open_loops (n + 1) f k rest
+Right names inside open_loops n f k (opens name decl ∷ rest) =
+    (inside ≡ false) × (n < 4096) × (f < 256) × IsNew names name n × (decl ≡ place_of (names name)) × (open_loops ≡ []) × Right names true [] (n + 1) (f + 1) k rest
+Right names inside open_loops n f k (does instr ∷ rest) =
+    (inside ≡ true) × (k < 100000) × Refers names instr × Right names true (holding Held.Entered open_loops) n f (k + 1) rest
+Right names inside open_loops n f k (loops count ∷ rest) =
+    (inside ≡ true) × (count ≤ 1000000) × (length open_loops < 4)
+    × Right names true ((record { repeats = nat_lt 0 count; held = Held.Nothing }) ∷ open_loops) n f k rest
+Right names inside [] n f k (closes ∷ rest) = (inside ≡ true) × Right names false [] n f k rest
+Right names inside (inner ∷ outer) n f k (closes ∷ rest) =
+    (inside ≡ true) × (may_end inner.repeats inner.held ≡ true) × Right names true (loop_ended (inner ∷ outer)) n f k rest
