@@ -9,6 +9,7 @@ use Rattle.gt_model.specs.declared.script.Decl.{Decl}
 use Rattle.gt_model.specs.declared.script.Func.{Func}
 use Rattle.gt_model.specs.declared.script.What.{What}
 use Rattle.gt_model.specs.declared.script.Instr.{Instr}
+use Rattle.gt_model.specs.declared.script.Place.{Place}
 use Rattle.gt_model.specs.declared.entry.Entry.{Entry}
 use Rattle.gt_model.specs.declared.entry.Limits.{Limits}
 use Rattle.gt_model.specs.declared.entry.Outcome.{Outcome}
@@ -28,8 +29,10 @@ use Rattle.gt_rules.specs.After.{after, first_state, moved_on, moved, in_mode, b
 use Rattle.gt_rules.specs.Legal.{May, operation}
 use Rattle.gt_rules.specs.Finish.{Legal}
 use Rattle.gt_rules.specs.History.{AllLegal, state_after}
-use Rattle.gt_facts.specs.Formed.{IsFormed, IsPlaced, IsPlacedIn}
+use Rattle.gt_rules.specs.Places.{silent, silent_at, settled}
+use Rattle.gt_facts.specs.Formed.{IsFormed, IsOnWay, IsPlaced, IsPlacedIn}
 use Rattle.gt_model.proofs.GoodCode.{HasItem, has_item, all_at, main_within}
+use Rattle.gt_facts.proofs.Landing.{way-forward, passes, Landed, landed}
 use Rattle.gt_facts.proofs.Lookups.{Standing, standing, AtOperation, at_operation}
 use Rattle.gt_facts.proofs.Makers.{Maker, calls, receives, wakes, ticks, maker, Leaves, Sets, sets, Begins, AllBegin, starts, starts-few}
 use Rattle.gt_model.proofs.Items.{at-is}
@@ -98,17 +101,6 @@ good_code script func place good h =
       | Some f ↦ λ e k. all_at (λ (f : Func). IsGoodCode script f.code) script.funcs func f good.code e
     ] refl h
 
-good_instr : (script : Script) (func place : ℕ) (i : Instr) → IsGood script → slice_get (code_of script func) place ≡ Some i → IsGoodInstr script (length (code_of script func)) place i
-good_instr script func place i good on = (good_code script func place good (slice_get_within (code_of script func) place i on)).each place i on
-
--- behind an instruction that is no end stands another
-follows_at : (script : Script) (func place : ℕ) (i : Instr) → IsGood script → slice_get (code_of script func) place ≡ Some i → is_finish i ≡ false → place + 1 < length (code_of script func)
-follows_at script func place i good on next =
-    let here : place < length (code_of script func) = slice_get_within (code_of script func) place i on in
-    let last : is_finish i ≡ eqb (place + 1) (length (code_of script func)) = (good_instr script func place i good on).last in
-    let not_last : place + 1 ≡ length (code_of script func) → ⊥ = eqb-false (place + 1) (length (code_of script func)) (sym last ∙ next) in
-    omega arith
-
 instr_there : (script : Script) (s : State) (g : ℕ) (i : Instr) (r : Goroutine) → stands_at script s g ≡ Some i → goroutine_at s g ≡ Some r → instr_at script r.place ≡ Some i
 instr_there script s g i r h e =
     let st : Standing script s g i = standing script s g i h in
@@ -116,19 +108,47 @@ instr_there script s g i r h e =
     let same : st.who ≡ r = cc in
     subst (λ (q : Goroutine). instr_at script q.place ≡ Some i) same st.on
 
-follows : (script : Script) (s : State) (g : ℕ) (i : Instr) (r : Goroutine) → IsGood script → stands_at script s g ≡ Some i → is_finish i ≡ false → goroutine_at s g ≡ Some r
-    → r.place.at + 1 < length (code_of script r.place.func)
-follows script s g i r good h next e = follows_at script r.place.func r.place.at i good (instr_there script s g i r h e) next
+awake_there : (script : Script) (s : State) (g : ℕ) (i : Instr) (r : Goroutine) → stands_at script s g ≡ Some i → goroutine_at s g ≡ Some r → r.mode ≡ Mode.At
+awake_there script s g i r h e =
+    let st : Standing script s g i = standing script s g i h in
+    let there : goroutine_at s g ≡ Some st.who = st.there in
+    let same : st.who ≡ r = cc in
+    subst (λ (q : Goroutine). q.mode ≡ Mode.At) same st.at
 
-begins : (script : Script) (f : ℕ) → IsGood script → f < length script.funcs → 0 < length (code_of script f)
+-- an instruction that makes an entry
+silent-here : (script : Script) (p : Place) (i : Instr) → instr_at script p ≡ Some i → silent_at (code_of script p.func) p ≡ None → silent p i ≡ None
+silent-here script p i on none = sym (ap (λ (o : Option Instr). elim o as (λ o. Option Place) [ None ↦ None | Some i ↦ silent p i ]) on) ∙ none
+
+passes-not : (p : Place) (i : Instr) → silent p i ≡ None → passes i ≡ false
+passes-not p (Instr.LoopTop depth zero past) none = cc
+passes-not p _ none = refl
+
+follows : (script : Script) (s : State) (g : ℕ) (i : Instr) (r : Goroutine) → IsGood script → IsFormed script s → stands_at script s g ≡ Some i → is_finish i ≡ false → goroutine_at s g ≡ Some r
+    → IsOnWay (code_of script r.place.func) (r.place.at + 1)
+follows script s g i r good formed h next e =
+    let on : instr_at script r.place ≡ Some i = instr_there script s g i r h e in
+    let at : r.mode ≡ Mode.At = awake_there script s g i r h e in
+    let placed : IsPlacedIn (code_of script r.place.func) r.place Mode.At = subst (IsPlacedIn (code_of script r.place.func) r.place) at (formed.placed g r e) in
+    way-forward script (code_of script r.place.func) r.place.at i (good_code script r.place.func r.place.at good (slice_get_within (code_of script r.place.func) r.place.at i on)) placed.0 on next
+    (passes-not r.place i (silent-here script r.place i on placed.1))
+
+-- who goes on from the way stands at an instruction again
+lands-placed : (script : Script) (p : Place) → IsGood script → IsOnWay (code_of script p.func) p.at → IsPlacedIn (code_of script (settled script p).func) (settled script p) Mode.At
+lands-placed script p good way =
+    let to : Landed (code_of script p.func) p = landed script (code_of script p.func) p (good_code script p.func p.at good way.within) way in
+    subst (λ f. IsPlacedIn (code_of script f) (settled script p) Mode.At) (sym to.func) (to.way, to.stands)
+
+-- the beginning of a function is in no loop
+begins : (script : Script) (f : ℕ) → IsGood script → f < length script.funcs → IsOnWay (code_of script f) 0
 begins script f good h =
     let found : HasItem script.funcs f = has_item script.funcs f h in
     let code : IsGoodCode script found.item.code = all_at (λ (x : Func). IsGoodCode script x.code) script.funcs f found.item good.code found.there in
     let is : code_of script f ≡ found.item.code = rw (found.there, code_of) refl in
-    subst (λ (xs : List Instr). 0 < length xs) (sym is) code.some
+    record { within = subst (λ (xs : List Instr). 0 < length xs) (sym is) code.some; entered = λ i depth past top before inside. absurd (omega arith) }
 
 begun-formed : (script : Script) (w f : ℕ) → IsGood script → w ≡ 0 → f < length script.funcs → IsFormedGoroutine script (begun script w f)
-begun-formed script w f good zero_world h = record { world = zero_world; placed = begins script f good h; until = tt }
+begun-formed script w f good zero_world h =
+    record { world = zero_world; placed = lands-placed script (record { func = f; at = 0; loops = 0 ∷ 0 ∷ 0 ∷ 0 ∷ [] }) good (begins script f good h); until = tt }
 
 -- ---- the first state
 
@@ -152,33 +172,37 @@ formed-first script good =
 
 moved-formed : (script : Script) (s : State) (g : ℕ) (i : Instr) (r : Goroutine) → IsGood script → IsFormed script s → stands_at script s g ≡ Some i → is_finish i ≡ false → goroutine_at s g ≡ Some r
     → IsFormedGoroutine script (moved_on script r)
-moved-formed script s g i r good formed h next e =
-    record { world = formed.world.goroutines g r e; placed = follows script s g i r good h next e; until = tt }
+moved-formed script s g i r good formed h next e = record {
+  world = formed.world.goroutines g r e;
+  placed = lands-placed script (record r.place { at = r.place.at + 1 }) good (follows script s g i r good formed h next e);
+  until = tt;
+}
 
-placed_inside : (n place : ℕ) (m : Mode) → IsPlacedIn n place m → place < n
-placed_inside n place (Mode.Sleeping until) h = omega arith
-placed_inside n place _ h = h
+pub placed_inside : (code : List Instr) (p : Place) (m : Mode) → IsPlacedIn code p m → IsOnWay code p.at
+placed_inside code p Mode.At h = h.0
+placed_inside code p (Mode.Sleeping until) h = h.0
+placed_inside code p Mode.Ended h = h
 
 -- a sleeper goes on behind its sleep
-placed_next : (n place now : ℕ) (m : Mode) → IsPlacedIn n place m → IsSomeAnd (until_of m) (λ until. until ≤ now) → place + 1 < n
-placed_next n place now (Mode.Sleeping until) h k = h
-placed_next n place now _ h k = absurd k
+placed_next : (code : List Instr) (p : Place) (now : ℕ) (m : Mode) → IsPlacedIn code p m → IsSomeAnd (until_of m) (λ until. until ≤ now) → IsOnWay code (p.at + 1)
+placed_next code p now (Mode.Sleeping until) h k = h.1
+placed_next code p now _ h k = absurd k
 
-woken-formed : (script : Script) (s : State) (g now : ℕ) (r : Goroutine) → IsFormed script s → IsSomeAnd (sleeps_until s g) (λ until. until ≤ now) → goroutine_at s g ≡ Some r
+woken-formed : (script : Script) (s : State) (g now : ℕ) (r : Goroutine) → IsGood script → IsFormed script s → IsSomeAnd (sleeps_until s g) (λ until. until ≤ now) → goroutine_at s g ≡ Some r
     → IsFormedGoroutine script (moved_on script r)
-woken-formed script s g now r formed h e =
+woken-formed script s g now r good formed h e =
     let slept : IsSomeAnd (until_of r.mode) (λ until. until ≤ now) =
     subst (λ (o : Option Goroutine). IsSomeAnd (elim (option_map (λ (q : Goroutine). q.mode) o) [ None ↦ None | Some mode ↦ until_of mode ]) (λ until. until ≤ now)) e h in
     record {
       world = formed.world.goroutines g r e;
-      placed = placed_next (length (code_of script r.place.func)) r.place.at now r.mode (formed.placed g r e) slept;
+      placed = lands-placed script (record r.place { at = r.place.at + 1 }) good (placed_next (code_of script r.place.func) r.place now r.mode (formed.placed g r e) slept);
       until = tt;
     }
 
 ended-formed : (script : Script) (s : State) (g : ℕ) (r : Goroutine) → IsFormed script s → goroutine_at s g ≡ Some r → IsFormedGoroutine script (in_mode Mode.Ended r)
 ended-formed script s g r formed e = record {
   world = formed.world.goroutines g r e;
-  placed = placed_inside (length (code_of script r.place.func)) r.place.at r.mode (formed.placed g r e);
+  placed = placed_inside (code_of script r.place.func) r.place r.mode (formed.placed g r e);
   until = tt;
 }
 
@@ -187,7 +211,11 @@ leaves-formed : (script : Script) (s : State) (g : ℕ) (i : Instr) (m : Move) (
     → IsFormedGoroutine script (moved script m r)
 leaves-formed script s g i (Move.GoesOn case_no) r good formed h next e = moved-formed script s g i r good formed h next e
 leaves-formed script s g i (Move.FallsAsleep until) r good formed h leaves e =
-    record { world = formed.world.goroutines g r e; placed = follows script s g i r good h leaves.0 e; until = leaves.1 }
+    record {
+      world = formed.world.goroutines g r e;
+      placed = (placed_inside (code_of script r.place.func) r.place r.mode (formed.placed g r e), follows script s g i r good formed h leaves.0 e);
+      until = leaves.1;
+    }
 leaves-formed script s g i Move.Ends r good formed h leaves e = ended-formed script s g r formed e
 
 changed_goroutines : (script : Script) (s : State) (g : ℕ) (f : Goroutine → Goroutine) → IsFormed script s → ((r : Goroutine) → goroutine_at s g ≡ Some r → IsFormedGoroutine script (f r))
@@ -276,7 +304,7 @@ mover-formed script s m k good formed (receives p t due call is come) =
     changed_goroutines script s p.g (moved_on script) formed
     (λ r e. moved-formed script s p.g at.instr r good formed at.stands (operation-next at.instr p.case_no t at.has) e)
 mover-formed script s m k good formed (wakes g h) =
-    changed_goroutines script s g (moved_on script) formed (λ r e. woken-formed script s g (clock_of s g) r formed h e)
+    changed_goroutines script s g (moved_on script) formed (λ r e. woken-formed script s g (clock_of s g) r good formed h e)
 mover-formed script s m k good formed _ = goroutines-of script s formed
 
 starter-formed : (script : Script) (s : State) (x : Start) → IsGood script → IsFormed script s → Begins script x → IsFormedGoroutine script (started_by script s x)

@@ -3,6 +3,7 @@ pub mod Lookups
 pub mod Makers
 pub mod Quiet
 pub mod Still
+pub mod Landing
 pub mod Formed
 pub mod Within
 pub mod Named

@@ -196,3 +196,5 @@ idle-not script s g w (Instr.Recv t) good idle now does ready =
           idle (Entry.TRecv p t due None) (call, names-Does script s g (Instr.Recv t) good does, is, here, refl)
     ] refl ready
 idle-not script s g w Instr.Finish good idle now does ready = idle (Entry.End g) does
+idle-not script s g w (Instr.LoopTop depth count past) good idle now does ready = cc
+idle-not script s g w (Instr.LoopEnd depth top) good idle now does ready = cc

@@ -1,22 +1,31 @@
 -- What the states keep that a run reaches.
-use Rattle.std.specs.Prelude.{ℕ, ◌+◌, ◌<◌, ◌≤◌, ◌≡◌, IfSome, [], ◌∷◌, length}
-use Rattle.std.specs.declared.option.Option.TheVariants.{Some}
+use Rattle.std.specs.Prelude.{ℕ, ◌+◌, ◌<◌, ◌≤◌, ◌≡◌, IfSome, List, [], ◌∷◌, length, slice_get}
+use Rattle.std.specs.declared.option.Option.TheVariants.{None, Some}
 use Rattle.gt_model.specs.declared.script.Script.{Script}
+use Rattle.gt_model.specs.declared.script.Instr.{Instr}
+use Rattle.gt_model.specs.declared.script.Place.{Place}
 use Rattle.gt_model.specs.declared.state.Goroutine.{Goroutine}
 use Rattle.gt_model.specs.declared.state.Timer.{Timer}
 use Rattle.gt_model.specs.declared.state.Mode.{Mode}
 use Rattle.gt_model.specs.Times.{greatest_time}
 use Rattle.gt_rules.specs.State.{State, clock, goroutine_at, timer_at, until_of}
 use Rattle.gt_model.specs.Script.{code_of}
+use Rattle.gt_rules.specs.Places.{silent_at}
 use Rattle.gt_facts.specs.Quiet.{IsOneWorld}
 
--- a place in a code of n instructions: a sleeper goes on behind it
-abbrev pub IsPlacedIn : ℕ → ℕ → Mode → Type 0
-IsPlacedIn n at (Mode.Sleeping until) = at + 1 < n
-IsPlacedIn n at _ = at < n
+-- an index of a code to which goroutines come: it is in no loop that is passed over
+pub record IsOnWay (code : List Instr) (at : ℕ) : Type 0 where
+  pub within : at < length code
+  pub entered : (i depth past : ℕ) → slice_get code i ≡ Some (Instr.LoopTop depth 0 past) → i < at → at < past → ⊥
+
+-- a place in a code: a goroutine stands at an instruction that makes an entry, and a sleeper goes on behind it
+abbrev pub IsPlacedIn : List Instr → Place → Mode → Type 0
+IsPlacedIn code p Mode.At = IsOnWay code p.at × (silent_at code p ≡ None)
+IsPlacedIn code p (Mode.Sleeping until) = IsOnWay code p.at × IsOnWay code (p.at + 1)
+IsPlacedIn code p Mode.Ended = IsOnWay code p.at
 
 abbrev pub IsPlaced : Script → Goroutine → Type 0
-IsPlaced script r = IsPlacedIn (length (code_of script r.place.func)) r.place.at r.mode
+IsPlaced script r = IsPlacedIn (code_of script r.place.func) r.place r.mode
 
 pub record IsFormed (script : Script) (s : State) : Type 0 where
   pub world : IsOneWorld s
