@@ -45,6 +45,8 @@ misuse-told script limits h Instr.Now good legal = refl
 misuse-told script limits h (Instr.Sleep d) good legal = refl
 misuse-told script limits h (Instr.Go f) good legal = refl
 misuse-told script limits h (Instr.New t d) good legal = ap (λ b. when b Reason.Twice) (made-told script limits t h good legal)
+misuse-told script limits h (Instr.LoopTop depth count past) good legal = refl
+misuse-told script limits h (Instr.LoopEnd depth top) good legal = refl
 misuse-told script limits h Instr.Finish good legal = refl
 misuse-told script limits h _ good legal = unmade-told script limits h _ good legal
 

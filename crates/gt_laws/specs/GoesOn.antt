@@ -24,6 +24,8 @@ misuse_told front (Instr.New t d) = when (made_told t front) Reason.Twice
 misuse_told front (Instr.Stop t) = when (not (made_told t front)) Reason.Unmade
 misuse_told front (Instr.Reset t d) = when (not (made_told t front)) Reason.Unmade
 misuse_told front (Instr.Recv o) = when (not (made_told o front)) Reason.Unmade
+misuse_told front (Instr.LoopTop depth count past) = None
+misuse_told front (Instr.LoopEnd depth top) = None
 misuse_told front Instr.Finish = None
 
 -- whether an instruction that is no misuse can be done at this time
@@ -36,6 +38,8 @@ can_be_done front now (Instr.New t d) = true
 can_be_done front now (Instr.Stop t) = true
 can_be_done front now (Instr.Reset t d) = true
 can_be_done front now (Instr.Recv o) = is_due (due_told o front) now
+can_be_done front now (Instr.LoopTop depth count past) = false
+can_be_done front now (Instr.LoopEnd depth top) = false
 can_be_done front now Instr.Finish = true
 
 abbrev pub goes_on_at : List Entry → ℕ → Option Instr → Bool
@@ -67,6 +71,8 @@ waits_for t (Instr.New u d) = false
 waits_for t (Instr.Stop u) = false
 waits_for t (Instr.Reset u d) = false
 waits_for t (Instr.Recv o) = o == t
+waits_for t (Instr.LoopTop depth count past) = false
+waits_for t (Instr.LoopEnd depth top) = false
 waits_for t Instr.Finish = false
 
 abbrev pub waits_at : ℕ → Option Instr → Bool

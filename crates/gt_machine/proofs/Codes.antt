@@ -11,6 +11,7 @@ use Rattle.gt_model.specs.Tables.{numbered}
 use Rattle.gt_rules.specs.State.{State, goroutine_at}
 use Rattle.gt_model.specs.Script.{code_of, instr_at}
 use Rattle.gt_facts.specs.Formed.{IsFormed, IsPlacedIn}
+use Rattle.gt_facts.proofs.Formed.{placed_inside}
 use Rattle.gt_machine.specs.Places.{placed_at}
 
 -- the goroutine and its function that were looked up, where the number is a goroutine's
@@ -22,14 +23,12 @@ some-numbered : {X : Type 0} (xs : List X) (g : ℕ) (x : X) → is_some (number
 some-numbered xs zero x h e = cc
 some-numbered xs (suc i) x h e = rw sub-one at e
 
-placed-below : (n place : ℕ) (mode : Mode) → IsPlacedIn n place mode → place < n
-placed-below n place Mode.At h = h
-placed-below n place (Mode.Sleeping until) h = let inside : place + 1 < n = h in omega arith
-placed-below n place Mode.Ended h = h
+placed-below : (code : List Instr) (p : Place) (mode : Mode) → IsPlacedIn code p mode → p.at < length code
+placed-below code p mode h = (placed_inside code p mode h).within
 
-function-inside : (script : Script) (place : Place) (mode : Mode) → IsPlacedIn (length (code_of script place.func)) place.at mode → place.func < length script.funcs
+function-inside : (script : Script) (place : Place) (mode : Mode) → IsPlacedIn (code_of script place.func) place mode → place.func < length script.funcs
 function-inside script place mode h =
-    let below : place.at < length (code_of script place.func) = placed-below (length (code_of script place.func)) place.at mode h in
+    let below : place.at < length (code_of script place.func) = placed-below (code_of script place.func) place mode h in
     elim (slice_get script.funcs place.func)
     as (λ o. slice_get script.funcs place.func ≡ o → place.at < length (elim o as (λ (x : Option Func). List Instr) [ None ↦ [] | Some func ↦ func.code ]) → place.func < length script.funcs) [
       | None ↦ λ e k. absurd (omega arith)
@@ -48,7 +47,7 @@ found_code script s g r func formed some e read =
 
 pub code-inside : (script : Script) (s : State) (g : ℕ) (r : Goroutine) (func : Func) → IsFormed script s → FoundCode script s g r func → r.place.at < length func.code
 code-inside script s g r func formed found =
-    subst (λ (code : List Instr). r.place.at < length code) found.code (placed-below (length (code_of script r.place.func)) r.place.at r.mode (formed.placed g r found.there))
+    subst (λ (code : List Instr). r.place.at < length code) found.code (placed-below (code_of script r.place.func) r.place r.mode (formed.placed g r found.there))
 
 pub code-read : (script : Script) (s : State) (g : ℕ) (r : Goroutine) (func : Func) (d : Instr) → IsFormed script s → FoundCode script s g r func
     → placed_at script s g ≡ Some (get_or func.code r.place.at d)

@@ -14,7 +14,11 @@ use Rattle.gt_model.specs.declared.state.Timer.{Timer}
 use Rattle.gt_model.specs.Tables.{numbered, change_numbered, at}
 use Rattle.gt_rules.specs.State.{State, world_of, goroutine_at}
 use Rattle.gt_model.specs.Script.{code_of}
-use Rattle.gt_model.specs.Good.{IsGood, instruction_count}
+use Rattle.gt_model.specs.declared.script.Place.{Place}
+use Rattle.gt_model.specs.Good.{IsGood, IsGoodCode, IsGoodEnd}
+use Rattle.gt_model.proofs.GoodCode.{all_at}
+use Rattle.gt_facts.proofs.Formed.{placed_inside}
+use Rattle.gt_machine.specs.Places.{LeadsRightly, IsWalkable}
 use Rattle.gt_rules.specs.Change.{change_of}
 use Rattle.gt_rules.specs.Legal.{May}
 use Rattle.gt_facts.specs.Formed.{IsFormed, IsPlacedIn}
@@ -39,31 +43,38 @@ set_numbered xs g f x P h e = sym (change_numbered-set xs g f x (numbered_below 
 
 -- ---- places in the code of a good script
 
--- a function has at most 100000 instructions and its end; a place with no function has none
-pub code_short : (script : Script) (f : ℕ) → IsGood script → length (code_of script f) ≤ 100001
-code_short script f good =
+-- a code of a good script is one that can be walked through
+pub code_walkable : (script : Script) (f : ℕ) → IsGood script → IsWalkable (code_of script f)
+code_walkable script f good =
     let code_in : Option Func → List Instr = λ o. elim o [ None ↦ [] | Some func ↦ func.code ] in
-    elim (slice_get script.funcs f) as (λ o. slice_get script.funcs f ≡ o → length (code_in o) ≤ 100001) [
-      | None ↦ λ e. let none : 0 ≤ 100001 = omega arith in none
-      | Some func ↦ λ e.
-          let size : Func → ℕ = λ f. length f.code - 1 in
-          let within : f < length script.funcs = slice_get_within script.funcs f func e in
-          let at : get_or script.funcs f func ≡ func = get_or_from_slice_get script.funcs f func func e in
-          let part : size (get_or script.funcs f func) ≤ instruction_count script = get_or-le-sum_by size script.funcs f func within in
-          let here : size func ≤ instruction_count script = rw at at part in
-          let most : instruction_count script ≤ 100000 = good.few_instructions in
-          omega arith
+    elim (slice_get script.funcs f) as (λ o. slice_get script.funcs f ≡ o → IsWalkable (code_in o)) [
+      | None ↦ λ e. record { short = omega arith; leads = λ i x on. cc }
+      | Some func ↦ λ e. code-walkable script func.code (all_at (λ (f : Func). IsGoodCode script f.code) script.funcs f func good.code e)
     ] refl
+  where
+    leads-rightly : (script : Script) (code : List Instr) (i : ℕ) (x : Instr) → IsGoodCode script code → slice_get code i ≡ Some x → LeadsRightly x
+    leads-rightly script code i (Instr.LoopTop depth count past) good on = (good.loops i depth count past on).shallow
+    leads-rightly script code i (Instr.LoopEnd depth top) good on =
+        let end : IsGoodEnd code i depth top = good.ends i depth top on in
+        let within : i < length code = slice_get_within code i (Instr.LoopEnd depth top) on in
+        let short : length code < 2 ^ 32 = good.short in
+        let before : top < i = end.before in
+        ((good.loops top depth end.count (i + 1) end.begin).shallow, omega arith)
+    leads-rightly script code i _ good on = tt
+    code-walkable : (script : Script) (code : List Instr) → IsGoodCode script code → IsWalkable code
+    code-walkable script code good = record { short = good.short; leads = λ i x on. leads-rightly script code i x good on }
 
-place_short : (n place : ℕ) (m : Mode) → IsPlacedIn n place m → n ≤ 100001 → place < 2 ^ 32 - 1
-place_short n place (Mode.Sleeping until) h k = let inside : place + 1 < n = h in omega arith
-place_short n place _ h k = let inside : place < n = h in omega arith
+place_short : (script : Script) (p : Place) (m : Mode) → IsGood script → IsPlacedIn (code_of script p.func) p m → p.at < 2 ^ 32 - 1
+place_short script p m good h =
+    let within : p.at < length (code_of script p.func) = (placed_inside (code_of script p.func) p m h).within in
+    let short : length (code_of script p.func) < 2 ^ 32 = (code_walkable script p.func good).short in
+    omega arith
 
 inside_there : (script : Script) (s : State) (g : ℕ) → IsGood script → IsFormed script s → IsLive s g → IsInside s.goroutines g
 inside_there script s g good formed live =
     elim (goroutine_at s g) as (λ o. goroutine_at s g ≡ o → IsSomeAnd o (λ r. r.place.at < 2 ^ 32 - 1)) [
       | None ↦ λ e. let none : None ≡ Some live.who = sym e ∙ live.there in cc
-      | Some r ↦ λ e. place_short (length (code_of script r.place.func)) r.place.at r.mode (formed.placed g r e) (code_short script r.place.func good)
+      | Some r ↦ λ e. place_short script r.place r.mode good (formed.placed g r e)
     ] refl
 
 -- who makes an entry is inside

@@ -1,33 +1,17 @@
 //! What becomes of one goroutine, and of one timer.
 
 ghost use Rattle.std.specs.Prelude.{◌≡◌, ◌<◌, ◌-◌, ◌^◌, Some};
-ghost use Rattle.gt_rules.specs.Places as places;
+ghost use Rattle.gt_model.specs.Good.{IsGood};
 ghost use Rattle.gt_rules.specs.After as after;
 ghost use Rattle.gt_machine.specs.Machine.{retimed_in};
 
-use gt_model::{Goroutine, Mode, Place, Script, Timer};
+use crate::places::{first_place, place_after};
+use gt_model::{Goroutine, Mode, Script, Timer};
 use gt_rules::{Move, Setting};
-
-/// The first place of a function.
-fn first_place(_script: &Script, f: u32) -> Place
-    ensures { result ≡ places.first_place _script.now f }
-{
-    Place { func: f, at: 0 }
-}
-
-/// The place after an instruction.
-fn place_after(_script: &Script, place: Place) -> Place
-    requires { place.at < 2 ^ 32 - 1 }
-    ensures { result ≡ places.place_after _script.now place }
-{
-    Place {
-        at: place.at + 1,
-        ..place
-    }
-}
 
 /// A goroutine of a world at the beginning of a function.
 pub fn begun(script: &Script, world: u32, f: u32) -> Goroutine
+    requires { IsGood script.now }
     ensures { result ≡ after.begun script.now world f }
 {
     Goroutine {
@@ -39,7 +23,8 @@ pub fn begun(script: &Script, world: u32, f: u32) -> Goroutine
 
 /// What becomes of a goroutine.
 pub fn moved(script: &Script, r: Goroutine, how: Move) -> Goroutine
-    requires { r.place.at < 2 ^ 32 - 1 }
+    requires good { IsGood script.now }
+    requires inside { r.place.at < 2 ^ 32 - 1 }
     ensures { result ≡ after.moved script.now how r }
 {
     match how {

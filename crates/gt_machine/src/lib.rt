@@ -5,5 +5,6 @@
 mod changes;
 mod lookups;
 mod machine;
+mod places;
 
 pub use machine::Machine;

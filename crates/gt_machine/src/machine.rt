@@ -97,6 +97,7 @@ impl Machine {
 
     /// The goroutine that is started, in the world of who starts it.
     fn started(&self, script: &Script, start: Option<Start>) -> Option<Goroutine>
+        requires { IsGood script.now }
         ensures { result ≡ option_map (after.started_by script.now (state_of self.now)) start }
     {
         Some(match start? {
@@ -127,7 +128,8 @@ impl Machine {
 
     /// What becomes of who makes the entry.
     fn move_on(&mut self, script: &Script, mover: Option<(u32, Move)>)
-        requires { IfSome mover (λ x. IsInside self.old.goroutines.items x.0) }
+        requires good { IsGood script.now }
+        requires inside { IfSome mover (λ x. IsInside self.old.goroutines.items x.0) }
         ensures state { state_of self.new ≡ record (state_of self.old) {
           goroutines = after.with_mover script.now (state_of self.old).goroutines mover;
         } }
