@@ -1,6 +1,7 @@
 pub mod Rightly
-pub mod DeedNames
+pub mod OpenLoops
 pub mod LoopsGood
+pub mod DeedNames
 pub mod DeedsGood
 pub mod Fits
 pub mod RightLines
