@@ -1,5 +1,5 @@
 -- Deeds that follow one another rightly make a good script.
-use Rattle.std.proofs.Common.{◌≡◌, ◌⊎◌, inl, inr, ℕ, zero, suc, ◌+◌, ◌-◌, ◌<◌, ◌≤◌, Bool, true, false, cond, ◌||◌, List, [], ◌∷◌, length, slice_get, sum_by, Option, Some, None, refl, sym, ap, subst, ◌∙◌, arith, codes}
+use Rattle.std.proofs.Common.{◌≡◌, ◌⊎◌, inl, inr, ℕ, zero, suc, ◌+◌, ◌<◌, ◌≤◌, Bool, true, false, cond, ◌||◌, List, [], ◌∷◌, length, slice_get, sum_by, filter, Option, Some, None, refl, sym, ap, subst, ◌∙◌, arith, codes}
 use Rattle.std.specs.Option.{option_map, option_and_then}
 use Rattle.std.specs.List.{All}
 use Rattle.std.proofs.lemmas.List.Elements.{All-cons}
@@ -12,14 +12,18 @@ use Rattle.gt_model.specs.declared.script.Decl.{Decl}
 use Rattle.gt_model.specs.declared.script.What.{What}
 use Rattle.gt_model.specs.declared.script.Instr.{Instr}
 use Rattle.gt_model.specs.Script.{what_at, names_timer, names_func, is_timer as model_is_timer}
-use Rattle.gt_model.specs.Good.{is_setting as model_is_setting, is_finish, NamesRightly, StartsRightly, IsGoodInstr, IsGoodCode, IsGood, function_name}
+use Rattle.gt_model.specs.Good.{is_setting as model_is_setting, is_finish, is_line, NamesRightly, StartsRightly, IsGoodInstr, IsGoodCode, IsGood, function_name}
 use Rattle.gt_table.specs.declared.form.Kind.{Kind}
 use Rattle.gt_table.specs.Forms.{is_kind_function, is_kind_timer}
 use Rattle.gt_names.specs.declared.names.Declared.{Declared}
 use Rattle.gt_names.specs.Names.{Names, find}
-use Rattle.gt_grammar.specs.Deeds.{Deed, declares, opens, does, closes, decl_of, func_of, decls_in, code_in, funcs_in, script_in}
-use Rattle.gt_grammar.proofs.Rightly.{kind_in, names_in, Ref, Refers, Starts, Right}
+use Rattle.gt_grammar.specs.declared.progress.OpenLoop.{OpenLoop}
+use Rattle.gt_grammar.specs.declared.progress.Held.{Held}
+use Rattle.gt_grammar.specs.Faults.{holding, loop_ended}
+use Rattle.gt_grammar.specs.Deeds.{Deed, declares, opens, does, loops, closes, decl_of, func_of, decls_in, code_from, code_in, funcs_in, script_in}
+use Rattle.gt_grammar.proofs.Rightly.{kind_in, names_in, Ref, Refers, Starts, Right, opened}
 use Rattle.gt_grammar.proofs.DeedNames.{Placed, placed, has_names, functions_are, HasFunc, Found, found}
+use Rattle.gt_grammar.proofs.LoopsGood.{HasGoodLoops, loops-good}
 
 -- what a script has at the place of a name that is declared
 record Knows (script : Script) (q : List ℕ) (d : Declared) : Type 0 where
@@ -88,12 +92,29 @@ names_rightly-by names script known (Instr.Stop t) r = names-setting names scrip
 names_rightly-by names script known (Instr.Recv o) r =
     let P : ℕ → Type 0 = λ x. model_is_timer script x ≡ true in
     subst P (sym r.2) (is_timer-by (what_at script r.0.declared.place) r.0.declared.kind (known r.0.name r.0.declared r.0.known).kind r.1)
+names_rightly-by names script known (Instr.LoopTop depth count past) r = absurd r
+names_rightly-by names script known (Instr.LoopEnd depth top) r = absurd r
 names_rightly-by names script known Instr.Finish r = absurd r
 names_rightly-by names script known _ r = (names-setting names script known _ r.0 r.1 r.2, r.3)
 
 no_finish : (names : Names) (i : Instr) → Refers names i → is_finish i ≡ false
 no_finish names Instr.Finish r = absurd r
 no_finish names _ r = refl
+
+a-line : (names : Names) (i : Instr) → Refers names i → is_line i ≡ true
+a-line names (Instr.LoopTop depth count past) r = absurd r
+a-line names (Instr.LoopEnd depth top) r = absurd r
+a-line names Instr.Finish r = absurd r
+a-line names _ r = refl
+
+-- as many loops are open behind a deed as have tops
+length-holding : (held : Held) (open_loops : List OpenLoop) → length (holding held open_loops) ≡ length open_loops
+length-holding held [] = refl
+length-holding held (inner ∷ outer) = refl
+
+length-ended : (inner : OpenLoop) (outer : List OpenLoop) → length (loop_ended (inner ∷ outer)) ≡ length outer
+length-ended inner [] = refl
+length-ended inner (other ∷ outer) = refl
 
 -- a code whose last instruction alone is the end
 abbrev Ends : Script → List Instr → Type 0
@@ -104,12 +125,24 @@ ends-some : (script : Script) (is : List Instr) → Ends script is → 0 < lengt
 ends-some script [] h = absurd h
 ends-some script (i ∷ is) h = omega arith
 
-ends : (names : Names) (script : Script) → AllKnown names script → (deeds : List Deed) (inside : Bool) (n f k : ℕ) → Right names inside n f k deeds → inside ≡ true → Ends script (code_in deeds)
-ends names script known [] inside n f k r e = absurd (both_ways inside r e)
-ends names script known (declares name what ∷ rest) inside n f k r e = absurd (both_ways inside r.0 e)
-ends names script known (opens name decl ∷ rest) inside n f k r e = absurd (both_ways inside r.0 e)
-ends names script known (does i ∷ rest) inside n f k r e = inr (no_finish names i r.2, names_rightly-by names script known i r.2, ends names script known rest true n f (k + 1) r.3 refl)
-ends names script known (closes ∷ rest) inside n f k r e = inl (refl, tt, refl)
+ends : (names : Names) (script : Script) → AllKnown names script → (deeds : List Deed) (inside : Bool) (open_loops : List OpenLoop) (tops : List ℕ) (at n f k : ℕ) → Right names inside open_loops n f k deeds
+    → length tops ≡ length open_loops → inside ≡ true → Ends script (code_from tops at deeds)
+ends names script known [] inside open_loops tops at n f k r same e = absurd (both_ways inside r e)
+ends names script known (declares name what ∷ rest) inside open_loops tops at n f k r same e = absurd (both_ways inside r.0 e)
+ends names script known (opens name decl ∷ rest) inside open_loops tops at n f k r same e = absurd (both_ways inside r.0 e)
+ends names script known (does i ∷ rest) inside open_loops tops at n f k r same e =
+    inr (
+      no_finish names i r.2,
+      names_rightly-by names script known i r.2,
+      ends names script known rest true (holding Held.Entered open_loops) tops (at + 1) n f (k + 1) r.3 (same ∙ sym (length-holding Held.Entered open_loops)) refl,
+    )
+ends names script known (loops count ∷ rest) inside open_loops tops at n f k r same e =
+    inr (refl, r.1, ends names script known rest true (opened count open_loops) (at ∷ tops) (at + 1) n f k r.3 (ap suc same) refl)
+ends names script known (closes ∷ rest) inside [] [] at n f k r same e = inl (refl, tt, refl)
+ends names script known (closes ∷ rest) inside [] (top ∷ tops) at n f k r same e = absurd (omega (arith, same))
+ends names script known (closes ∷ rest) inside (inner ∷ outer) [] at n f k r same e = absurd (omega (arith, same))
+ends names script known (closes ∷ rest) inside (inner ∷ outer) (top ∷ tops) at n f k r same e =
+    inr (refl, tt, ends names script known rest true (loop_ended (inner ∷ outer)) tops (at + 1) n f k r.2 (omega (arith, same, length-ended inner outer)) refl)
 
 each-good : (script : Script) (code : List Instr) (front i : ℕ) (x : Instr) → Ends script code → slice_get code i ≡ Some x → (n j : ℕ) → n ≡ front + length code → j ≡ front + i → IsGoodInstr script n j x
 each-good script [] front i x h is n j e g = absurd h
@@ -126,83 +159,115 @@ each-good script (y ∷ ys) front (suc i) x h is n j e g =
       | inr w ↦ each-good script ys (suc front) i x w.2 is n j (omega arith) (omega arith)
     ]
 
-code-good : (script : Script) (code : List Instr) → Ends script code → IsGoodCode script code
-code-good script code h = record {
+code-good : (script : Script) (code : List Instr) → Ends script code → HasGoodLoops code → IsGoodCode script code
+code-good script code h good = record {
   some = ends-some script code h;
+  short = good.short;
   each = λ i x is. each-good script code 0 i x h is (length code) i (omega arith) (omega arith);
+  loops = good.loops;
+  ends = good.ends;
 }
 
 All-none : {X : Type 0} (P : X → Type 0) → All P []
 All-none P = λ k d h. absurd (omega arith)
 
-funcs-good : (names : Names) (script : Script) → AllKnown names script → (deeds : List Deed) (inside : Bool) (n f k : ℕ) → Right names inside n f k deeds → All (λ (g : Func). IsGoodCode script g.code) (funcs_in deeds)
-funcs-good names script known [] inside n f k r = All-none (λ (g : Func). IsGoodCode script g.code)
-funcs-good names script known (declares name what ∷ rest) inside n f k r = funcs-good names script known rest false (n + 1) f k r.4
-funcs-good names script known (opens name decl ∷ rest) inside n f k r =
+funcs-good : (names : Names) (script : Script) → AllKnown names script → (deeds : List Deed) (inside : Bool) (open_loops : List OpenLoop) (n f k : ℕ) → Right names inside open_loops n f k deeds → All (λ (g : Func). IsGoodCode script g.code) (funcs_in deeds)
+funcs-good names script known [] inside open_loops n f k r = All-none (λ (g : Func). IsGoodCode script g.code)
+funcs-good names script known (declares name what ∷ rest) inside open_loops n f k r = funcs-good names script known rest false open_loops (n + 1) f k r.4
+funcs-good names script known (opens name decl ∷ rest) inside open_loops n f k r =
     All-cons (λ (g : Func). IsGoodCode script g.code) (func_of decl (code_in rest)) (funcs_in rest)
-    (code-good script (code_in rest) (ends names script known rest true (n + 1) (f + 1) k r.5 refl)) (funcs-good names script known rest true (n + 1) (f + 1) k r.5)
-funcs-good names script known (does i ∷ rest) inside n f k r = funcs-good names script known rest true n f (k + 1) r.3
-funcs-good names script known (closes ∷ rest) inside n f k r = funcs-good names script known rest false n f k r.1
+    (code-good script (code_in rest) (ends names script known rest true [] [] 0 (n + 1) (f + 1) k r.6 refl refl) (loops-good names rest (n + 1) (f + 1) k r.6)) (funcs-good names script known rest true [] (n + 1) (f + 1) k r.6)
+funcs-good names script known (does i ∷ rest) inside open_loops n f k r = funcs-good names script known rest true (holding Held.Entered open_loops) n f (k + 1) r.3
+funcs-good names script known (loops count ∷ rest) inside open_loops n f k r = funcs-good names script known rest true (opened count open_loops) n f k r.3
+funcs-good names script known (closes ∷ rest) inside [] n f k r = funcs-good names script known rest false [] n f k r.1
+funcs-good names script known (closes ∷ rest) inside (inner ∷ outer) n f k r = funcs-good names script known rest true (loop_ended (inner ∷ outer)) n f k r.2
 
 starts-by : (names : Names) (script : Script) → AllKnown names script → (what : What) → Starts names what → StartsRightly script what
 starts-by names script known What.Timer s = tt
 starts-by names script known (What.AfterFunc f) s = omega (arith, s.2, func-within script s.0.name s.0.declared (known s.0.name s.0.declared s.0.known) s.1)
 starts-by names script known What.Function s = absurd s
 
-starts-good : (names : Names) (script : Script) → AllKnown names script → (deeds : List Deed) (inside : Bool) (n f k : ℕ) → Right names inside n f k deeds → All (λ (d : Decl). StartsRightly script d.what) (decls_in deeds)
-starts-good names script known [] inside n f k r = All-none (λ (d : Decl). StartsRightly script d.what)
-starts-good names script known (declares name what ∷ rest) inside n f k r = All-cons (λ (d : Decl). StartsRightly script d.what) (decl_of name what) (decls_in rest) (starts-by names script known what r.3) (starts-good names script known rest false (n + 1) f k r.4)
-starts-good names script known (opens name decl ∷ rest) inside n f k r = All-cons (λ (d : Decl). StartsRightly script d.what) (decl_of name What.Function) (decls_in rest) tt (starts-good names script known rest true (n + 1) (f + 1) k r.5)
-starts-good names script known (does i ∷ rest) inside n f k r = starts-good names script known rest true n f (k + 1) r.3
-starts-good names script known (closes ∷ rest) inside n f k r = starts-good names script known rest false n f k r.1
+starts-good : (names : Names) (script : Script) → AllKnown names script → (deeds : List Deed) (inside : Bool) (open_loops : List OpenLoop) (n f k : ℕ) → Right names inside open_loops n f k deeds → All (λ (d : Decl). StartsRightly script d.what) (decls_in deeds)
+starts-good names script known [] inside open_loops n f k r = All-none (λ (d : Decl). StartsRightly script d.what)
+starts-good names script known (declares name what ∷ rest) inside open_loops n f k r = All-cons (λ (d : Decl). StartsRightly script d.what) (decl_of name what) (decls_in rest) (starts-by names script known what r.3) (starts-good names script known rest false open_loops (n + 1) f k r.4)
+starts-good names script known (opens name decl ∷ rest) inside open_loops n f k r = All-cons (λ (d : Decl). StartsRightly script d.what) (decl_of name What.Function) (decls_in rest) tt (starts-good names script known rest true [] (n + 1) (f + 1) k r.6)
+starts-good names script known (does i ∷ rest) inside open_loops n f k r = starts-good names script known rest true (holding Held.Entered open_loops) n f (k + 1) r.3
+starts-good names script known (loops count ∷ rest) inside open_loops n f k r = starts-good names script known rest true (opened count open_loops) n f k r.3
+starts-good names script known (closes ∷ rest) inside [] n f k r = starts-good names script known rest false [] n f k r.1
+starts-good names script known (closes ∷ rest) inside (inner ∷ outer) n f k r = starts-good names script known rest true (loop_ended (inner ∷ outer)) n f k r.2
 
-few-names : (names : Names) (deeds : List Deed) (inside : Bool) (n f k : ℕ) → Right names inside n f k deeds → n ≤ 4096 → n + length (decls_in deeds) ≤ 4096
-few-names names [] inside n f k r h = omega arith
-few-names names (declares name what ∷ rest) inside n f k r h = omega (arith, few-names names rest false (n + 1) f k r.4 (omega (arith, r.1)))
-few-names names (opens name decl ∷ rest) inside n f k r h = omega (arith, few-names names rest true (n + 1) (f + 1) k r.5 (omega (arith, r.1)))
-few-names names (does i ∷ rest) inside n f k r h = few-names names rest true n f (k + 1) r.3 h
-few-names names (closes ∷ rest) inside n f k r h = few-names names rest false n f k r.1 h
+few-names : (names : Names) (deeds : List Deed) (inside : Bool) (open_loops : List OpenLoop) (n f k : ℕ) → Right names inside open_loops n f k deeds → n ≤ 4096 → n + length (decls_in deeds) ≤ 4096
+few-names names [] inside open_loops n f k r h = omega arith
+few-names names (declares name what ∷ rest) inside open_loops n f k r h = omega (arith, few-names names rest false open_loops (n + 1) f k r.4 (omega (arith, r.1)))
+few-names names (opens name decl ∷ rest) inside open_loops n f k r h = omega (arith, few-names names rest true [] (n + 1) (f + 1) k r.6 (omega (arith, r.1)))
+few-names names (does i ∷ rest) inside open_loops n f k r h = few-names names rest true (holding Held.Entered open_loops) n f (k + 1) r.3 h
+few-names names (loops count ∷ rest) inside open_loops n f k r h = few-names names rest true (opened count open_loops) n f k r.3 h
+few-names names (closes ∷ rest) inside [] n f k r h = few-names names rest false [] n f k r.1 h
+few-names names (closes ∷ rest) inside (inner ∷ outer) n f k r h = few-names names rest true (loop_ended (inner ∷ outer)) n f k r.2 h
 
-few-functions : (names : Names) (deeds : List Deed) (inside : Bool) (n f k : ℕ) → Right names inside n f k deeds → f ≤ 256 → f + length (funcs_in deeds) ≤ 256
-few-functions names [] inside n f k r h = omega arith
-few-functions names (declares name what ∷ rest) inside n f k r h = few-functions names rest false (n + 1) f k r.4 h
-few-functions names (opens name decl ∷ rest) inside n f k r h = omega (arith, few-functions names rest true (n + 1) (f + 1) k r.5 (omega (arith, r.2)))
-few-functions names (does i ∷ rest) inside n f k r h = few-functions names rest true n f (k + 1) r.3 h
-few-functions names (closes ∷ rest) inside n f k r h = few-functions names rest false n f k r.1 h
+few-functions : (names : Names) (deeds : List Deed) (inside : Bool) (open_loops : List OpenLoop) (n f k : ℕ) → Right names inside open_loops n f k deeds → f ≤ 256 → f + length (funcs_in deeds) ≤ 256
+few-functions names [] inside open_loops n f k r h = omega arith
+few-functions names (declares name what ∷ rest) inside open_loops n f k r h = few-functions names rest false open_loops (n + 1) f k r.4 h
+few-functions names (opens name decl ∷ rest) inside open_loops n f k r h = omega (arith, few-functions names rest true [] (n + 1) (f + 1) k r.6 (omega (arith, r.2)))
+few-functions names (does i ∷ rest) inside open_loops n f k r h = few-functions names rest true (holding Held.Entered open_loops) n f (k + 1) r.3 h
+few-functions names (loops count ∷ rest) inside open_loops n f k r h = few-functions names rest true (opened count open_loops) n f k r.3 h
+few-functions names (closes ∷ rest) inside [] n f k r h = few-functions names rest false [] n f k r.1 h
+few-functions names (closes ∷ rest) inside (inner ∷ outer) n f k r h = few-functions names rest true (loop_ended (inner ∷ outer)) n f k r.2 h
+
+-- how many lines with an instruction a code has
+abbrev lines_in : List Instr → ℕ
+lines_in code = length (filter is_line code)
 
 abbrev size_of : Func → ℕ
-size_of f = length f.code - 1
+size_of f = lines_in f.code
 
--- how many instructions the function has that is open
+-- how many the function has that is open
 abbrev open_size : Bool → List Instr → ℕ
-open_size inside code = cond inside (length code - 1) 0
+open_size inside code = cond inside (lines_in code) 0
 
-few-instructions : (names : Names) (deeds : List Deed) (inside : Bool) (n f k : ℕ) → Right names inside n f k deeds → k ≤ 100000 → k + open_size inside (code_in deeds) + sum_by size_of (funcs_in deeds) ≤ 100000
-few-instructions names [] true n f k r h = cc
-few-instructions names [] false n f k r h = omega arith
-few-instructions names (declares name what ∷ rest) true n f k r h = let e = r.0 in cc
-few-instructions names (declares name what ∷ rest) false n f k r h = few-instructions names rest false (n + 1) f k r.4 h
-few-instructions names (opens name decl ∷ rest) true n f k r h = let e = r.0 in cc
-few-instructions names (opens name decl ∷ rest) false n f k r h =
-    omega (arith, few-instructions names rest true (n + 1) (f + 1) k r.5 h, sum_by-cons size_of (func_of decl (code_in rest)) (funcs_in rest))
-few-instructions names (does i ∷ rest) false n f k r h = let e = r.0 in cc
-few-instructions names (does i ∷ rest) true n f k r h = omega (arith, few-instructions names rest true n f (k + 1) r.3 (omega (arith, r.1)))
-few-instructions names (closes ∷ rest) false n f k r h = let e = r.0 in cc
-few-instructions names (closes ∷ rest) true n f k r h = omega (arith, few-instructions names rest false n f k r.1 h)
+lines-more : (i : Instr) (code : List Instr) → is_line i ≡ true → lines_in (i ∷ code) ≡ lines_in code + 1
+lines-more i code e = ap (λ b. length (cond b (i ∷ filter is_line code) (filter is_line code))) e ∙ omega arith
 
-pub deeds-good : (names : Names) (deeds : List Deed) (main : Declared) → names ≡ find (names_in 0 0 deeds) → Right names false 0 0 0 deeds
+few-instructions : (names : Names) (deeds : List Deed) (inside : Bool) (open_loops : List OpenLoop) (tops : List ℕ) (at n f k : ℕ) → Right names inside open_loops n f k deeds → length tops ≡ length open_loops → k ≤ 100000
+    → k + open_size inside (code_from tops at deeds) + sum_by size_of (funcs_in deeds) ≤ 100000
+few-instructions names [] true open_loops tops at n f k r same h = cc
+few-instructions names [] false open_loops tops at n f k r same h = omega arith
+few-instructions names (declares name what ∷ rest) true open_loops tops at n f k r same h = let e = r.0 in cc
+few-instructions names (declares name what ∷ rest) false open_loops tops at n f k r same h = few-instructions names rest false open_loops tops at (n + 1) f k r.4 same h
+few-instructions names (opens name decl ∷ rest) true open_loops tops at n f k r same h = let e = r.0 in cc
+few-instructions names (opens name decl ∷ rest) false open_loops tops at n f k r same h =
+    omega (arith, few-instructions names rest true [] [] 0 (n + 1) (f + 1) k r.6 refl h, sum_by-cons size_of (func_of decl (code_in rest)) (funcs_in rest))
+few-instructions names (does i ∷ rest) false open_loops tops at n f k r same h = let e = r.0 in cc
+few-instructions names (does i ∷ rest) true open_loops tops at n f k r same h =
+    omega (
+      arith,
+      lines-more i (code_from tops (at + 1) rest) (a-line names i r.2),
+      few-instructions names rest true (holding Held.Entered open_loops) tops (at + 1) n f (k + 1) r.3 (same ∙ sym (length-holding Held.Entered open_loops)) (omega (arith, r.1)),
+    )
+few-instructions names (loops count ∷ rest) false open_loops tops at n f k r same h = let e = r.0 in cc
+few-instructions names (loops count ∷ rest) true open_loops tops at n f k r same h =
+    few-instructions names rest true (opened count open_loops) (at ∷ tops) (at + 1) n f k r.3 (ap suc same) h
+few-instructions names (closes ∷ rest) false [] tops at n f k r same h = let e = r.0 in cc
+few-instructions names (closes ∷ rest) false (inner ∷ outer) tops at n f k r same h = let e = r.0 in cc
+few-instructions names (closes ∷ rest) true [] [] at n f k r same h = omega (arith, few-instructions names rest false [] [] (at + 1) n f k r.1 refl h)
+few-instructions names (closes ∷ rest) true [] (top ∷ tops) at n f k r same h = absurd (omega (arith, same))
+few-instructions names (closes ∷ rest) true (inner ∷ outer) [] at n f k r same h = absurd (omega (arith, same))
+few-instructions names (closes ∷ rest) true (inner ∷ outer) (top ∷ tops) at n f k r same h =
+    few-instructions names rest true (loop_ended (inner ∷ outer)) tops (at + 1) n f k r.2 (omega (arith, same, length-ended inner outer)) h
+
+pub deeds-good : (names : Names) (deeds : List Deed) (main : Declared) → names ≡ find (names_in 0 0 deeds) → Right names false [] 0 0 0 deeds
     → names (codes "main") ≡ Some main → is_kind_function main.kind ≡ true → IsGood (script_in deeds main.func)
 deeds-good names deeds main are r is function =
     let script : Script = script_in deeds main.func in
     let places : Placed names 0 0 deeds = placed names deeds are r in
-    let known : AllKnown names script = λ q d e. knows-found deeds main.func q d (found names deeds false 0 0 0 r places q d (sym (ap (λ (m : Names). m q) are) ∙ e)) in
+    let known : AllKnown names script = λ q d e. knows-found deeds main.func q d (found names deeds false [] 0 0 0 r places q d (sym (ap (λ (m : Names). m q) are) ∙ e)) in
     record {
       main = func-name script (codes "main") main (known (codes "main") main is) function;
       names = has_names names deeds r places;
-      starts = starts-good names script known deeds false 0 0 0 r;
-      functions = functions_are names deeds false 0 0 0 r places;
-      code = funcs-good names script known deeds false 0 0 0 r;
-      few_names = omega (arith, few-names names deeds false 0 0 0 r (omega arith));
-      few_functions = omega (arith, few-functions names deeds false 0 0 0 r (omega arith));
-      few_instructions = omega (arith, few-instructions names deeds false 0 0 0 r (omega arith));
+      starts = starts-good names script known deeds false [] 0 0 0 r;
+      functions = functions_are names deeds false [] 0 0 0 r places;
+      code = funcs-good names script known deeds false [] 0 0 0 r;
+      few_names = omega (arith, few-names names deeds false [] 0 0 0 r (omega arith));
+      few_functions = omega (arith, few-functions names deeds false [] 0 0 0 r (omega arith));
+      few_instructions = omega (arith, few-instructions names deeds false [] [] 0 0 0 0 r refl (omega arith));
     }

@@ -5,6 +5,7 @@ use Rattle.std.specs.Result.{result_ok}
 use Rattle.std.specs.Str.{bytes_eq, is_utf8}
 use Rattle.std.proofs.lemmas.Bool.{leb-true, cond_both}
 use Rattle.gt_model.specs.Times.{greatest_time}
+use Rattle.gt_lines.specs.Number.{number_of}
 use Rattle.gt_dur.specs.declared.fault.DurFault.{DurFault}
 use Rattle.gt_dur.specs.Duration.{read_of, capped, outcome_of, begins_with_digit, unmet_place, nanoseconds_of}
 use Rattle.gt_table.specs.declared.form.Arg.{Arg}
@@ -17,7 +18,7 @@ use Rattle.gt_table.specs.Table.{form_of, step_of}
 use Rattle.gt_names.specs.declared.names.Declared.{Declared}
 use Rattle.gt_names.specs.Names.{Names, is_free_name}
 use Rattle.gt_grammar.specs.Duration.{duration_of}
-use Rattle.gt_grammar.specs.Statements.{timer_place, setting_place, function_place, value_of}
+use Rattle.gt_grammar.specs.Statements.{timer_place, setting_place, function_place, passes_of, value_of}
 use Rattle.gt_grammar.proofs.Rightly.{kind_in, Ref, Refers, Starts}
 
 -- ---- a duration is at most the greatest time
@@ -74,6 +75,14 @@ function-by : (names : Names) (q : List ℕ) (v : ℕ) (o : Option Declared) →
 function-by names q v None e h = cc
 function-by names q v (Some d) e h = let both = if-Some (is_kind_function d.kind) d.func v h in (ref names q d e, both.0, both.1)
 
+-- a loop has at most 1,000,000 passes
+passes-by : (o : Option ℕ) (v : ℕ) → elim o [ None ↦ None | Some n ↦ cond (leb n 1000000) (Some n) None ] ≡ Some v → v ≤ 1000000
+passes-by None v h = cc
+passes-by (Some n) v h = let both = if-Some (leb n 1000000) n v h in omega (arith, both.1, leb-true n 1000000 both.0)
+
+passes-most : (word : List ℕ) (v : ℕ) → passes_of word ≡ Some v → v ≤ 1000000
+passes-most word v h = passes-by (number_of word) v h
+
 -- a new name is spelled rightly, and declared
 pub record IsFree (names : Names) (q : List ℕ) (v : ℕ) : Type 0 where
   pub free : is_free_name q ≡ true
@@ -95,16 +104,10 @@ new-value names q v h = free-by names q v (is_free_name q) (names q) refl refl h
 abbrev pub FitsRole : Names → Role → Arg → ℕ → Step → Type 0
 FitsRole names (Role.Declares kind) arg a (Step.Declare what) = (arg ≡ Arg.NewName) × (kind ≡ kind_in what) × Starts names what
 FitsRole names (Role.Declares kind) arg a (Step.Open decl) = (arg ≡ Arg.NewName) × (kind ≡ Kind.Function) × (decl ≡ a)
-FitsRole names (Role.Declares kind) arg a (Step.Do instr) = ⊥
-FitsRole names (Role.Declares kind) arg a Step.Close = ⊥
-FitsRole names Role.Closes arg a (Step.Declare what) = ⊥
-FitsRole names Role.Closes arg a (Step.Open decl) = ⊥
-FitsRole names Role.Closes arg a (Step.Do instr) = ⊥
 FitsRole names Role.Closes arg a Step.Close = Unit {0}
-FitsRole names Role.Acts arg a (Step.Declare what) = ⊥
-FitsRole names Role.Acts arg a (Step.Open decl) = ⊥
 FitsRole names Role.Acts arg a (Step.Do instr) = Refers names instr
-FitsRole names Role.Acts arg a Step.Close = ⊥
+FitsRole names Role.Loops arg a (Step.Loop count) = (arg ≡ Arg.Passes) × (count ≡ a) × (count ≤ 1000000)
+FitsRole names _ arg a _ = ⊥
 
 -- what stands last is of each keyword that sets a timer
 pub fits : (names : Names) (k : Keyword) (w u : List ℕ) (a b : ℕ) → value_of names (form_of k).first w ≡ Some a → value_of names (form_of k).second u ≡ Some b
@@ -113,6 +116,7 @@ fits names Keyword.Timer w u a b first second = (refl, refl, tt)
 fits names Keyword.AfterFunc w u a b first second = (refl, refl, function-by names u b (names u) refl second)
 fits names Keyword.Func w u a b first second = (refl, refl, refl)
 fits names Keyword.End w u a b first second = tt
+fits names Keyword.Loop w u a b first second = (refl, refl, passes-most w a first)
 fits names Keyword.Say w u a b first second = tt
 fits names Keyword.Now w u a b first second = tt
 fits names Keyword.Sleep w u a b first second = duration-value w a first

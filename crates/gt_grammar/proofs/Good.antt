@@ -1,9 +1,9 @@
 -- A script that a text spells is good.
-use Rattle.std.proofs.Common.{◌≡◌, ℕ, ◌+◌, ◌<◌, Bool, true, false, not, cond, ◌&&◌, ◌||◌, List, [], ◌∷◌, ◌++◌, Option, None, Some, Result, Ok, Err, OnOk, IfOk, refl, sym, ap, subst, ◌∙◌, arith, codes, leb, ltb}
-use Rattle.std.specs.Option.{option_map, option_and_then, option_to_list}
+use Rattle.std.proofs.Common.{◌≡◌, ℕ, ◌+◌, ◌<◌, ◌≤◌, Bool, true, false, not, cond, ◌&&◌, ◌||◌, List, [], ◌∷◌, ◌++◌, length, Option, None, Some, Result, Ok, Err, OnOk, IfOk, refl, sym, ap, subst, ◌∙◌, arith, codes, leb, ltb}
+use Rattle.std.specs.Option.{option_map, option_and_then, option_to_list, unwrap_or}
 use Rattle.std.specs.Str.{bytes_eq}
 use Rattle.std.proofs.lemmas.Slice.Eq.{bytes_eq-Decides}
-use Rattle.std.proofs.lemmas.Bool.{leb-false, not-false, and_parts}
+use Rattle.std.proofs.lemmas.Bool.{leb-false, not-false, and_parts, both_ways}
 use Rattle.gt_model.specs.declared.script.Script.{Script}
 use Rattle.gt_model.specs.declared.script.What.{What}
 use Rattle.gt_model.specs.declared.script.Instr.{Instr}
@@ -14,16 +14,18 @@ use Rattle.gt_table.specs.declared.form.Kind.{Kind}
 use Rattle.gt_table.specs.declared.form.Role.{Role}
 use Rattle.gt_table.specs.declared.form.Step.{Step}
 use Rattle.gt_table.specs.declared.table.Keyword.{Keyword}
-use Rattle.gt_table.specs.Forms.{declared_kind, is_wanted, is_kind_function, is_declaration as is_declaring, closes as closes_role}
+use Rattle.gt_table.specs.Forms.{declared_kind, is_wanted, is_kind_function, is_declaration as is_declaring}
 use Rattle.gt_table.specs.Table.{keyword_of, form_of}
 use Rattle.gt_names.specs.declared.names.Declared.{Declared}
 use Rattle.gt_names.specs.Names.{Names, Naming, naming, is_free_name, kind_of, named, naming_of, functions_with, Declaration, declaration, declarations_from, find, names_of}
 use Rattle.gt_grammar.specs.declared.fault.Why.{Why}
-use Rattle.gt_grammar.specs.declared.progress.Progress.{Progress}
+use Rattle.gt_grammar.specs.declared.progress.OpenLoop.{OpenLoop}
+use Rattle.gt_grammar.specs.declared.progress.Held.{Held}
+use Rattle.gt_grammar.specs.Progress.{Progress}
 use Rattle.gt_grammar.specs.Statements.{Command, command, command_by, command_with, command_of, value_of, is_head}
-use Rattle.gt_grammar.specs.Deeds.{Deed, declares, opens, does, closes, deed_of, deed_with, deed_at, deeds_of, func_place, script_in, script_with, script_of}
-use Rattle.gt_grammar.specs.Faults.{test, stands, is_before, is_function, progress_after, progress_with, brings_too_many, lacks_main, fault_from, fault_in_lines, head_cause, no_progress}
-use Rattle.gt_grammar.proofs.Rightly.{kind_in, place_of, is_declared_before, naming_as, names_in, Refers, Starts, IsNew, Right}
+use Rattle.gt_grammar.specs.Deeds.{Deed, declares, opens, does, loops, closes, deed_of, deed_with, deed_at, deeds_of, func_place, script_in, script_with, script_of}
+use Rattle.gt_grammar.specs.Faults.{test, stands, is_before, is_function, are_none_open, may_end, ends_wrongly, nests_wrongly, holding, loop_ended, count_of, progress_after, progress_with, brings_too_many, lacks_main, fault_from, fault_in_lines, head_cause, no_progress}
+use Rattle.gt_grammar.proofs.Rightly.{kind_in, place_of, is_declared_before, naming_as, names_in, Refers, Starts, IsNew, Right, opened}
 use Rattle.gt_grammar.proofs.DeedsGood.{deeds-good}
 use Rattle.gt_grammar.proofs.Fits.{FitsRole, IsFree, new-value}
 use Rattle.gt_grammar.proofs.RightLines.{first-None, Doing, doing, AllRight, all_right, fault_or-None}
@@ -106,14 +108,16 @@ wants-name names (Role.Declares kind) arg a (Step.Declare what) f h = let e : is
 wants-name names (Role.Declares kind) arg a (Step.Open decl) f h = let e : is_wanted arg ≡ true = ap is_wanted f.0 in cc
 wants-name names (Role.Declares kind) arg a (Step.Do instr) f h = absurd f
 wants-name names (Role.Declares kind) arg a Step.Close f h = absurd f
+wants-name names (Role.Declares kind) arg a (Step.Loop count) f h = absurd f
 wants-name names Role.Closes arg a step f h = refl
 wants-name names Role.Acts arg a step f h = refl
+wants-name names Role.Loops arg a step f h = refl
 
 -- ---- what lines with nothing wrong do
 
 record Done (names : Names) (p : Progress) (lines : List NumberedLine) : Type 0 where
   are : declarations_from p.names p.functions lines ≡ names_in p.names p.functions (deeds_of names lines)
-  right : Right names p.inside p.names p.functions p.instructions (deeds_of names lines)
+  right : Right names p.inside p.loops p.names p.functions p.instructions (deeds_of names lines)
 
 next-is : (n : ℕ) → n < 4096 → next n ≡ n + 1
 next-is n h = omega arith
@@ -124,8 +128,8 @@ declared_by n f lines o = elim o [
   | Some m ↦ declaration m n f ∷ declarations_from (next n) (functions_with m.kind f) lines
 ]
 
-abbrev progress : Bool → ℕ → ℕ → ℕ → Progress
-progress inside n f k = record { inside = inside; names = n; functions = f; instructions = k }
+abbrev progress : Bool → List OpenLoop → ℕ → ℕ → ℕ → Progress
+progress inside open_loops n f k = record { inside = inside; loops = open_loops; names = n; functions = f; instructions = k }
 
 abbrev with_deed : Option Deed → List Deed → List Deed
 with_deed o deeds = option_to_list o ++ deeds
@@ -137,47 +141,18 @@ record Says (names : Names) (line : NumberedLine) (deed : Deed) (naming : Option
 
 by-deed : (names : Names) (p : Progress) (line : NumberedLine) (rest : List NumberedLine) (deed : Deed) (naming : Option Naming) → Says names line deed naming
     → declared_by p.names p.functions rest naming ≡ names_in p.names p.functions (deed ∷ deeds_of names rest)
-    → Right names p.inside p.names p.functions p.instructions (deed ∷ deeds_of names rest) → Done names p (line ∷ rest)
+    → Right names p.inside p.loops p.names p.functions p.instructions (deed ∷ deeds_of names rest) → Done names p (line ∷ rest)
 by-deed names p line rest deed naming says are right =
     let deeds : deeds_of names (line ∷ rest) ≡ deed ∷ deeds_of names rest = ap (λ o. with_deed o (deeds_of names rest)) says.deed_is in
     record {
       are = ap (declared_by p.names p.functions rest) says.naming_is ∙ are ∙ ap (names_in p.names p.functions) (sym deeds);
-      right = subst (Right names p.inside p.names p.functions p.instructions) (sym deeds) right;
+      right = subst (Right names p.inside p.loops p.names p.functions p.instructions) (sym deeds) right;
     }
 
 starts-functions : (names : Names) (what : What) (f : ℕ) → Starts names what → functions_with (kind_in what) f ≡ f
 starts-functions names What.Timer f s = refl
 starts-functions names (What.AfterFunc g) f s = refl
 starts-functions names What.Function f s = absurd s
-
-done-declares : (names : Names) (inside : Bool) (n f k : ℕ) (line : NumberedLine) (rest : List NumberedLine) (name : List ℕ) (what : What) → Says names line (declares name what) (Some (naming_as name (kind_in what))) → not inside ≡ true → n < 4096 → IsNew names name n → Starts names what → Done names (progress inside (n + 1) f k) rest → Done names (progress inside n f k) (line ∷ rest)
-done-declares names true n f k line rest name what says here room new starts ih = cc
-done-declares names false n f k line rest name what says here room new starts ih =
-    let x : Naming = naming_as name (kind_in what) in
-    by-deed names (progress false n f k) line rest (declares name what) (Some x) says
-    (ap (λ m. declaration x n f ∷ declarations_from m (functions_with (kind_in what) f) rest) (next-is n room)
-    ∙ ap (λ m. declaration x n f ∷ declarations_from (n + 1) m rest) (starts-functions names what f starts)
-    ∙ ap (λ ds. declaration x n f ∷ ds) ih.are)
-    (refl, room, new, starts, ih.right)
-
-done-opens : (names : Names) (inside : Bool) (n f k : ℕ) (line : NumberedLine) (rest : List NumberedLine) (name : List ℕ) (decl : ℕ) → Says names line (opens name decl) (Some (naming_as name Kind.Function)) → not inside ≡ true → n < 4096 → f < 256 → IsNew names name n → decl ≡ place_of (names name) → Done names (progress true (n + 1) (f + 1) k) rest → Done names (progress inside n f k) (line ∷ rest)
-done-opens names true n f k line rest name decl says here room few new place ih = cc
-done-opens names false n f k line rest name decl says here room few new place ih =
-    let x : Naming = naming_as name Kind.Function in
-    by-deed names (progress false n f k) line rest (opens name decl) (Some x) says
-    (ap (λ m. declaration x n f ∷ declarations_from m (next f) rest) (next-is n room)
-    ∙ ap (λ m. declaration x n f ∷ declarations_from (n + 1) m rest) (next-is f (omega arith))
-    ∙ ap (λ ds. declaration x n f ∷ ds) ih.are)
-    (refl, room, few, new, place, ih.right)
-
-done-does : (names : Names) (inside : Bool) (n f k : ℕ) (line : NumberedLine) (rest : List NumberedLine) (i : Instr) → Says names line (does i) None → inside ≡ true → k < 100000 → Refers names i → Done names (progress inside n f (k + 1)) rest → Done names (progress inside n f k) (line ∷ rest)
-done-does names false n f k line rest i says here room refers ih = cc
-done-does names true n f k line rest i says here room refers ih =
-    by-deed names (progress true n f k) line rest (does i) None says ih.are (refl, room, refers, ih.right)
-
-done-closes : (names : Names) (inside : Bool) (n f k : ℕ) (line : NumberedLine) (rest : List NumberedLine) → Says names line closes None → not inside ≡ false → Done names (progress false n f k) rest → Done names (progress inside n f k) (line ∷ rest)
-done-closes names false n f k line rest says here ih = cc
-done-closes names true n f k line rest says here ih = by-deed names (progress true n f k) line rest closes None says ih.are (refl, ih.right)
 
 or-first : (a b : Bool) → (a || b) ≡ false → a ≡ false
 or-first true b h = cc
@@ -186,6 +161,58 @@ or-first false b h = refl
 or-second : (a b : Bool) → (a || b) ≡ false → b ≡ false
 or-second true b h = cc
 or-second false b h = h
+
+-- outside functions no loop is open
+abbrev NoneOutside : Bool → List OpenLoop → Type 0
+NoneOutside inside open_loops = inside ≡ false → open_loops ≡ []
+
+are-none : (open_loops : List OpenLoop) → not (are_none_open open_loops) ≡ false → open_loops ≡ []
+are-none [] h = refl
+are-none (inner ∷ outer) h = cc
+
+none-outside : (p : Progress) (role : Role) (count : ℕ) → stands p.inside role ≡ true → NoneOutside p.inside p.loops → NoneOutside (progress_with p role count).inside (progress_with p role count).loops
+none-outside p (Role.Declares kind) count here none = λ e. none (or-second (is_kind_function kind) p.inside e)
+none-outside p Role.Closes count here none = λ e. ap loop_ended (are-none p.loops e)
+none-outside p Role.Acts count here none = λ e. ap (holding Held.Entered) (none e)
+none-outside p Role.Loops count here none = λ e. absurd (both_ways p.inside e here)
+
+done-declares : (names : Names) (inside : Bool) (open_loops : List OpenLoop) (n f k : ℕ) (line : NumberedLine) (rest : List NumberedLine) (name : List ℕ) (what : What) → Says names line (declares name what) (Some (naming_as name (kind_in what))) → not inside ≡ true → n < 4096 → IsNew names name n → Starts names what → Done names (progress inside open_loops (n + 1) f k) rest → Done names (progress inside open_loops n f k) (line ∷ rest)
+done-declares names true open_loops n f k line rest name what says here room new starts ih = cc
+done-declares names false open_loops n f k line rest name what says here room new starts ih =
+    let x : Naming = naming_as name (kind_in what) in
+    by-deed names (progress false open_loops n f k) line rest (declares name what) (Some x) says
+    (ap (λ m. declaration x n f ∷ declarations_from m (functions_with (kind_in what) f) rest) (next-is n room)
+    ∙ ap (λ m. declaration x n f ∷ declarations_from (n + 1) m rest) (starts-functions names what f starts)
+    ∙ ap (λ ds. declaration x n f ∷ ds) ih.are)
+    (refl, room, new, starts, ih.right)
+
+done-opens : (names : Names) (inside : Bool) (open_loops : List OpenLoop) (n f k : ℕ) (line : NumberedLine) (rest : List NumberedLine) (name : List ℕ) (decl : ℕ) → Says names line (opens name decl) (Some (naming_as name Kind.Function)) → not inside ≡ true → n < 4096 → f < 256 → IsNew names name n → decl ≡ place_of (names name) → NoneOutside inside open_loops → Done names (progress true open_loops (n + 1) (f + 1) k) rest → Done names (progress inside open_loops n f k) (line ∷ rest)
+done-opens names true open_loops n f k line rest name decl says here room few new place none ih = cc
+done-opens names false open_loops n f k line rest name decl says here room few new place none ih =
+    let x : Naming = naming_as name Kind.Function in
+    let P : List OpenLoop → Type 0 = λ ls. Right names true ls (n + 1) (f + 1) k (deeds_of names rest) in
+    by-deed names (progress false open_loops n f k) line rest (opens name decl) (Some x) says
+    (ap (λ m. declaration x n f ∷ declarations_from m (next f) rest) (next-is n room)
+    ∙ ap (λ m. declaration x n f ∷ declarations_from (n + 1) m rest) (next-is f (omega arith))
+    ∙ ap (λ ds. declaration x n f ∷ ds) ih.are)
+    (refl, room, few, new, place, none refl, subst P (none refl) ih.right)
+
+done-does : (names : Names) (inside : Bool) (open_loops : List OpenLoop) (n f k : ℕ) (line : NumberedLine) (rest : List NumberedLine) (i : Instr) → Says names line (does i) None → inside ≡ true → k < 100000 → Refers names i → Done names (progress inside (holding Held.Entered open_loops) n f (k + 1)) rest → Done names (progress inside open_loops n f k) (line ∷ rest)
+done-does names false open_loops n f k line rest i says here room refers ih = cc
+done-does names true open_loops n f k line rest i says here room refers ih =
+    by-deed names (progress true open_loops n f k) line rest (does i) None says ih.are (refl, room, refers, ih.right)
+
+done-loops : (names : Names) (inside : Bool) (open_loops : List OpenLoop) (n f k : ℕ) (line : NumberedLine) (rest : List NumberedLine) (count : ℕ) → Says names line (loops count) None → inside ≡ true → count ≤ 1000000 → length open_loops < 4 → Done names (progress inside (opened count open_loops) n f k) rest → Done names (progress inside open_loops n f k) (line ∷ rest)
+done-loops names false open_loops n f k line rest count says here few shallow ih = cc
+done-loops names true open_loops n f k line rest count says here few shallow ih =
+    by-deed names (progress true open_loops n f k) line rest (loops count) None says ih.are (refl, few, shallow, ih.right)
+
+done-closes : (names : Names) (inside : Bool) (open_loops : List OpenLoop) (n f k : ℕ) (line : NumberedLine) (rest : List NumberedLine) → Says names line closes None → ends_wrongly inside open_loops ≡ false → NoneOutside inside open_loops → Done names (progress (not (are_none_open open_loops)) (loop_ended open_loops) n f k) rest → Done names (progress inside open_loops n f k) (line ∷ rest)
+done-closes names false [] n f k line rest says ended none ih = cc
+done-closes names true [] n f k line rest says ended none ih = by-deed names (progress true [] n f k) line rest closes None says ih.are (refl, ih.right)
+done-closes names false (inner ∷ outer) n f k line rest says ended none ih = let e = none refl in cc
+done-closes names true (inner ∷ outer) n f k line rest says ended none ih =
+    by-deed names (progress true (inner ∷ outer) n f k) line rest closes None says ih.are (refl, not-false (may_end inner.repeats inner.held) ended, ih.right)
 
 new-name : (names : Names) (name : List ℕ) (n a : ℕ) → IsFree names name a → ltb a n ≡ false → IsNew names name n
 new-name names name n a free late = record {
@@ -206,58 +233,68 @@ naming-free name kind h = ap (λ b. cond b (Some (naming_as name kind)) None) h
 says : (names : Names) (line : NumberedLine) (name : List ℕ) (kind : Option Kind) (step : Step) (naming : Option Naming) → deed_at names line ≡ Some (deed_of name step) → naming_of line.words ≡ named name kind → named name kind ≡ naming → Says names line (deed_of name step) naming
 says names line name kind step naming d n e = record { deed_is = d; naming_is = n ∙ e }
 
-done-role : (names : Names) (inside : Bool) (n f k : ℕ) (line : NumberedLine) (rest : List NumberedLine) (name : List ℕ) (role : Role) (arg : Arg) (a : ℕ) (step : Step)
+passes-are : (names : Names) (arg : Arg) (name : List ℕ) (a count : ℕ) → arg ≡ Arg.Passes → count ≡ a → value_of names arg name ≡ Some a → count_of name ≡ count
+passes-are names arg name a count e is h = ap (λ o. unwrap_or o 0) (ap (λ x. value_of names x name) (sym e) ∙ h) ∙ sym is
+
+done-role : (names : Names) (inside : Bool) (open_loops : List OpenLoop) (n f k : ℕ) (line : NumberedLine) (rest : List NumberedLine) (name : List ℕ) (role : Role) (arg : Arg) (a : ℕ) (step : Step)
     → deed_at names line ≡ Some (deed_of name step) → naming_of line.words ≡ named name (declared_kind role) → value_of names arg name ≡ Some a
-    → stands inside role ≡ true → (is_declaring role && ltb a n) ≡ false → (closes_role role && not inside) ≡ false → brings_too_many (progress inside n f k) role ≡ false
-    → FitsRole names role arg a step → Done names (progress_with (progress inside n f k) role) rest → Done names (progress inside n f k) (line ∷ rest)
-done-role names inside n f k line rest name (Role.Declares Kind.Timer) arg a (Step.Declare What.Timer) d m v here late nested room fit ih =
+    → stands inside role ≡ true → (is_declaring role && ltb a n) ≡ false → nests_wrongly (progress inside open_loops n f k) role ≡ false → brings_too_many (progress inside open_loops n f k) role ≡ false
+    → FitsRole names role arg a step → NoneOutside inside open_loops → Done names (progress_with (progress inside open_loops n f k) role (count_of name)) rest → Done names (progress inside open_loops n f k) (line ∷ rest)
+done-role names inside open_loops n f k line rest name (Role.Declares Kind.Timer) arg a (Step.Declare What.Timer) d m v here late nested room fit none ih =
     let free : IsFree names name a = as-new names arg name a fit.0 v in
-    done-declares names inside n f k line rest name What.Timer (says names line name (Some Kind.Timer) (Step.Declare What.Timer) (Some (naming_as name Kind.Timer)) d m (naming-free name Kind.Timer free.free))
+    done-declares names inside open_loops n f k line rest name What.Timer (says names line name (Some Kind.Timer) (Step.Declare What.Timer) (Some (naming_as name Kind.Timer)) d m (naming-free name Kind.Timer free.free))
     here (leb-false 4096 n (or-first (leb 4096 n) false (or-first (leb 4096 n || false) false room))) (new-name names name n a free late) tt ih
-done-role names inside n f k line rest name (Role.Declares Kind.AfterFunc) arg a (Step.Declare (What.AfterFunc g)) d m v here late nested room fit ih =
+done-role names inside open_loops n f k line rest name (Role.Declares Kind.AfterFunc) arg a (Step.Declare (What.AfterFunc g)) d m v here late nested room fit none ih =
     let free : IsFree names name a = as-new names arg name a fit.0 v in
-    done-declares names inside n f k line rest name (What.AfterFunc g) (says names line name (Some Kind.AfterFunc) (Step.Declare (What.AfterFunc g)) (Some (naming_as name Kind.AfterFunc)) d m (naming-free name Kind.AfterFunc free.free))
+    done-declares names inside open_loops n f k line rest name (What.AfterFunc g) (says names line name (Some Kind.AfterFunc) (Step.Declare (What.AfterFunc g)) (Some (naming_as name Kind.AfterFunc)) d m (naming-free name Kind.AfterFunc free.free))
     here (leb-false 4096 n (or-first (leb 4096 n) false (or-first (leb 4096 n || false) false room))) (new-name names name n a free late) fit.2 ih
-done-role names inside n f k line rest name (Role.Declares Kind.Function) arg a (Step.Open decl) d m v here late nested room fit ih =
+done-role names inside open_loops n f k line rest name (Role.Declares Kind.Function) arg a (Step.Open decl) d m v here late nested room fit none ih =
     let free : IsFree names name a = as-new names arg name a fit.0 v in
     let full = or-first (leb 4096 n || leb 256 f) false room in
-    done-opens names inside n f k line rest name decl (says names line name (Some Kind.Function) (Step.Open decl) (Some (naming_as name Kind.Function)) d m (naming-free name Kind.Function free.free))
-    here (leb-false 4096 n (or-first (leb 4096 n) (leb 256 f) full)) (leb-false 256 f (or-second (leb 4096 n) (leb 256 f) full)) (new-name names name n a free late) (new-place names name decl a free fit.2) ih
-done-role names inside n f k line rest name Role.Closes arg a Step.Close d m v here late nested room fit ih =
-    done-closes names inside n f k line rest (says names line name None Step.Close None d m (named-none name)) nested ih
-done-role names inside n f k line rest name Role.Acts arg a (Step.Do instr) d m v here late nested room fit ih =
-    done-does names inside n f k line rest instr (says names line name None (Step.Do instr) None d m (named-none name)) here (leb-false 100000 k room) fit ih
-done-role names inside n f k line rest name (Role.Declares Kind.Timer) arg a (Step.Declare (What.AfterFunc g)) d m v here late nested room fit ih = let e = fit.1 in cc
-done-role names inside n f k line rest name (Role.Declares Kind.Timer) arg a (Step.Declare What.Function) d m v here late nested room fit ih = absurd fit.2
-done-role names inside n f k line rest name (Role.Declares Kind.AfterFunc) arg a (Step.Declare What.Timer) d m v here late nested room fit ih = let e = fit.1 in cc
-done-role names inside n f k line rest name (Role.Declares Kind.AfterFunc) arg a (Step.Declare What.Function) d m v here late nested room fit ih = absurd fit.2
-done-role names inside n f k line rest name (Role.Declares Kind.Function) arg a (Step.Declare What.Timer) d m v here late nested room fit ih = let e = fit.1 in cc
-done-role names inside n f k line rest name (Role.Declares Kind.Function) arg a (Step.Declare (What.AfterFunc g)) d m v here late nested room fit ih = let e = fit.1 in cc
-done-role names inside n f k line rest name (Role.Declares Kind.Function) arg a (Step.Declare What.Function) d m v here late nested room fit ih = absurd fit.2
-done-role names inside n f k line rest name (Role.Declares Kind.Timer) arg a (Step.Open decl) d m v here late nested room fit ih = let e = fit.1 in cc
-done-role names inside n f k line rest name (Role.Declares Kind.AfterFunc) arg a (Step.Open decl) d m v here late nested room fit ih = let e = fit.1 in cc
-done-role names inside n f k line rest name role arg a step d m v here late nested room fit ih = absurd fit
+    done-opens names inside open_loops n f k line rest name decl (says names line name (Some Kind.Function) (Step.Open decl) (Some (naming_as name Kind.Function)) d m (naming-free name Kind.Function free.free))
+    here (leb-false 4096 n (or-first (leb 4096 n) (leb 256 f) full)) (leb-false 256 f (or-second (leb 4096 n) (leb 256 f) full)) (new-name names name n a free late) (new-place names name decl a free fit.2) none ih
+done-role names inside open_loops n f k line rest name Role.Closes arg a Step.Close d m v here late nested room fit none ih =
+    done-closes names inside open_loops n f k line rest (says names line name None Step.Close None d m (named-none name)) nested none ih
+done-role names inside open_loops n f k line rest name Role.Acts arg a (Step.Do instr) d m v here late nested room fit none ih =
+    done-does names inside open_loops n f k line rest instr (says names line name None (Step.Do instr) None d m (named-none name)) here (leb-false 100000 k room) fit ih
+done-role names inside open_loops n f k line rest name Role.Loops arg a (Step.Loop count) d m v here late nested room fit none ih =
+    let P : ℕ → Type 0 = λ passes. Done names (progress inside (opened passes open_loops) n f k) rest in
+    done-loops names inside open_loops n f k line rest count (says names line name None (Step.Loop count) None d m (named-none name))
+    here fit.2 (leb-false 4 (length open_loops) nested) (subst P (passes-are names arg name a count fit.0 fit.1 v) ih)
+done-role names inside open_loops n f k line rest name (Role.Declares Kind.Timer) arg a (Step.Declare (What.AfterFunc g)) d m v here late nested room fit none ih = let e = fit.1 in cc
+done-role names inside open_loops n f k line rest name (Role.Declares Kind.Timer) arg a (Step.Declare What.Function) d m v here late nested room fit none ih = absurd fit.2
+done-role names inside open_loops n f k line rest name (Role.Declares Kind.AfterFunc) arg a (Step.Declare What.Timer) d m v here late nested room fit none ih = let e = fit.1 in cc
+done-role names inside open_loops n f k line rest name (Role.Declares Kind.AfterFunc) arg a (Step.Declare What.Function) d m v here late nested room fit none ih = absurd fit.2
+done-role names inside open_loops n f k line rest name (Role.Declares Kind.Function) arg a (Step.Declare What.Timer) d m v here late nested room fit none ih = let e = fit.1 in cc
+done-role names inside open_loops n f k line rest name (Role.Declares Kind.Function) arg a (Step.Declare (What.AfterFunc g)) d m v here late nested room fit none ih = let e = fit.1 in cc
+done-role names inside open_loops n f k line rest name (Role.Declares Kind.Function) arg a (Step.Declare What.Function) d m v here late nested room fit none ih = absurd fit.2
+done-role names inside open_loops n f k line rest name (Role.Declares Kind.Timer) arg a (Step.Open decl) d m v here late nested room fit none ih = let e = fit.1 in cc
+done-role names inside open_loops n f k line rest name (Role.Declares Kind.AfterFunc) arg a (Step.Open decl) d m v here late nested room fit none ih = let e = fit.1 in cc
+done-role names inside open_loops n f k line rest name role arg a step d m v here late nested room fit none ih = absurd fit
 
 abbrev progress_by : Progress → Option Command → Progress
-progress_by p o = elim o [ None ↦ p | Some c ↦ progress_with p (role_in c.keyword) ]
+progress_by p o = elim o [ None ↦ p | Some c ↦ progress_with p (role_in c.keyword) (count_of c.first) ]
 
 late-is : (names : Names) (role : Role) (n a : ℕ) (o : Option ℕ) → o ≡ Some a → (is_declaring role && is_before n o) ≡ false → (is_declaring role && ltb a n) ≡ false
 late-is names role n a o e h = ap (λ x. is_declaring role && is_before n x) (sym e) ∙ h
 
-done : (names : Names) (p : Progress) (lines : List NumberedLine) → AllRight names p lines → Done names p lines
-done names p [] out = record { are = refl; right = out }
-done names p (line ∷ lines) r =
+done : (names : Names) (p : Progress) (lines : List NumberedLine) → AllRight names p lines → NoneOutside p.inside p.loops → Done names p lines
+done names p [] out none = record { are = refl; right = out }
+done names p (line ∷ lines) r none =
     let c : Command = r.0.c in
-    let P : Progress → Type 0 = λ q. Done names q lines in
-    let ih : Done names (progress_with p (role_in c.keyword)) lines = subst P (ap (progress_by p) r.0.is) (done names (progress_after p line) lines r.1) in
     let right = r.0.right in
+    let P : Progress → Type 0 = λ q. Done names q lines in
+    let Q : Progress → Type 0 = λ q. NoneOutside q.inside q.loops in
+    let behind : progress_after p line ≡ progress_with p (role_in c.keyword) (count_of c.first) = ap (progress_by p) r.0.is in
+    let outside : Q (progress_after p line) = subst Q (sym behind) (none-outside p (role_in c.keyword) (count_of c.first) right.stands_here none) in
+    let ih : Done names (progress_with p (role_in c.keyword) (count_of c.first)) lines = subst P behind (done names (progress_after p line) lines r.1 outside) in
     let what : Doing names c = doing names c right.names right.counts in
-    done-role names p.inside p.names p.functions p.instructions line lines c.first (role_in c.keyword) (form_of c.keyword).first what.first what.step
+    done-role names p.inside p.loops p.names p.functions p.instructions line lines c.first (role_in c.keyword) (form_of c.keyword).first what.first what.step
     (ap (option_and_then (deed_with names)) r.0.is ∙ ap (option_map (deed_of c.first)) what.step_is)
     (naming-is line.words c r.0.is (wants-name names (role_in c.keyword) (form_of c.keyword).first what.first what.step what.fits))
     what.first_is right.stands_here
     (late-is names (role_in c.keyword) p.names what.first (value_of names (form_of c.keyword).first c.first) what.first_is right.first)
-    right.nested right.room what.fits ih
+    right.nested right.room what.fits none ih
 
 -- `main` is a function
 and-right : (a b : Bool) → a ≡ true → (a && not b) ≡ false → b ≡ true
@@ -308,7 +345,7 @@ lines-good (head ∷ lines) h =
     let second = first-None (lacks_main names (is_end lines)) Why.NoMain [] first.1 in
     let right : AllRight names no_progress lines = all_right names no_progress lines (λ e. refl) both.1 in
     let are : names ≡ find (declarations_from 0 0 lines) = ap (λ o. find (declared_by 0 0 lines o)) (head-naming head.words (not-false (is_head head.words) first.0)) in
-    script-good names lines (done names no_progress lines right) are
+    script-good names lines (done names no_progress lines right (λ e. refl)) are
     (main-body names no_progress lines right (λ e. and-right (is_end lines) (is_function (names (codes "main"))) e second.0))
 
 -- what is read is good

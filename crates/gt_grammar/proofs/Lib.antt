@@ -1,4 +1,6 @@
 pub mod Rightly
+pub mod OpenLoops
+pub mod LoopsGood
 pub mod DeedNames
 pub mod DeedsGood
 pub mod Fits

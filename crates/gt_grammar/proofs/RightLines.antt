@@ -8,10 +8,10 @@ use Rattle.gt_table.specs.Table.{form_of, step_of}
 use Rattle.gt_names.specs.Names.{Names}
 use Rattle.gt_grammar.specs.declared.fault.Why.{Why}
 use Rattle.gt_grammar.specs.declared.fault.ScriptFault.{ScriptFault}
-use Rattle.gt_grammar.specs.declared.progress.Progress.{Progress}
+use Rattle.gt_grammar.specs.Progress.{Progress}
 use Rattle.gt_grammar.specs.declared.statement.Statement.{Statement}
 use Rattle.gt_grammar.specs.Statements.{Command, command_of, statement_of, value_of, step_by, step_with}
-use Rattle.gt_grammar.specs.Faults.{Test, test, first_cause, causes, role_of, stands, is_named, is_counted, names_rightly, declares_twice, inside_after, counts_rightly, closes_nothing, brings_too_many, progress_after, progress_with, cause_with, cause_at, lacks_main, fault_or, fault_from}
+use Rattle.gt_grammar.specs.Faults.{Test, test, first_cause, causes, role_of, stands, is_named, is_counted, names_rightly, declares_twice, inside_after, counts_rightly, nests_wrongly, brings_too_many, progress_after, progress_with, count_of, cause_with, cause_at, lacks_main, fault_or, fault_from}
 use Rattle.gt_grammar.proofs.Fits.{FitsRole, fits}
 
 -- the first cause is none: no cause applies
@@ -37,9 +37,9 @@ pub record IsRight (is_last lacks_main : Bool) (p : Progress) (s : Statement) : 
   pub stands_here : stands p.inside (role_of s) ≡ true
   pub names : names_rightly s ≡ true
   pub first : declares_twice p s ≡ false
-  pub ends : (is_last && inside_after p.inside (role_of s)) ≡ false
+  pub ends : (is_last && inside_after p (role_of s)) ≡ false
   pub counts : counts_rightly s ≡ true
-  pub nested : closes_nothing p (role_of s) ≡ false
+  pub nested : nests_wrongly p (role_of s) ≡ false
   pub room : brings_too_many p (role_of s) ≡ false
   pub main : lacks_main ≡ false
 
@@ -145,10 +145,10 @@ false-right false b e h = cc
 
 abbrev inside_by : Progress → Option Command → Bool
 inside_by p None = p.inside
-inside_by p (Some c) = inside_after p.inside (form_of c.keyword).role
+inside_by p (Some c) = inside_after p (form_of c.keyword).role
 
 abbrev progress_by : Progress → Option Command → Progress
-progress_by p o = elim o [ None ↦ p | Some c ↦ progress_with p (form_of c.keyword).role ]
+progress_by p o = elim o [ None ↦ p | Some c ↦ progress_with p (form_of c.keyword).role (count_of c.first) ]
 
 inside-is : (p : Progress) (o : Option Command) → (progress_by p o).inside ≡ inside_by p o
 inside-is p None = refl

@@ -67,6 +67,10 @@ pub record IsNew (names : Names) (name : List ℕ) (n : ℕ) : Type 0 where
   pub free : is_free_name name ≡ true
   pub first : is_declared_before n (names name) ≡ false
 
+-- a loop with so many passes opens in these
+abbrev pub opened : ℕ → List OpenLoop → List OpenLoop
+opened count outer = (record { repeats = nat_lt 0 count; held = Held.Nothing }) ∷ outer
+
 -- deeds that follow one another rightly, behind so many names, functions and instructions, where these loops are open, the innermost first
 abbrev pub Right : Names → Bool → List OpenLoop → ℕ → ℕ → ℕ → List Deed → Type 0
 Right names inside open_loops n f k [] = inside ≡ false
@@ -78,7 +82,7 @@ Right names inside open_loops n f k (does instr ∷ rest) =
     (inside ≡ true) × (k < 100000) × Refers names instr × Right names true (holding Held.Entered open_loops) n f (k + 1) rest
 Right names inside open_loops n f k (loops count ∷ rest) =
     (inside ≡ true) × (count ≤ 1000000) × (length open_loops < 4)
-    × Right names true ((record { repeats = nat_lt 0 count; held = Held.Nothing }) ∷ open_loops) n f k rest
+    × Right names true (opened count open_loops) n f k rest
 Right names inside [] n f k (closes ∷ rest) = (inside ≡ true) × Right names false [] n f k rest
 Right names inside (inner ∷ outer) n f k (closes ∷ rest) =
     (inside ≡ true) × (may_end inner.repeats inner.held ≡ true) × Right names true (loop_ended (inner ∷ outer)) n f k rest

@@ -3,9 +3,9 @@
 ghost use Rattle.std.specs.Prelude.{◌≡◌, ◌<◌, true};
 ghost use Rattle.gt_grammar.specs.Faults.{is_before, stands, may_end, held_with, count_if};
 
-use arrayvec::ArrayVec;
 use crate::fault::Why;
 use crate::statement::Statement;
+use arrayvec::ArrayVec;
 use gt_table::Role;
 use std::marker::Model;
 
@@ -237,7 +237,9 @@ impl Progress {
     fn end_loop(&mut self)
         ensures { self.new ≡ record self.old { loops = loop_ended self.old.loops } }
     {
-        if let Some(ended) = self.loops.pop() && let Some(inner) = self.innermost() {
+        if let Some(ended) = self.loops.pop()
+            && let Some(inner) = self.innermost()
+        {
             self.hold(held_with(ended.repeats, inner.held));
         }
     }
