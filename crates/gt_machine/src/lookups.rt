@@ -1,10 +1,20 @@
 //! What is looked up in a script.
 
-ghost use Rattle.std.specs.Prelude.{◌≡◌};
+ghost use Rattle.std.specs.Prelude.{◌≡◌, [], MatchOption};
 ghost use Rattle.std.specs.Option.{option_copied, option_map};
-ghost use Rattle.gt_model.specs.Script.{instr_at, func_of};
+ghost use Rattle.gt_model.specs.Script.{code_of, instr_at, func_of};
 
 use gt_model::{Decl, Instr, Place, Script, What};
+
+/// The code of a function; None where no function has that place, which has no code.
+pub fn code_of(script: &Script, f: u32) -> Option<&[Instr]>
+    ensures { MatchOption result (code_of script.now f ≡ []) (λ code. code.now ≡ code_of script.now f) }
+{
+    match script.funcs.as_slice().get(f as usize) {
+        Some(func) => Some(func.code.as_slice()),
+        None => None,
+    }
+}
 
 /// The instruction at a place; none where no code has that place.
 pub fn instr_at<'a>(script: &'a Script, place: Place) -> Option<&'a Instr>

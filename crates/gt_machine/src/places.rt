@@ -5,6 +5,7 @@ ghost use Rattle.gt_model.specs.Good.{IsGood};
 ghost use Rattle.gt_rules.specs.Places as places;
 ghost use Rattle.gt_machine.specs.Places.{LeadsRightly, IsWalkable};
 
+use crate::lookups::code_of;
 use gt_model::{Instr, Place, Script};
 
 /// At the top of a loop.
@@ -82,9 +83,9 @@ fn settled(script: &Script, place: Place) -> Place
     requires { IsGood script.now }
     ensures { result ≡ places.settled script.now place }
 {
-    match script.funcs.as_slice().get(place.func as usize) {
+    match code_of(script, place.func) {
         None => place,
-        Some(func) => walked(func.code.as_slice(), place),
+        Some(code) => walked(code, place),
     }
 }
 

@@ -8,8 +8,8 @@ pub retime-requires : goal.retime-requires
 retime-requires c =
     rw c.timer_of.ensures (within-May c.args.script.now (state_of c.args.self.now) c.args.entry.now c.requires.good c.requires.formed c.requires.may)
 
-pub move_on-requires : goal.move_on-requires
-move_on-requires c =
+pub move_on-requires-clause-inside : goal.move_on-requires-clause-inside
+move_on-requires-clause-inside c =
     let same : c.retime.new.self.goroutines.items ≡ c.args.self.now.goroutines.items = ap (λ (s : State). s.goroutines) c.retime.ensures.state in
     subst (λ gs. IfSome c.mover_of-mover.result (λ x. IsInside gs x.0)) (sym same)
     (rw c.mover_of-mover.ensures (inside-May c.args.script.now (state_of c.args.self.now) c.args.entry.now c.requires.good c.requires.formed c.requires.may))

@@ -8,7 +8,7 @@ pub returns-in-Some-clause-state : goal.returns-in-Some-clause-state
 returns-in-Some-clause-state c =
     rw (c.set.ensures.items, c.moved.ensures, c.in-Some.is)
     (ap (λ gs. record (state_of c.args.self.now) { goroutines = gs })
-    (set_numbered c.args.self.now.goroutines.items c.in-Some.g (moved c.args.script.now c.in-Some.how) c.at-was.result.now _ (rw c.in-Some.is at c.requires) c.at-was.ensures.value))
+    (set_numbered c.args.self.now.goroutines.items c.in-Some.g (moved c.args.script.now c.in-Some.how) c.at-was.result.now _ (rw c.in-Some.is at c.requires.inside) c.at-was.ensures.value))
 
 pub returns-in-Some-clause-many : goal.returns-in-Some-clause-many
 returns-in-Some-clause-many c = rw c.set.ensures.items (length-set c.args.self.now.goroutines.items (c.in-Some.g - 1) c.moved.result)
