@@ -11,20 +11,21 @@ use Rattle.gt_model.specs.Script.{is_timer, is_func}
 use Rattle.gt_model.specs.declared.state.Timer.{Timer}
 use Rattle.gt_rules.specs.Ready.{is_due}
 use Rattle.gt_rules.specs.Panics.{fault, fault_at, panic_of, panic_at, when}
-use Rattle.gt_rules.specs.Legal.{Does, Receives, operation, operation_at, due_at, sleep_end}
+use Rattle.gt_rules.specs.Legal.{May, Does, Receives, operation, operation_at, due_at, sleep_end}
 use Rattle.gt_model.specs.declared.entry.Party.{Party}
 use Rattle.gt_schedule.specs.declared.status.RunStatus.{RunStatus}
 use Rattle.gt_book.specs.declared.step.Step.{Step}
 use Rattle.gt_book.specs.declared.answers.Op.{Op}
 use Rattle.gt_book.specs.declared.answers.TimerOp.{TimerOp}
-use Rattle.gt_schedule.specs.Schedule.{Schedule, status_of, is_in_hand, is_parked, parties_at}
-use Rattle.gt_book.specs.Steps.{step_of, step_or_panic, step_of_instr, is_receiving, is_late, is_gone, MayCommit}
+use Rattle.gt_schedule.specs.Schedule.{Schedule, Served, status_of, is_in_hand, is_parked, parties_at}
+use Rattle.gt_book.specs.Steps.{step_of, step_or_panic, step_of_instr, set_instr, set_entry, is_receiving, is_late, is_gone, MayCommit}
 use Rattle.gt_book.specs.View.{BookView, IsLawful, outcome_of, is_parked_at, is_at_receive}
 use Rattle.gt_facts.proofs.Within.{timer_within}
 use Rattle.gt_facts.proofs.Lookups.{Asleep, sleeper, AtOperation, at_operation}
 use Rattle.gt_facts.proofs.Formed.{world_of-zero}
 use Rattle.gt_book.proofs.Fitting.{first-waiting, asleep-parked}
 use Rattle.gt_book.proofs.Going.{IsStep, step-is, in_hand-goes}
+use Rattle.gt_book.proofs.Setting.{instr-set}
 
 -- an operation that is not late for its goroutine is not gone while the run goes on
 not_gone : (b : BookView) (op : Op) → outcome_of b ≡ None → is_late b op ≡ false → is_gone b op ≡ false
@@ -174,37 +175,22 @@ may-sleep b g d until lawful running step in_hand e =
     let is : until ≡ due_at (clock_of b.state g) d = e ∙ ap (λ now. due_at now d) (sym (one_clock b g lawful)) in
     (((d, does, ap Some is ∙ sym (sleeps.ends (clock_of b.state g))), in_hand, tt), not_gone b (Op.Sleep g until) running refl)
 
-instr-new : (s : State) (g t d : ℕ) (i : Instr) → step_of_instr s g i ≡ Step.Needs (TimerOp.New t d) → i ≡ Instr.New t d
-instr-new s g t d (Instr.New u e) h =
-    let timer : u ≡ t = cc in
-    let time : e ≡ d = cc in
-    ap (λ u. Instr.New u e) timer ∙ ap (Instr.New t) time
-instr-new s g t d (Instr.Sleep zero) h = cc
-instr-new s g t d _ h = cc
+-- the entry of a setting may come
+set-may : (script : Script) (s : State) (g t d due : ℕ) (anew was : Bool) → Does script s g (set_instr t d anew) → was ≡ is_some (due_of s t) → due ≡ due_at (clock_of s g) d
+    → May script s (set_entry g t anew was due)
+set-may script s g t d due true was does was_set is = (d, does, ap Some was_set, is)
+set-may script s g t d due false was does was_set is = (d, does, is)
 
-instr-reset : (s : State) (g t d : ℕ) (i : Instr) → step_of_instr s g i ≡ Step.Needs (TimerOp.Reset t d) → i ≡ Instr.Reset t d
-instr-reset s g t d (Instr.Reset u e) h =
-    let timer : u ≡ t = cc in
-    let time : e ≡ d = cc in
-    ap (λ u. Instr.Reset u e) timer ∙ ap (Instr.Reset t) time
-instr-reset s g t d (Instr.Sleep zero) h = cc
-instr-reset s g t d _ h = cc
+set-served : (m : Schedule) (g t due : ℕ) (anew was : Bool) → status_of m g ≡ Some RunStatus.InHand → Served m (set_entry g t anew was due)
+set-served m g t due true was in_hand = in_hand-goes (status_of m g) in_hand
+set-served m g t due false was in_hand = in_hand-goes (status_of m g) in_hand
 
-pub may-new : (b : BookView) (g t d due : ℕ) → IsLawful b → outcome_of b ≡ None → step_of b.script b.state b.schedule g ≡ Some (Step.Needs (TimerOp.New t d))
-    → status_of b.schedule g ≡ Some RunStatus.InHand → due ≡ min (clock b.state 0 + d) greatest_time
-    → MayCommit b (Op.New g t due 0) × (is_gone b (Op.New g t due 0) ≡ false)
-may-new b g t d due lawful running step in_hand e =
-    let asks : Asks b.script b.state g (TimerOp.New t d) = needs-asks b.script b.state b.schedule g (TimerOp.New t d) step in
-    let does : Does b.script b.state g (Instr.New t d) = subst (Does b.script b.state g) (instr-new b.state g t d asks.instr asks.is) asks.does in
-    let is : due ≡ due_at (clock_of b.state g) d = e ∙ ap (λ now. due_at now d) (sym (one_clock b g lawful)) in
-    (((d, does, is), in_hand-goes (status_of b.schedule g) in_hand, refl), not_gone b (Op.New g t due 0) running refl)
-
-pub may-reset : (b : BookView) (g t d due : ℕ) (was : Bool) → IsLawful b → outcome_of b ≡ None → step_of b.script b.state b.schedule g ≡ Some (Step.Needs (TimerOp.Reset t d))
+pub may-set : (b : BookView) (g t d due : ℕ) (anew was : Bool) → IsLawful b → outcome_of b ≡ None → step_of b.script b.state b.schedule g ≡ Some (Step.Needs (TimerOp.Set t d anew))
     → status_of b.schedule g ≡ Some RunStatus.InHand
     → was ≡ is_some (due_of b.state t) → due ≡ min (clock b.state 0 + d) greatest_time
-    → MayCommit b (Op.Reset g t was due 0) × (is_gone b (Op.Reset g t was due 0) ≡ false)
-may-reset b g t d due was lawful running step in_hand was_set e =
-    let asks : Asks b.script b.state g (TimerOp.Reset t d) = needs-asks b.script b.state b.schedule g (TimerOp.Reset t d) step in
-    let does : Does b.script b.state g (Instr.Reset t d) = subst (Does b.script b.state g) (instr-reset b.state g t d asks.instr asks.is) asks.does in
+    → MayCommit b (Op.Set g t anew was due 0) × (is_gone b (Op.Set g t anew was due 0) ≡ false)
+may-set b g t d due anew was lawful running step in_hand was_set e =
+    let asks : Asks b.script b.state g (TimerOp.Set t d anew) = needs-asks b.script b.state b.schedule g (TimerOp.Set t d anew) step in
+    let does : Does b.script b.state g (set_instr t d anew) = subst (Does b.script b.state g) (instr-set b.state g t d anew asks.instr asks.is) asks.does in
     let is : due ≡ due_at (clock_of b.state g) d = e ∙ ap (λ now. due_at now d) (sym (one_clock b g lawful)) in
-    (((d, does, ap Some was_set, is), in_hand-goes (status_of b.schedule g) in_hand, refl), not_gone b (Op.Reset g t was due 0) running refl)
+    ((set-may b.script b.state g t d due anew was does was_set is, set-served b.schedule g t due anew was in_hand, refl), not_gone b (Op.Set g t anew was due 0) running refl)

@@ -157,11 +157,8 @@ calm-may script s g Instr.Now e does h = let is : Entry.Now g (clock_of s g) ≡
 calm-may script s g (Instr.Sleep zero) e does h = let is : Entry.Sleep g None ≡ e = cc in subst (May script s) is (0, does, refl)
 calm-may script s g (Instr.Sleep (suc d)) e does h = cc
 calm-may script s g (Instr.Go f) e does h = let is : Entry.Go g (length s.goroutines + 1) f ≡ e = cc in subst (May script s) is (does, refl)
-calm-may script s g (Instr.New t d) e does h = cc
-calm-may script s g (Instr.Stop t) e does h = cc
-calm-may script s g (Instr.Reset t d) e does h = cc
-calm-may script s g (Instr.Recv o) e does h = cc
 calm-may script s g Instr.Finish e does h = let is : Entry.End g ≡ e = cc in subst (May script s) is does
+calm-may script s g _ e does h = cc
 
 pub makes-may : (script : Script) (s : State) (m : Schedule) (g : ℕ) (e : Entry) → step_of script s m g ≡ Some (Step.Makes e) → May script s e
 makes-may script s m g e h =

@@ -9,7 +9,7 @@ use Rattle.gt_rules.specs.State.{State}
 use Rattle.gt_rules.specs.Panics.{fault}
 use Rattle.gt_schedule.specs.declared.status.Ticket.{Ticket}
 use Rattle.gt_schedule.specs.Schedule.{plainly, parked_at, ticket_of}
-use Rattle.gt_book.specs.Steps.{Does, Steps, step_of, step_of_instr, step_or_panic}
+use Rattle.gt_book.specs.Steps.{Does, Steps, set_instr, step_of, step_of_instr, step_or_panic}
 use Rattle.gt_book.proofs.Going.{IsStep, step-is}
 use Rattle.gt_book.specs.View.{BookView, outcome_of, with_schedule}
 
@@ -21,8 +21,7 @@ entered-no_timer (Some outcome) op h = cc
 -- whether an operation says that its goroutine waits already
 abbrev pub is_enrolled : TimerOp → Bool
 is_enrolled (TimerOp.Enrolled ticket) = true
-is_enrolled (TimerOp.New t d) = false
-is_enrolled (TimerOp.Reset t d) = false
+is_enrolled (TimerOp.Set t d anew) = false
 is_enrolled (TimerOp.Stop t) = false
 is_enrolled (TimerOp.Sleep d) = false
 
@@ -63,17 +62,30 @@ pub record ParksUnder (old : BookView) (g : ℕ) (ticket : Ticket) (new : BookVi
   pub its : ticket ≡ ticket_of old.schedule g
 
 -- no instruction asks for that
+abbrev needs_enrolled : Step → Bool
+needs_enrolled (Step.Needs op) = is_enrolled op
+needs_enrolled _ = false
+
+none-enrolled : (s : State) (g : ℕ) (i : Instr) → needs_enrolled (step_of_instr s g i) ≡ false
+none-enrolled s g (Instr.Sleep zero) = refl
+none-enrolled s g (Instr.Sleep (suc d)) = refl
+none-enrolled s g _ = refl
+
 asks-not_enrolled : (s : State) (g : ℕ) (i : Instr) (op : TimerOp) → step_of_instr s g i ≡ Step.Needs op → is_enrolled op ≡ false
-asks-not_enrolled s g (Instr.Say n) op h = cc
-asks-not_enrolled s g Instr.Now op h = cc
-asks-not_enrolled s g (Instr.Sleep zero) op h = cc
-asks-not_enrolled s g (Instr.Sleep (suc d)) op h = let is : TimerOp.Sleep (suc d) ≡ op = cc in subst (λ op. is_enrolled op ≡ false) is refl
-asks-not_enrolled s g (Instr.Go f) op h = cc
-asks-not_enrolled s g (Instr.New t d) op h = let is : TimerOp.New t d ≡ op = cc in subst (λ op. is_enrolled op ≡ false) is refl
-asks-not_enrolled s g (Instr.Stop t) op h = let is : TimerOp.Stop t ≡ op = cc in subst (λ op. is_enrolled op ≡ false) is refl
-asks-not_enrolled s g (Instr.Reset t d) op h = let is : TimerOp.Reset t d ≡ op = cc in subst (λ op. is_enrolled op ≡ false) is refl
-asks-not_enrolled s g (Instr.Recv o) op h = cc
-asks-not_enrolled s g Instr.Finish op h = cc
+asks-not_enrolled s g i op h = sym (ap needs_enrolled h) ∙ none-enrolled s g i
+
+-- the instruction that asks to set a timer
+abbrev asked_by : Instr → Step → Instr
+asked_by i (Step.Needs (TimerOp.Set t d anew)) = set_instr t d anew
+asked_by i _ = i
+
+same-instr : (s : State) (g : ℕ) (i : Instr) → asked_by i (step_of_instr s g i) ≡ i
+same-instr s g (Instr.Sleep zero) = refl
+same-instr s g (Instr.Sleep (suc d)) = refl
+same-instr s g _ = refl
+
+pub instr-set : (s : State) (g t d : ℕ) (anew : Bool) (i : Instr) → step_of_instr s g i ≡ Step.Needs (TimerOp.Set t d anew) → i ≡ set_instr t d anew
+instr-set s g t d anew i h = sym (same-instr s g i) ∙ ap (asked_by i) h
 
 needs-not_enrolled : (old : BookView) (g : ℕ) (op : TimerOp) → step_of old.script old.state old.schedule g ≡ Some (Step.Needs op) → is_enrolled op ≡ false
 needs-not_enrolled old g op h =

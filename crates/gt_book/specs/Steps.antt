@@ -27,9 +27,9 @@ step_of_instr s g Instr.Now = Step.Makes (Entry.Now g (clock_of s g))
 step_of_instr s g (Instr.Sleep zero) = Step.Makes (Entry.Sleep g None)
 step_of_instr s g (Instr.Sleep (suc d)) = Step.Needs (TimerOp.Sleep (suc d))
 step_of_instr s g (Instr.Go f) = Step.Makes (Entry.Go g (next_number s) f)
-step_of_instr s g (Instr.New t d) = Step.Needs (TimerOp.New t d)
+step_of_instr s g (Instr.New t d) = Step.Needs (TimerOp.Set t d false)
 step_of_instr s g (Instr.Stop t) = Step.Needs (TimerOp.Stop t)
-step_of_instr s g (Instr.Reset t d) = Step.Needs (TimerOp.Reset t d)
+step_of_instr s g (Instr.Reset t d) = Step.Needs (TimerOp.Set t d true)
 step_of_instr s g (Instr.Recv o) = Step.Waits o
 step_of_instr s g Instr.Finish = Step.Makes (Entry.End g)
 
@@ -71,11 +71,19 @@ Clocks old to new = ClocksBy old to new (is_none (outcome_of old) && nat_lt (clo
     ClocksBy old to new true = Enters old (Entry.Clock 0 to) new
     ClocksBy old to new false = new ≡ old
 
+-- the instruction that sets a timer, anew or for the first time, and its entry
+abbrev pub set_instr : ℕ → ℕ → Bool → Instr
+set_instr t d true = Instr.Reset t d
+set_instr t d false = Instr.New t d
+
+abbrev pub set_entry : ℕ → ℕ → Bool → Bool → ℕ → Entry
+set_entry g t true was due = Entry.Reset g t (Some was) due
+set_entry g t false was due = Entry.New g t due
+
 -- the entry of an operation
 abbrev pub entry_of : State → Op → Entry
-entry_of s (Op.New g t due period) = Entry.New g t due
+entry_of s (Op.Set g t anew was due period) = set_entry g t anew was due
 entry_of s (Op.Stop g t was) = Entry.Stop g t (Some was)
-entry_of s (Op.Reset g t was due period) = Entry.Reset g t (Some was) due
 entry_of s (Op.TRecv p t due next) = Entry.TRecv p t due next
 entry_of s (Op.Fire t) = Entry.FireFunc t (next_number s)
 entry_of s (Op.Sleep g until) = Entry.Sleep g (Some until)
@@ -83,8 +91,7 @@ entry_of s (Op.Wake g) = Entry.Wake g
 
 -- the period that an operation sets is that of its instruction
 abbrev pub HasPeriod : Script → State → Op → Type 0
-HasPeriod script s (Op.New g t due period) = period ≡ new_period script s g t
-HasPeriod script s (Op.Reset g t was due period) = period ≡ new_period script s g t
+HasPeriod script s (Op.Set g t anew was due period) = period ≡ new_period script s g t
 HasPeriod script s _ = Unit {0}
 
 -- whether a party in hand, or one that is parked, stands at a receive from t

@@ -29,10 +29,8 @@ pub enum Did {
 /// What an instruction wants of a timer's record. Timers go by the places of their declarations, from 0.
 #[derive(Clone, Copy)]
 pub enum TimerOp {
-    /// To make timer `t`, due after `d` nanoseconds.
-    New { t: u32, d: u64 },
-    /// To set timer `t` anew, due after `d` nanoseconds.
-    Reset { t: u32, d: u64 },
+    /// To set timer `t`, due after `d` nanoseconds: anew, or for the first time, which makes it.
+    Set { t: u32, d: u64, anew: bool },
     /// To stop this timer.
     Stop(u32),
     /// To be counted, under this ticket, among those that wait at its timers.
@@ -45,10 +43,12 @@ pub enum TimerOp {
 /// times are in nanoseconds, and a period of 0 is that of a timer that ticks once.
 #[derive(Clone, Copy)]
 pub enum Op {
-    /// Goroutine `g` makes timer `t`, which is due at `due`.
-    New {
+    /// Goroutine `g` sets timer `t`, which is due at `due` from now on: anew, where it was set or not, or for the first time, which makes it.
+    Set {
         g: u32,
         t: u32,
+        anew: bool,
+        was: bool,
         due: u64,
         period: u64,
     },
@@ -57,14 +57,6 @@ pub enum Op {
         g: u32,
         t: u32,
         was: bool,
-    },
-    /// Goroutine `g` sets timer `t` anew, which was set or not; it is due at `due` from now on.
-    Reset {
-        g: u32,
-        t: u32,
-        was: bool,
-        due: u64,
-        period: u64,
     },
     /// A goroutine that waits there receives the tick of timer `t` that was due at `due`; the timer is due next at `next`, if ever.
     TRecv {

@@ -322,17 +322,30 @@ impl Book {
         ensures { result ≡ entry_of self.now.state op.now }
     {
         match *op {
-            Op::New { g, t, due, .. } => Entry::New { g, t, due },
-            Op::Stop { g, t, was } => Entry::Stop {
+            Op::Set {
                 g,
                 t,
-                was: Some(was),
-            },
-            Op::Reset { g, t, was, due, .. } => Entry::Reset {
+                anew: false,
+                due,
+                ..
+            } => Entry::New { g, t, due },
+            Op::Set {
+                g,
+                t,
+                anew: true,
+                was,
+                due,
+                ..
+            } => Entry::Reset {
                 g,
                 t,
                 was: Some(was),
                 due,
+            },
+            Op::Stop { g, t, was } => Entry::Stop {
+                g,
+                t,
+                was: Some(was),
             },
             Op::TRecv { p, t, due, next } => Entry::TRecv { p, t, due, next },
             Op::Fire { t } => Entry::FireFunc {

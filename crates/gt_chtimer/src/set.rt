@@ -18,7 +18,7 @@ use gt_model::due_after;
 use gt_rec::TimerRec;
 use gt_rows::{SetDone, arm};
 
-/// `new` or `reset` of goroutine `g`, which the caller has in hand and which stands at one of this timer. The record joins the caller's heap where it
+/// Goroutine `g`, which the caller has in hand and which stands at an instruction that sets this timer, sets it. The record joins the caller's heap where it
 /// needs one and is in none (Go 1.23, runtime/time.go); where another heap has it under a later due time, the answer says so. Making a timer twice, or
 /// setting one that was not made, is a panic of `g`.
 pub fn sec_set(heap: &mut Lazy, rec: &mut TimerRec, book: &mut Book, g: u32) -> SetDone
@@ -32,31 +32,17 @@ pub fn sec_set(heap: &mut Lazy, rec: &mut TimerRec, book: &mut Book, g: u32) -> 
     match book.step_plain(g) {
         Did::Entered => SetDone::Done,
         Did::Over(outcome) => SetDone::Over(outcome),
-        Did::Timer(TimerOp::New { t, d }) => {
-            let due = due_in(book, d);
-            arm_with(
-                heap,
-                rec,
-                book,
-                Op::New {
-                    g,
-                    t,
-                    due,
-                    period: 0,
-                },
-                due,
-            )
-        }
-        Did::Timer(TimerOp::Reset { t, d }) => {
+        Did::Timer(TimerOp::Set { t, d, anew }) => {
             let was = rec.shown_due().is_some();
             let due = due_in(book, d);
             arm_with(
                 heap,
                 rec,
                 book,
-                Op::Reset {
+                Op::Set {
                     g,
                     t,
+                    anew,
                     was,
                     due,
                     period: 0,

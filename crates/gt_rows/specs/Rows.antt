@@ -19,7 +19,7 @@ use Rattle.gt_schedule.specs.Schedule.{plainly, parties_at, marked, unmarked, Is
 use Rattle.gt_schedule.specs.declared.status.Ticket.{Ticket}
 use Rattle.gt_book.specs.declared.answers.TimerOp.{TimerOp}
 use Rattle.gt_book.specs.declared.step.Step.{Step}
-use Rattle.gt_book.specs.Steps.{step_of}
+use Rattle.gt_book.specs.Steps.{set_entry, step_of, step_of_instr}
 use Rattle.gt_book.specs.View.{BookView, Enters, outcome_of, with_schedule}
 use Rattle.gt_rows.specs.declared.answers.SetDone.{SetDone}
 use Rattle.gt_rows.specs.declared.answers.StopDone.{StopDone}
@@ -53,21 +53,14 @@ next_of b g = step_of b.script b.state b.schedule g
 
 -- ---- setting a timer, and falling asleep
 
--- the timer that an instruction sets
-abbrev pub sets : Instr → Option ℕ
-sets (Instr.New t d) = Some t
-sets (Instr.Reset t d) = Some t
-sets (Instr.Say n) = None
-sets Instr.Now = None
-sets (Instr.Sleep d) = None
-sets (Instr.Go f) = None
-sets (Instr.Stop t) = None
-sets (Instr.Recv o) = None
-sets Instr.Finish = None
+-- the timer that a step asks to set
+abbrev pub sets : Step → Option ℕ
+sets (Step.Needs (TimerOp.Set t d anew)) = Some t
+sets _ = None
 
--- a goroutine stands at an instruction that sets this timer
+-- a goroutine stands at an instruction that sets this timer, unless it panics
 abbrev pub SetsAt : BookView → ℕ → ℕ → Type 0
-SetsAt b g t = elim (stands_at b.script b.state g) [ None ↦ ⊥ | Some i ↦ sets i ≡ Some t ]
+SetsAt b g t = elim (stands_at b.script b.state g) [ None ↦ ⊥ | Some i ↦ sets (step_of_instr b.state g i) ≡ Some t ]
 
 -- the heap that has to be told of a due time, where it has the record under a later one
 abbrev pub note_of : Rec → ℕ → ℕ → Option ℕ
@@ -94,12 +87,9 @@ pub record OnlyEnters (old : Parts) (e : Entry) (new : Parts) (reply : SetDone) 
   pub answer : Answers new.book SetDone.Over reply SetDone.Done
 
 abbrev pub SetsBy : Parts → ℕ → Parts → SetDone → Option Step → Type 0
-SetsBy old g new reply (Some (Step.Needs (TimerOp.New t d))) =
+SetsBy old g new reply (Some (Step.Needs (TimerOp.Set t d anew))) =
     let due : ℕ = due_at (clock_of old.book.state g) d
-    in Arms old (Entry.New g t due) due (new_period old.book.script old.book.state g t) new reply
-SetsBy old g new reply (Some (Step.Needs (TimerOp.Reset t d))) =
-    let due : ℕ = due_at (clock_of old.book.state g) d
-    in Arms old (Entry.Reset g t (Some (is_some (shown old.rec))) due) due (new_period old.book.script old.book.state g t) new reply
+    in Arms old (set_entry g t anew (is_some (shown old.rec)) due) due (new_period old.book.script old.book.state g t) new reply
 SetsBy old g new reply (Some (Step.Makes e)) = OnlyEnters old e new reply
 SetsBy old g new reply (Some (Step.Needs (TimerOp.Stop t))) = ⊥
 SetsBy old g new reply (Some (Step.Needs (TimerOp.Enrolled ticket))) = ⊥
@@ -107,7 +97,7 @@ SetsBy old g new reply (Some (Step.Needs (TimerOp.Sleep d))) = ⊥
 SetsBy old g new reply (Some (Step.Waits t)) = ⊥
 SetsBy old g new reply None = ⊥
 
--- `new` or `reset` of g, or its panic
+-- the setting of a timer by g, or its panic
 abbrev pub SetRow : Parts → ℕ → Parts → SetDone → Type 0
 SetRow old g new reply = UnlessOver old.book SetDone.Over reply (new ≡ old) (SetsBy old g new reply (next_of old.book g))
 
@@ -115,14 +105,7 @@ SetRow old g new reply = UnlessOver old.book SetDone.Over reply (new ≡ old) (S
 abbrev pub sleeps : Instr → Bool
 sleeps (Instr.Sleep zero) = false
 sleeps (Instr.Sleep (suc d)) = true
-sleeps (Instr.Say n) = false
-sleeps Instr.Now = false
-sleeps (Instr.Go f) = false
-sleeps (Instr.New t d) = false
-sleeps (Instr.Stop t) = false
-sleeps (Instr.Reset t d) = false
-sleeps (Instr.Recv o) = false
-sleeps Instr.Finish = false
+sleeps _ = false
 
 -- a goroutine stands at a `sleep` of some time, and the record is that of its sleep
 abbrev pub StandsAtSleep : BookView → ℕ → Type 0
@@ -135,8 +118,7 @@ pub record SleepsAt (b : BookView) (g id : ℕ) : Type 0 where
 abbrev pub SleepsBy : Parts → ℕ → Parts → SetDone → Option Step → Type 0
 SleepsBy old g new reply (Some (Step.Needs (TimerOp.Sleep d))) =
     let until : ℕ = due_at (clock_of old.book.state g) d in Arms old (Entry.Sleep g (Some until)) until 0 new reply
-SleepsBy old g new reply (Some (Step.Needs (TimerOp.New t d))) = ⊥
-SleepsBy old g new reply (Some (Step.Needs (TimerOp.Reset t d))) = ⊥
+SleepsBy old g new reply (Some (Step.Needs (TimerOp.Set t d anew))) = ⊥
 SleepsBy old g new reply (Some (Step.Needs (TimerOp.Stop t))) = ⊥
 SleepsBy old g new reply (Some (Step.Needs (TimerOp.Enrolled ticket))) = ⊥
 SleepsBy old g new reply (Some (Step.Makes e)) = ⊥
@@ -151,14 +133,7 @@ SleepRow old g new reply = UnlessOver old.book SetDone.Over reply (new ≡ old) 
 -- the timer that an instruction stops
 abbrev pub stops : Instr → Option ℕ
 stops (Instr.Stop t) = Some t
-stops (Instr.New t d) = None
-stops (Instr.Reset t d) = None
-stops (Instr.Say n) = None
-stops Instr.Now = None
-stops (Instr.Sleep d) = None
-stops (Instr.Go f) = None
-stops (Instr.Recv o) = None
-stops Instr.Finish = None
+stops _ = None
 
 -- a goroutine stands at a `stop` of this timer
 abbrev pub StopsAt : BookView → ℕ → ℕ → Type 0
@@ -173,8 +148,7 @@ pub record Stops (old : Pair) (e : Entry) (r : Rec) (new : Pair) (reply : StopDo
 abbrev pub StopsBy : Pair → ℕ → Pair → StopDone → Option Step → Type 0
 StopsBy old g new reply (Some (Step.Needs (TimerOp.Stop t))) = Stops old (Entry.Stop g t (Some (is_some (shown old.rec)))) (disarmed old.rec) new reply
 StopsBy old g new reply (Some (Step.Makes e)) = Stops old e old.rec new reply
-StopsBy old g new reply (Some (Step.Needs (TimerOp.New t d))) = ⊥
-StopsBy old g new reply (Some (Step.Needs (TimerOp.Reset t d))) = ⊥
+StopsBy old g new reply (Some (Step.Needs (TimerOp.Set t d anew))) = ⊥
 StopsBy old g new reply (Some (Step.Needs (TimerOp.Enrolled ticket))) = ⊥
 StopsBy old g new reply (Some (Step.Needs (TimerOp.Sleep d))) = ⊥
 StopsBy old g new reply (Some (Step.Waits t)) = ⊥

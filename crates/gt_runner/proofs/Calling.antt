@@ -1,5 +1,5 @@
 -- What a whole call of a goroutine in hand does to a run.
-use Rattle.std.proofs.Common.{◌≡◌, ◌≢◌, ℕ, zero, suc, ◌+◌, ◌<◌, ◌≤◌, List, [], ◌∷◌, length, set, slice_get, count_by, refl, sym, ap, subst, ◌∙◌, arith, Option, None, Some, IsNone, MatchOption, Bool, true, false, ◌||◌, is_some, inl, inr}
+use Rattle.std.proofs.Common.{◌≡◌, ◌≢◌, ℕ, zero, suc, ◌+◌, ◌<◌, ◌≤◌, List, [], ◌∷◌, length, set, slice_get, count_by, refl, sym, ap, subst, ◌∙◌, arith, Option, None, Some, IsNone, MatchOption, Bool, true, false, ◌||◌, is_some, inr}
 use Rattle.std.specs.Option.{option_map}
 use Rattle.std.proofs.lemmas.Option.{slice_get_within}
 use Rattle.gt_model.specs.declared.script.Decl.{Decl}
@@ -17,10 +17,13 @@ use Rattle.gt_rules.specs.State.{State, stands_at, until_of, sleeps_until, clock
 use Rattle.gt_rules.specs.Panics.{fault}
 use Rattle.gt_rules.specs.Change.{change_of}
 use Rattle.gt_rules.specs.History.{ClockJumps}
+use Rattle.gt_rules.specs.Legal.{due_at}
+use Rattle.gt_rules.specs.After.{new_period}
+use Rattle.gt_chtimer.proofs.Setting.{names-setting}
 use Rattle.gt_facts.proofs.Lookups.{Standing, standing}
 use Rattle.gt_facts.proofs.Named.{names-instr_at}
 use Rattle.gt_rec.specs.declared.RecKind.{RecKind}
-use Rattle.gt_rec.specs.Rec.{Rec}
+use Rattle.gt_rec.specs.Rec.{Rec, shown}
 use Rattle.gt_rows.specs.Agrees.{kind_by, kind_of_what, of_declaration}
 use Rattle.gt_rows.specs.declared.answers.SetDone.{SetDone}
 use Rattle.gt_rows.specs.Lent.{IsLent, IsKept}
@@ -32,10 +35,11 @@ use Rattle.gt_schedule.specs.Counts.{as_number}
 use Rattle.gt_book.specs.declared.step.Step.{Step}
 use Rattle.gt_book.specs.declared.answers.TimerOp.{TimerOp}
 use Rattle.gt_book.specs.declared.answers.Did.{Did}
-use Rattle.gt_book.specs.Steps.{step_of_instr, step_or_panic, Does, Steps}
+use Rattle.gt_book.specs.Steps.{set_instr, set_entry, step_of_instr, step_or_panic, Does, Steps}
 use Rattle.gt_book.specs.View.{BookView, Enters, IsLawful, Agrees, outcome_of}
 use Rattle.gt_book.proofs.Fitting.{Known, known}
 use Rattle.gt_book.proofs.Going.{IsStep, step-is, in_hand-goes, makes-served}
+use Rattle.gt_book.proofs.Setting.{instr-set}
 use Rattle.gt_book.proofs.Passing.{enters-script, enters-limits}
 use Rattle.gt_runner.specs.declared.runner.Runner.{Runner}
 use Rattle.gt_runner.specs.Calls.{HasRecord, After, Ready, WantsSet}
@@ -68,18 +72,6 @@ stands-awake v g i e = standing-awake v g i e
 
 -- ---- the instruction that asks for a record
 
-asks-new : (s : State) (g : ℕ) (i : Instr) (t d : ℕ) → step_of_instr s g i ≡ Step.Needs (TimerOp.New t d) → i ≡ Instr.New t d
-asks-new s g (Instr.New u c) t d h = (let a : u ≡ t = cc in let b : c ≡ d = cc in ap (λ u. Instr.New u c) a ∙ ap (Instr.New t) b)
-asks-new s g (Instr.Sleep zero) t d h = cc
-asks-new s g (Instr.Sleep (suc c)) t d h = cc
-asks-new s g _ t d h = cc
-
-asks-reset : (s : State) (g : ℕ) (i : Instr) (t d : ℕ) → step_of_instr s g i ≡ Step.Needs (TimerOp.Reset t d) → i ≡ Instr.Reset t d
-asks-reset s g (Instr.Reset u c) t d h = (let a : u ≡ t = cc in let b : c ≡ d = cc in ap (λ u. Instr.Reset u c) a ∙ ap (Instr.Reset t) b)
-asks-reset s g (Instr.Sleep zero) t d h = cc
-asks-reset s g (Instr.Sleep (suc c)) t d h = cc
-asks-reset s g _ t d h = cc
-
 asks-stop : (s : State) (g : ℕ) (i : Instr) (t : ℕ) → step_of_instr s g i ≡ Step.Needs (TimerOp.Stop t) → i ≡ Instr.Stop t
 asks-stop s g (Instr.Stop u) t h = (let a : u ≡ t = cc in ap Instr.Stop a)
 asks-stop s g (Instr.Sleep zero) t h = cc
@@ -103,17 +95,11 @@ no-panic : (s : State) (g : ℕ) (i : Instr) (o : Option Reason) (step : Step) (
 no-panic s g i None step P h panics calm = calm h
 no-panic s g i (Some reason) step P h panics calm = panics (Entry.Panic (plainly g) reason) h
 
-pub stands-new : (v : BookView) (g t d : ℕ) → next_of v g ≡ Some (Step.Needs (TimerOp.New t d)) → stands_at v.script v.state g ≡ Some (Instr.New t d)
-stands-new v g t d e =
-    let st : IsStep v.script v.state g (Step.Needs (TimerOp.New t d)) = step-is v.script v.state v.schedule g (Step.Needs (TimerOp.New t d)) e in
-    no-panic v.state g st.instr (fault v.script v.state st.instr) (Step.Needs (TimerOp.New t d)) (stands_at v.script v.state g ≡ Some (Instr.New t d)) st.is (λ x h. cc)
-    (λ h. st.stands ∙ ap Some (asks-new v.state g st.instr t d h))
-
-pub stands-reset : (v : BookView) (g t d : ℕ) → next_of v g ≡ Some (Step.Needs (TimerOp.Reset t d)) → stands_at v.script v.state g ≡ Some (Instr.Reset t d)
-stands-reset v g t d e =
-    let st : IsStep v.script v.state g (Step.Needs (TimerOp.Reset t d)) = step-is v.script v.state v.schedule g (Step.Needs (TimerOp.Reset t d)) e in
-    no-panic v.state g st.instr (fault v.script v.state st.instr) (Step.Needs (TimerOp.Reset t d)) (stands_at v.script v.state g ≡ Some (Instr.Reset t d)) st.is (λ x h. cc)
-    (λ h. st.stands ∙ ap Some (asks-reset v.state g st.instr t d h))
+pub stands-set : (v : BookView) (g t d : ℕ) (anew : Bool) → next_of v g ≡ Some (Step.Needs (TimerOp.Set t d anew)) → stands_at v.script v.state g ≡ Some (set_instr t d anew)
+stands-set v g t d anew e =
+    let st : IsStep v.script v.state g (Step.Needs (TimerOp.Set t d anew)) = step-is v.script v.state v.schedule g (Step.Needs (TimerOp.Set t d anew)) e in
+    no-panic v.state g st.instr (fault v.script v.state st.instr) (Step.Needs (TimerOp.Set t d anew)) (stands_at v.script v.state g ≡ Some (set_instr t d anew)) st.is (λ x h. cc)
+    (λ h. st.stands ∙ ap Some (instr-set v.state g t d anew st.instr h))
 
 pub stands-stop : (v : BookView) (g t : ℕ) → next_of v g ≡ Some (Step.Needs (TimerOp.Stop t)) → stands_at v.script v.state g ≡ Some (Instr.Stop t)
 stands-stop v g t e =
@@ -317,19 +303,28 @@ names-standing v g i lawful e =
 
 pub wants-setting : (v : BookView) (g t : ℕ) → IsLawful v → WantsSet v g t → is_setting v.script t ≡ true
 wants-setting v g t lawful w =
-    elim w.wants [
-      | inl e ↦ (names-standing v g (Instr.New t w.d) lawful (stands-new v g t w.d e)).0
-      | inr e ↦ (names-standing v g (Instr.Reset t w.d) lawful (stands-reset v g t w.d e)).0
-    ]
+    names-setting v.script t w.d w.anew (names-standing v g (set_instr t w.d w.anew) lawful (stands-set v g t w.d w.anew w.wants))
 
 pub wants-sets : (v : BookView) (g t : ℕ) → WantsSet v g t → SetsAt v g t
 wants-sets v g t w =
-    elim w.wants [
-      | inl e ↦ subst (λ o. elim o as (λ _. Type 0) [ None ↦ ⊥ | Some i ↦ sets i ≡ Some t ]) (sym (stands-new v g t w.d e)) refl
-      | inr e ↦ subst (λ o. elim o as (λ _. Type 0) [ None ↦ ⊥ | Some i ↦ sets i ≡ Some t ]) (sym (stands-reset v g t w.d e)) refl
-    ]
+    let st : IsStep v.script v.state g (Step.Needs (TimerOp.Set t w.d w.anew)) = step-is v.script v.state v.schedule g (Step.Needs (TimerOp.Set t w.d w.anew)) w.wants in
+    no-panic v.state g st.instr (fault v.script v.state st.instr) (Step.Needs (TimerOp.Set t w.d w.anew)) (SetsAt v g t) st.is (λ x h. cc)
+    (λ h. subst (λ o. elim o as (λ _. Type 0) [ None ↦ ⊥ | Some i ↦ sets (step_of_instr v.state g i) ≡ Some t ]) (sym st.stands) (ap sets h))
 
--- ---- new, and reset
+-- ---- setting a timer
+
+-- the entry of a setting touches no other record and moves no clock, and its goroutine may make it
+set-leaves : (v : BookView) (g t due : ℕ) (anew was : Bool) (j : ℕ) → sleeps_until v.state g ≡ None → j ≢ t → Leaves v (change_of (set_entry g t anew was due)) j
+set-leaves v g t due true was j awake n = record { timer = λ e. n (sym e); mover = inr (awake, refl) }
+set-leaves v g t due false was j awake n = record { timer = λ e. n (sym e); mover = inr (awake, refl) }
+
+set-served : (v : BookView) (g t due : ℕ) (anew was : Bool) → status_of v.schedule g ≡ Some RunStatus.InHand → ServedBy v.schedule (change_of (set_entry g t anew was due)).mover
+set-served v g t due true was in_hand = in_hand-goes (status_of v.schedule g) in_hand
+set-served v g t due false was in_hand = in_hand-goes (status_of v.schedule g) in_hand
+
+set-no_clock : (v : BookView) (g t due : ℕ) (anew was : Bool) → ClockJumps v.script 0 v.state (set_entry g t anew was due)
+set-no_clock v g t due true was = tt
+set-no_clock v g t due false was = tt
 
 pub running-row : {Done : Type 0} (b : BookView) (over : Outcome → Done) (done : Done) (Same Row : Type 0) → outcome_of b ≡ None → UnlessOver b over done Same Row → Row
 running-row b over done Same Row none h = subst (λ (o : Option Outcome). MatchOption o Row (λ outcome. (done ≡ over outcome) × Same)) none h
@@ -340,42 +335,25 @@ pub after-set : (x x' : Runner) (g t : ℕ) (r r' : Rec) (done : SetDone) → Re
 after-set x x' g t r r' done ready wants h there records_are spare noted_is row kept =
     let own = record-is x t r h there in
     let awake = in_hand-awake x.book g ready.lawful ready.alone.in_hand in
-    let goes = in_hand-goes (status_of x.book.schedule g) ready.alone.in_hand in
     let old : Parts = record { heap = x.heap; rec = r; book = x.book } in
     let new : Parts = record { heap = x'.heap; rec = r'; book = x'.book } in
     let by : SetsBy old g new done (next_of x.book g) = running-row x.book SetDone.Over done (new ≡ old) (SetsBy old g new done (next_of x.book g)) ready.running row in
-    elim wants.wants [
-      | inl e ↦
-          let arms = subst (SetsBy old g new done) e by in
-          after-armed x x' g t r r' _ _ _ done ready (record {
-            there = there;
-            id_is = own.1;
-            watched = own.2;
-            records_are = records_are;
-            spare = spare;
-            noted_is = noted_is;
-            arms = arms;
-            kept = kept;
-            leaves = λ j n. record { timer = λ e. n (sym e); mover = inr (awake, refl) };
-            served = goes;
-            clock = tt;
-          })
-      | inr e ↦
-          let arms = subst (SetsBy old g new done) e by in
-          after-armed x x' g t r r' _ _ _ done ready (record {
-            there = there;
-            id_is = own.1;
-            watched = own.2;
-            records_are = records_are;
-            spare = spare;
-            noted_is = noted_is;
-            arms = arms;
-            kept = kept;
-            leaves = λ j n. record { timer = λ e. n (sym e); mover = inr (awake, refl) };
-            served = goes;
-            clock = tt;
-          })
-    ]
+    let arms = subst (SetsBy old g new done) wants.wants by in
+    let was : Bool = is_some (shown r) in
+    let due : ℕ = due_at (clock_of x.book.state g) wants.d in
+    after-armed x x' g t r r' (set_entry g t wants.anew was due) due (new_period x.book.script x.book.state g t) done ready (record {
+      there = there;
+      id_is = own.1;
+      watched = own.2;
+      records_are = records_are;
+      spare = spare;
+      noted_is = noted_is;
+      arms = arms;
+      kept = kept;
+      leaves = λ j n. set-leaves x.book g t due wants.anew was j awake n;
+      served = set-served x.book g t due wants.anew was ready.alone.in_hand;
+      clock = set-no_clock x.book g t due wants.anew was;
+    })
 
 -- a step that asks for no record
 does-after : (x x' : Runner) (g : ℕ) (step : Step) (did : Did) → Ready x g → next_of x.book g ≡ Some step → Does x.book g step x'.book did → ((w : TimerOp) → did ≡ Did.Timer w → ⊥)

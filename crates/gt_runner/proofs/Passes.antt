@@ -1,5 +1,5 @@
 -- One call of a goroutine, and what happens where nobody runs, keep a run.
-use Rattle.std.proofs.Common.{◌≡◌, ℕ, zero, suc, ◌+◌, ◌<◌, [], ◌∷◌, ◌++◌, refl, sym, subst, arith, Option, None, Some, MatchOption, Bool, false, length, length-append, inl, inr}
+use Rattle.std.proofs.Common.{◌≡◌, ℕ, zero, suc, ◌+◌, ◌<◌, [], ◌∷◌, ◌++◌, refl, sym, subst, arith, Option, None, Some, MatchOption, Bool, false, length, length-append, inl, inr, true}
 use Rattle.gt_model.specs.declared.entry.Entry.{Entry}
 use Rattle.gt_model.specs.declared.entry.Outcome.{Outcome}
 use Rattle.gt_rules.specs.After.{first_state}
@@ -102,7 +102,8 @@ steps-goes old g new did lawful alone none h other =
 
 -- no operation moves a clock
 op-no_clock : (script : Script) (s : State) (op : Op) → ClockJumps script 0 s (entry_of s op)
-op-no_clock script s (Op.New g t due period) = tt
+op-no_clock script s (Op.Set g t true was due period) = tt
+op-no_clock script s (Op.Set g t false was due period) = tt
 op-no_clock script s _ = tt
 
 commits-enters : (old : BookView) (op : Op) (new : BookView) (did : Commit) → is_gone old op ≡ false → Commits old op (is_gone old op) new did → Enters old (entry_of old.state op) new

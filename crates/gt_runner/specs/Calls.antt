@@ -1,5 +1,5 @@
 -- What a whole call of a goroutine in hand needs, and what it leaves.
-use Rattle.std.specs.Prelude.{ℕ, ◌≡◌, ◌⊎◌, [], length, slice_get}
+use Rattle.std.specs.Prelude.{ℕ, ◌≡◌, ◌⊎◌, Bool, [], length, slice_get}
 use Rattle.std.specs.declared.option.Option.{Option}
 use Rattle.std.specs.declared.option.Option.TheVariants.{None, Some}
 use Rattle.gt_model.specs.declared.script.Instr.{Instr}
@@ -37,10 +37,11 @@ pub record Ready (x : Runner) (g : ℕ) : Type 0 where
   pub alone : IsAlone x.book g
   pub running : outcome_of x.book ≡ None
 
--- what g wants of timer t's record
+-- g wants to set timer t
 pub record WantsSet (b : BookView) (g t : ℕ) : Type 0 where
   pub d : ℕ
-  pub wants : (next_of b g ≡ Some (Step.Needs (TimerOp.New t d))) ⊎ (next_of b g ≡ Some (Step.Needs (TimerOp.Reset t d)))
+  pub anew : Bool
+  pub wants : next_of b g ≡ Some (Step.Needs (TimerOp.Set t d anew))
 
 -- a run in which g was parked at a receive from t, and is not counted there yet
 pub record IsEnrolled (x : Runner) (ticket : Ticket) (t : ℕ) : Type 0 where

@@ -65,14 +65,7 @@ noted_at noted r = noted_with noted (early_due r)
 -- the timers at whose receive an instruction waits
 abbrev pub timers_of : Instr → List ℕ
 timers_of (Instr.Recv o) = o ∷ []
-timers_of (Instr.Say n) = []
-timers_of Instr.Now = []
-timers_of (Instr.Sleep d) = []
-timers_of (Instr.Go f) = []
-timers_of (Instr.New t d) = []
-timers_of (Instr.Stop t) = []
-timers_of (Instr.Reset t d) = []
-timers_of Instr.Finish = []
+timers_of _ = []
 
 abbrev pub awaited_by : Script → State → ℕ → List ℕ
 awaited_by script s g = elim (stands_at script s g) [ None ↦ [] | Some i ↦ timers_of i ]

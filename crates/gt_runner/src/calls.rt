@@ -29,7 +29,7 @@ fn noted_at(noted: Option<u64>, rec: &TimerRec) -> Option<u64>
     }
 }
 
-/// Makes or resets timer `t`.
+/// Sets timer `t`.
 fn set(run: &mut Runner, g: u32, t: u32)
     requires ready { Ready run.old g }
     requires wants { WantsSet run.old.book g t }
@@ -122,7 +122,7 @@ pub fn call(run: &mut Runner, g: u32)
     };
     run.book.lawful();
     match wanted {
-        TimerOp::New { t, .. } | TimerOp::Reset { t, .. } => set(run, g, t),
+        TimerOp::Set { t, .. } => set(run, g, t),
         TimerOp::Stop(t) => stop(run, g, t),
         TimerOp::Sleep(_) => sleep(run, g),
         TimerOp::Enrolled(ticket) => wait(run, ticket),

@@ -1,5 +1,5 @@
 use Rattle.gt_rules.specs.State.{stands_at}
-use Rattle.std.proofs.Common.{ℕ, Option, ◌≡◌, ◌⊎◌, refl, sym, ap, subst, ◌∙◌, Some, inl, inr}
+use Rattle.std.proofs.Common.{ℕ, Option, ◌≡◌, refl, sym, ap, subst, ◌∙◌, Some}
 use Rattle.gt_model.specs.declared.script.Instr.{Instr}
 use Rattle.gt_book.specs.declared.answers.TimerOp.{TimerOp}
 use Rattle.gt_book.specs.declared.step.Step.{Step}
@@ -9,8 +9,7 @@ use Rattle.gt_book.specs.declared.answers.Did.{Did}
 use Rattle.gt_book.proofs.Setting.{NeedsOnly, ParksUnder, steps-timer, steps-enrolled, is_enrolled}
 use Rattle.gt_rows.specs.Rows.{next_of}
 use Rattle.gt_schedule.specs.declared.status.Ticket.{Ticket}
-use Rattle.gt_runner.specs.declared.runner.Runner.{Runner}
-use Rattle.gt_runner.specs.Calls.{Ready, WantsSet, IsEnrolled, Enrols}
+use Rattle.gt_runner.specs.Calls.{WantsSet, IsEnrolled, Enrols}
 use Rattle.gt_runner.proofs.Growing.{ready-same, after-same}
 use Rattle.gt_runner.proofs.Calling.{steps-after, stands-recv}
 use Rattle.gt_runner.proofs.Waiting.{parked-enrolled, after-enrols}
@@ -55,27 +54,20 @@ wait-requires c =
       );
     }
 
--- what the two ways to set a timer have in common
-new-needs : (x : Runner) (g : ℕ) (new : BookView) (w : TimerOp) (t : ℕ) → Ready x g → ((d : ℕ) × (w ≡ TimerOp.New t d)) ⊎ ((d : ℕ) × (w ≡ TimerOp.Reset t d))
-    → Steps x.book g new (Did.Timer w) → NeedsOnly x.book g w new
-new-needs x g new w t ready (inl is) steps = steps-timer x.book g new w ready.running (ap is_enrolled is.1) steps
-new-needs x g new w t ready (inr is) steps = steps-timer x.book g new w ready.running (ap is_enrolled is.1) steps
-
-new-wants : (b : BookView) (g : ℕ) (w : TimerOp) (t : ℕ) → ((d : ℕ) × (w ≡ TimerOp.New t d)) ⊎ ((d : ℕ) × (w ≡ TimerOp.Reset t d)) → next_of b g ≡ Some (Step.Needs w) → WantsSet b g t
-new-wants b g w t (inl is) next = record { d = is.0; wants = inl (next ∙ ap (λ w. Some (Step.Needs w)) is.1) }
-new-wants b g w t (inr is) next = record { d = is.0; wants = inr (next ∙ ap (λ w. Some (Step.Needs w)) is.1) }
-
 pub set-requires-clause-ready : goal.set-requires-clause-ready
 set-requires-clause-ready c =
     let x = c.args.run.now in
-    let needs = new-needs x c.args.g c.step_plain.new.self c.in-Timer.wanted c.in-New.t c.requires.ready c.in-New.is c.in-Timer.ensures in
+    let needs : NeedsOnly x.book c.args.g c.in-Timer.wanted c.step_plain.new.self =
+    steps-timer x.book c.args.g c.step_plain.new.self c.in-Timer.wanted c.requires.ready.running (ap is_enrolled c.in-Set.is) c.in-Timer.ensures in
     ready-same x c.step_plain.new.self c.args.g needs.same c.requires.ready
 
 pub set-requires-clause-wants : goal.set-requires-clause-wants
 set-requires-clause-wants c =
     let x = c.args.run.now in
-    let needs = new-needs x c.args.g c.step_plain.new.self c.in-Timer.wanted c.in-New.t c.requires.ready c.in-New.is c.in-Timer.ensures in
-    subst (λ b. WantsSet b c.args.g c.in-New.t) (sym needs.same) (new-wants x.book c.args.g c.in-Timer.wanted c.in-New.t c.in-New.is needs.needs)
+    let needs : NeedsOnly x.book c.args.g c.in-Timer.wanted c.step_plain.new.self =
+    steps-timer x.book c.args.g c.step_plain.new.self c.in-Timer.wanted c.requires.ready.running (ap is_enrolled c.in-Set.is) c.in-Timer.ensures in
+    subst (λ b. WantsSet b c.args.g c.in-Set.t) (sym needs.same)
+    (record { d = c.in-Set.d; anew = c.in-Set.anew; wants = needs.needs ∙ ap (λ op. Some (Step.Needs op)) c.in-Set.is })
 
 pub sleep-requires-clause-wants : goal.sleep-requires-clause-wants
 sleep-requires-clause-wants c =
@@ -98,10 +90,11 @@ returns-in-Sleep c =
     steps-timer x.book c.args.g c.step_plain.new.self c.in-Timer.wanted c.requires.ready.running (ap is_enrolled c.in-Sleep.is) c.in-Timer.ensures in
     after-same x (record x { book = c.step_plain.new.self }) c.sleep.new.run c.args.g needs.same c.sleep.ensures
 
-pub returns-in-New : goal.returns-in-New
-returns-in-New c =
+pub returns-in-Set : goal.returns-in-Set
+returns-in-Set c =
     let x = c.args.run.now in
-    let needs = new-needs x c.args.g c.step_plain.new.self c.in-Timer.wanted c.in-New.t c.requires.ready c.in-New.is c.in-Timer.ensures in
+    let needs : NeedsOnly x.book c.args.g c.in-Timer.wanted c.step_plain.new.self =
+    steps-timer x.book c.args.g c.step_plain.new.self c.in-Timer.wanted c.requires.ready.running (ap is_enrolled c.in-Set.is) c.in-Timer.ensures in
     after-same x (record x { book = c.step_plain.new.self }) c.set.new.run c.args.g needs.same c.set.ensures
 
 same-recv : (o : Option Instr) (t u : ℕ) → o ≡ Some (Instr.Recv t) → o ≡ Some (Instr.Recv u) → t ≡ u
