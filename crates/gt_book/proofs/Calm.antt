@@ -86,6 +86,8 @@ calm-unmade (Some r) h = refl
 
 calm-instr : (script : Script) (s next : State) (i : Instr) → StayMade s next → (is_some (fault script s i) || goes_on i) ≡ false → (is_some (fault script next i) || goes_on i) ≡ false
 calm-instr script s next (Instr.Recv o) made h = unmade-calm (timer_at next o) (made o (calm-unmade (timer_at s o) h))
+calm-instr script s next (Instr.LoopTop depth count past) made h = refl
+calm-instr script s next (Instr.LoopEnd depth top) made h = refl
 calm-instr script s next i made h = absurd (or-true (is_some (fault script s i)) h)
 
 calm-placed : (script : Script) (s next : State) (o : Option Instr) → StayMade s next

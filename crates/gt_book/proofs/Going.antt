@@ -2,6 +2,7 @@
 use Rattle.std.proofs.Common.{◌≡◌, ℕ, ◌+◌, ◌<◌, List, [], ◌∷◌, refl, sym, ap, subst, ◌∙◌, arith, Option, None, Some, IfSome, IfNone, length, is_some, is_none, IsSome, slice_get, Bool, true, false, ◌||◌, IsTrue, zero, suc}
 use Rattle.gt_model.specs.declared.script.Script.{Script}
 use Rattle.gt_model.specs.declared.script.Instr.{Instr}
+use Rattle.gt_model.specs.declared.script.Place.{Place}
 use Rattle.gt_model.specs.declared.entry.Entry.{Entry}
 use Rattle.gt_model.specs.declared.entry.Outcome.{Outcome}
 use Rattle.gt_model.specs.declared.entry.Reason.{Reason}
@@ -14,6 +15,7 @@ use Rattle.gt_rules.specs.Legal.{May, Does}
 use Rattle.gt_rules.specs.Finish.{IsIdle}
 use Rattle.gt_rules.specs.Counted.{counted}
 use Rattle.gt_model.specs.Good.{IsGood, NamesRightly}
+use Rattle.gt_rules.specs.Places.{silent}
 use Rattle.gt_facts.specs.Formed.{IsFormed, IsPlacedIn}
 use Rattle.gt_facts.proofs.Formed.{formed-finish}
 use Rattle.gt_facts.proofs.Named.{names-Does}
@@ -109,23 +111,44 @@ placed-some (x ∷ xs) (suc i) h = placed-some xs i (omega arith)
 
 -- who is in hand stands at its instruction
 agrees-stands : (script : Script) (s : State) (r : Goroutine) (mode : Mode) → r.mode ≡ mode → Agrees mode RunStatus.InHand
-    → IsPlacedIn (length (code_of script r.place.func)) r.place.at mode → (i : Instr) × (stands script r ≡ Some i)
+    → IsPlacedIn (code_of script r.place.func) r.place mode → (i : Instr) × (stands script r ≡ Some i) × (silent r.place i ≡ None)
 agrees-stands script s r Mode.At is h placed =
-    let found : (i : Instr) × (instr_at script r.place ≡ Some i) = placed-some (code_of script r.place.func) r.place.at placed in
-    (found.0, ap (λ (mode : Mode). elim mode [ Mode.At ↦ instr_at script r.place | _ ↦ None ]) is ∙ found.1)
+    let found : (i : Instr) × (instr_at script r.place ≡ Some i) = placed-some (code_of script r.place.func) r.place.at placed.0.within in
+    (found.0, ap (λ (mode : Mode). elim mode [ Mode.At ↦ instr_at script r.place | _ ↦ None ]) is ∙ found.1,
+    sym (ap (λ (o : Option Instr). elim o as (λ o. Option Place) [ None ↦ None | Some i ↦ silent r.place i ]) found.1) ∙ placed.1)
 agrees-stands script s r (Mode.Sleeping until) is h placed = absurd h
 agrees-stands script s r Mode.Ended is h placed = absurd h
 
-pub in_hand-stands : (v : BookView) (g : ℕ) → IsLawful v → status_of v.schedule g ≡ Some RunStatus.InHand → (i : Instr) × (stands_at v.script v.state g ≡ Some i)
+pub in_hand-stands : (v : BookView) (g : ℕ) → IsLawful v → status_of v.schedule g ≡ Some RunStatus.InHand → (i : Instr) × (stands_at v.script v.state g ≡ Some i) × (p : Place) × (silent p i ≡ None)
 in_hand-stands v g lawful e =
     let k : Known v.script v.state v.schedule g RunStatus.InHand = known v.script v.state v.schedule g RunStatus.InHand lawful.fits e in
     let found = agrees-stands v.script v.state k.who k.who.mode refl k.agrees (lawful.formed.placed g k.who k.there) in
-    (found.0, ap (λ (o : Option Goroutine). elim o [ None ↦ None | Some r ↦ stands v.script r ]) k.there ∙ found.1)
+    (found.0, ap (λ (o : Option Goroutine). elim o [ None ↦ None | Some r ↦ stands v.script r ]) k.there ∙ found.1, k.who.place, found.2)
 
 pub in_hand-steps : (v : BookView) (g : ℕ) → IsLawful v → status_of v.schedule g ≡ Some RunStatus.InHand → IsSome (step_of v.script v.state v.schedule g)
 in_hand-steps v g lawful e =
     let found = in_hand-stands v g lawful e in
     ap (λ (o : Option Instr). is_some (elim o [ None ↦ None | Some i ↦ Some (step_or_panic v.state g i (fault v.script v.state i)) ])) found.1
+
+-- nobody stands at the bounds of a loop
+never-nowhere : (s : State) (g : ℕ) (p : Place) (i : Instr) (o : Option Reason) → silent p i ≡ None → step_or_panic s g i o ≡ Step.Nowhere → ⊥
+never-nowhere s g p i (Some reason) acts h = cc
+never-nowhere s g p (Instr.LoopTop depth count past) None acts h = cc
+never-nowhere s g p (Instr.LoopEnd depth top) None acts h = cc
+never-nowhere s g p (Instr.Sleep zero) None acts h = cc
+never-nowhere s g p (Instr.Sleep (suc d)) None acts h = cc
+never-nowhere s g p i None acts h = cc
+
+pub in_hand-acts : (v : BookView) (g : ℕ) → IsLawful v → status_of v.schedule g ≡ Some RunStatus.InHand → step_of v.script v.state v.schedule g ≡ Some Step.Nowhere → ⊥
+in_hand-acts v g lawful e h =
+    let found = in_hand-stands v g lawful e in
+    let is : step_of v.script v.state v.schedule g ≡ Some (step_or_panic v.state g found.0 (fault v.script v.state found.0)) =
+    ap (λ (o : Option Instr). elim o as (λ o. Option Step) [ None ↦ None | Some i ↦ Some (step_or_panic v.state g i (fault v.script v.state i)) ]) found.1 in
+    let both : Some (step_or_panic v.state g found.0 (fault v.script v.state found.0)) ≡ Some Step.Nowhere = sym is ∙ h in
+    never-nowhere v.state g found.2 found.0 (fault v.script v.state found.0) found.3 (some-same _ _ both)
+  where
+    some-same : (x y : Step) → Some x ≡ Some y → x ≡ y
+    some-same x y e = cc
 
 -- whether g panics, by its instruction
 panic-fault : (script : Script) (s : State) (g : ℕ) (i : Instr) → stands_at script s g ≡ Some i → panic_at script s g ≡ fault_at script s i

@@ -44,6 +44,7 @@ does-timer old g (Step.Needs wanted) new op is other h =
     let answer : Did.Timer op ≡ Did.Timer wanted = h.1 in
     let same : op ≡ wanted = cc in
     record { needs = is ∙ ap (λ w. Some (Step.Needs w)) (sym same); same = h.0 }
+does-timer old g Step.Nowhere new op is other h = absurd h
 
 pub steps-timer : (old : BookView) (g : ℕ) (new : BookView) (op : TimerOp) → outcome_of old ≡ None → is_enrolled op ≡ false → Steps old g new (Did.Timer op) → NeedsOnly old g op new
 steps-timer old g new op none other h =
@@ -105,6 +106,7 @@ does-enrolled old g (Step.Needs wanted) new ticket is h =
     let answer : Did.Timer (TimerOp.Enrolled ticket) ≡ Did.Timer wanted = h.1 in
     let same : wanted ≡ TimerOp.Enrolled ticket = cc in
     absurd (true-false (is_enrolled wanted) (ap is_enrolled same) (needs-not_enrolled old g wanted is))
+does-enrolled old g Step.Nowhere new ticket is h = absurd h
 
 pub steps-enrolled : (old : BookView) (g : ℕ) (new : BookView) (ticket : Ticket) → outcome_of old ≡ None → Steps old g new (Did.Timer (TimerOp.Enrolled ticket)) → ParksUnder old g ticket new
 steps-enrolled old g new ticket none h =

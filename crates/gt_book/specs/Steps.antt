@@ -31,6 +31,8 @@ step_of_instr s g (Instr.New t d) = Step.Needs (TimerOp.Set t d false)
 step_of_instr s g (Instr.Stop t) = Step.Needs (TimerOp.Stop t)
 step_of_instr s g (Instr.Reset t d) = Step.Needs (TimerOp.Set t d true)
 step_of_instr s g (Instr.Recv o) = Step.Waits o
+step_of_instr s g (Instr.LoopTop depth count past) = Step.Nowhere
+step_of_instr s g (Instr.LoopEnd depth top) = Step.Nowhere
 step_of_instr s g Instr.Finish = Step.Makes (Entry.End g)
 
 abbrev pub step_or_panic : State → ℕ → Instr → Option Reason → Step
@@ -51,6 +53,7 @@ Does old g (Step.Makes e) new did = Enters old e new × DidEnter new did
 Does old g (Step.Waits t) new did =
     (new ≡ with_schedule old (parked_at old.schedule (plainly g) t)) × (did ≡ Did.Timer (TimerOp.Enrolled (ticket_of old.schedule g)))
 Does old g (Step.Needs op) new did = (new ≡ old) × (did ≡ Did.Timer op)
+Does old g Step.Nowhere new did = ⊥
 
 -- where the run has its outcome nothing changes
 abbrev pub Steps : BookView → ℕ → BookView → Did → Type 0

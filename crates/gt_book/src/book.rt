@@ -232,6 +232,7 @@ impl Book {
                 Did::Timer(TimerOp::Enrolled(ticket))
             }
             Step::Needs(op) => Did::Timer(op),
+            Step::Nowhere => unreachable!(),
         }
     }
 

@@ -21,6 +21,8 @@ pub enum Step {
     Waits(u32),
     /// Its instruction needs a timer's record.
     Needs(TimerOp),
+    /// It is at the bounds of a loop, where nobody stands.
+    Nowhere,
 }
 
 /// What an instruction without misuse is for goroutine `g`.
@@ -46,6 +48,7 @@ fn step_of_instr(machine: &Machine, g: u32, instr: &Instr) -> Step
         Instr::Reset { t, d } => Step::Needs(TimerOp::Set { t, d, anew: true }),
         Instr::Stop { t } => Step::Needs(TimerOp::Stop(t)),
         Instr::Recv { o } => Step::Waits(o),
+        Instr::LoopTop { .. } | Instr::LoopEnd { .. } => Step::Nowhere,
         Instr::Finish => Step::Makes(Entry::End { g }),
     }
 }
