@@ -95,6 +95,7 @@ SetsBy old g new reply (Some (Step.Needs (TimerOp.Stop t))) = ⊥
 SetsBy old g new reply (Some (Step.Needs (TimerOp.Enrolled ticket))) = ⊥
 SetsBy old g new reply (Some (Step.Needs (TimerOp.Sleep d))) = ⊥
 SetsBy old g new reply (Some (Step.Waits t)) = ⊥
+SetsBy old g new reply (Some Step.Nowhere) = ⊥
 SetsBy old g new reply None = ⊥
 
 -- the setting of a timer by g, or its panic
@@ -123,6 +124,7 @@ SleepsBy old g new reply (Some (Step.Needs (TimerOp.Stop t))) = ⊥
 SleepsBy old g new reply (Some (Step.Needs (TimerOp.Enrolled ticket))) = ⊥
 SleepsBy old g new reply (Some (Step.Makes e)) = ⊥
 SleepsBy old g new reply (Some (Step.Waits t)) = ⊥
+SleepsBy old g new reply (Some Step.Nowhere) = ⊥
 SleepsBy old g new reply None = ⊥
 
 abbrev pub SleepRow : Parts → ℕ → Parts → SetDone → Type 0
@@ -152,6 +154,7 @@ StopsBy old g new reply (Some (Step.Needs (TimerOp.Set t d anew))) = ⊥
 StopsBy old g new reply (Some (Step.Needs (TimerOp.Enrolled ticket))) = ⊥
 StopsBy old g new reply (Some (Step.Needs (TimerOp.Sleep d))) = ⊥
 StopsBy old g new reply (Some (Step.Waits t)) = ⊥
+StopsBy old g new reply (Some Step.Nowhere) = ⊥
 StopsBy old g new reply None = ⊥
 
 -- `stop` of g, or its panic

@@ -361,6 +361,7 @@ does-after : (x x' : Runner) (g : ℕ) (step : Step) (did : Did) → Ready x g �
 does-after x x' g (Step.Makes e) did ready next does other records_are heap_is noted_is = after-makes x x' g e ready next does.0 records_are heap_is noted_is
 does-after x x' g (Step.Waits t) did ready next does other records_are heap_is noted_is = absurd (other (TimerOp.Enrolled (ticket_of x.book.schedule g)) does.1)
 does-after x x' g (Step.Needs op) did ready next does other records_are heap_is noted_is = absurd (other op does.1)
+does-after x x' g Step.Nowhere did ready next does other records_are heap_is noted_is = absurd does
 
 pub steps-after : (x x' : Runner) (g : ℕ) (did : Did) → Ready x g → Steps x.book g x'.book did → ((w : TimerOp) → did ≡ Did.Timer w → ⊥)
     → x'.records ≡ x.records → x'.heap ≡ x.heap → x'.noted ≡ x.noted → After x x' g

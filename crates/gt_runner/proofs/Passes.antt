@@ -89,6 +89,7 @@ does-goes : (old : BookView) (g : ℕ) (step : Step) (new : BookView) (did : Did
 does-goes old g (Step.Makes e) new did lawful alone is h other = goes-enters old e new g lawful h.0 (makes-no_clock old g e is) alone
 does-goes old g (Step.Waits t) new did lawful alone is h other = goes-waits old new g t h.0 alone
 does-goes old g (Step.Needs op) new did lawful alone is h other = absurd (other op h.1)
+does-goes old g Step.Nowhere new did lawful alone is h other = absurd h
 
 pub steps-goes : (old : BookView) (g : ℕ) (new : BookView) (did : Did) → IsLawful old → IsAlone old g → outcome_of old ≡ None → Steps old g new did
     → ((x : TimerOp) → did ≡ Did.Timer x → ⊥) → Goes g old new
