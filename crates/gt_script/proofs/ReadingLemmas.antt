@@ -28,13 +28,13 @@ use Rattle.gt_grammar.specs.Progress.{Progress}
 use Rattle.gt_grammar.specs.declared.statement.Statement.{Statement}
 use Rattle.gt_grammar.specs.Statements.{Command, command_of, statement_of, value_of, step_with, is_head}
 use Rattle.gt_grammar.specs.Deeds.{Deed, declares, opens, does, loops, closes, deed_of, deed_with, deeds_of, decl_of, func_of, decls_in, span, code_from, code_in, funcs_in, func_place, script_of, script_with}
-use Rattle.gt_grammar.specs.Faults.{role_of, stands, are_none_open, inside_after, ends_wrongly, nests_wrongly, holding, ended_in, loop_ended, count_of, progress_with, progress_after, cause_at, fault_or, fault_from, fault_in_lines, head_cause, no_progress}
+use Rattle.gt_grammar.specs.Faults.{causes, first_cause, role_of, stands, are_none_open, inside_after, ends_wrongly, nests_wrongly, holding, ended_in, loop_ended, count_of, progress_with, progress_after, cause_at, fault_or, fault_from, fault_in_lines, head_cause, no_progress}
 use Rattle.gt_grammar.proofs.Fits.{FitsRole}
 use Rattle.gt_grammar.proofs.Rightly.{kind_in, Starts}
-use Rattle.gt_grammar.proofs.RightLines.{IsRight, Doing, doing}
+use Rattle.gt_grammar.proofs.RightLines.{IsRight, is_right, Doing, doing}
 use Rattle.gt_script.specs.Unread.{fault_of, IfRefused}
 use Rattle.gt_script.specs.declared.unread.Unread.{Unread}
-use Rattle.gt_script.specs.Reading.{only_word, Built, leading, closed, built_after, led, past_ends, code_left, script_by, Goes, AllWithin, Agrees}
+use Rattle.gt_script.specs.Reading.{only_word, Built, Reader, leading, closed, built_after, led, past_ends, code_left, script_by, Goes, AllWithin, Agrees}
 
 -- ---- tops lead past their loops
 
@@ -278,6 +278,11 @@ pub passed : (names : Names) (p : Progress) (line : NumberedLine) (c : Command) 
 passed names p line c s h e =
     ap (λ (t : Statement). progress_with p (role_of t) (unwrap_or t.first 0)) e ∙ count-is names p c.keyword c.first
     ∙ sym (ap (λ (o : Option Command). elim o [ None ↦ p | Some d ↦ progress_with p (form_of d.keyword).role (count_of d.first) ]) h)
+
+-- where a cause is looked for and none is found, the statement is right
+pub right-at : (r r' : Reader) (is_last lacks_main : Bool) (s : Statement) → r ≡ r' → None ≡ first_cause (causes is_last lacks_main r.progress s) → IsRight is_last lacks_main r'.progress s
+right-at r r' is_last lacks_main s same none =
+    is_right is_last lacks_main r'.progress s (ap (λ (x : Reader). first_cause (causes is_last lacks_main x.progress s)) (sym same) ∙ sym none)
 
 -- a right statement does something
 pub step-IsSome : (names : Names) (c : Command) (s : Statement) (is_last lacks_main : Bool) (p : Progress) → s ≡ statement_of names c → IsRight is_last lacks_main p s → IsSome (step_with s)

@@ -43,7 +43,7 @@ fn refuses_words_names_and_numbers(rt: HostRuntime) {
     let cases: [(&[u8], u32, Why); 19] = [
         (b"gotime script 1\nnow\n", 2, Why::Word),
         (b"gotime script 1\nticker k\n", 2, Why::Word),
-        (b"gotime script 1\nfunc main\nloop 2\n", 3, Why::Word),
+        (b"gotime script 1\nloop 2\nfunc main\nend\n", 2, Why::Word),
         (b"gotime script 1\nfunc main\nend\n---\n", 4, Why::Word),
         (
             b"gotime script 1\nfunc main\nfunc f\nend\nend\n",
@@ -187,4 +187,85 @@ fn reads_what_scripts_spell(rt: HostRuntime) {
             b"gotime script 1\nfunc main\ngo main\nend\ntimer a2345678901234567890123456789012"
         )
     );
+}
+
+const LOOPS: &[u8] = b"gotime script 1\nfunc main\nloop 2\nsay 1\nloop 0\nsay 2\nend\nend\nend\n";
+
+fn is_looping(code: &[Instr]) -> bool {
+    match code {
+        [
+            Instr::LoopTop {
+                depth: 0,
+                count: 2,
+                past: 6,
+            },
+            Instr::Say { n: 1 },
+            Instr::LoopTop {
+                depth: 1,
+                count: 0,
+                past: 5,
+            },
+            Instr::Say { n: 2 },
+            Instr::LoopEnd { depth: 1, top: 2 },
+            Instr::LoopEnd { depth: 0, top: 0 },
+            Instr::Finish,
+        ] => true,
+        _ => false,
+    }
+}
+
+#[test]
+fn reads_loops(rt: HostRuntime) {
+    match read_script(rt.alloc(), LOOPS) {
+        Ok(script) => match script.funcs.as_slice() {
+            [main] => assert!(rt; is_looping(main.code.as_slice())),
+            _ => assert!(rt; false, "one function"),
+        },
+        Err(unread) => assert!(rt; false, "{unread:?}"),
+    }
+    assert!(rt;
+        is_read(
+            rt.alloc(),
+            b"gotime script 1\nfunc main\nloop 1000000\nloop 0\nnow\nend\nnow\nend\nloop 0\nloop 0\nnow\nend\nend\nend"
+        )
+    );
+}
+
+#[test]
+fn refuses_loops(rt: HostRuntime) {
+    let cases: [(&[u8], u32, Why); 6] = [
+        (
+            b"gotime script 1\nfunc main\nloop 1\nloop 1\nloop 1\nloop 1\nloop 1\nnow\n",
+            7,
+            Why::Nest,
+        ),
+        (
+            b"gotime script 1\nfunc main\nloop 2\nend\nend\n",
+            4,
+            Why::Nest,
+        ),
+        (
+            b"gotime script 1\nfunc main\nloop 3\nloop 0\nsay 1\nend\nend\nend\n",
+            7,
+            Why::Nest,
+        ),
+        (
+            b"gotime script 1\nfunc main\nloop 1000001\nnow\nend\nend\n",
+            3,
+            Why::Number,
+        ),
+        (
+            b"gotime script 1\nfunc main\nloop 2\nnow\n",
+            4,
+            Why::Missing,
+        ),
+        (
+            b"gotime script 1\nfunc main\nloop 2\nnow\nend\n",
+            5,
+            Why::Missing,
+        ),
+    ];
+    for (text, line, why) in cases {
+        assert!(rt; is_refused(rt.alloc(), text, line, why), "{text:?}");
+    }
 }
