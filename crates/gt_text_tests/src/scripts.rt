@@ -191,25 +191,33 @@ fn reads_what_scripts_spell(rt: HostRuntime) {
 
 const LOOPS: &[u8] = b"gotime script 1\nfunc main\nloop 2\nsay 1\nloop 0\nsay 2\nend\nend\nend\n";
 
+fn is_top(instr: &Instr, around: u8, passes: u32, behind: u32) -> bool {
+    match instr {
+        Instr::LoopTop { depth, count, past } => {
+            *depth == around && *count == passes && *past == behind
+        }
+        _ => false,
+    }
+}
+
+fn is_end(instr: &Instr, around: u8, begin: u32) -> bool {
+    match instr {
+        Instr::LoopEnd { depth, top } => *depth == around && *top == begin,
+        _ => false,
+    }
+}
+
 fn is_looping(code: &[Instr]) -> bool {
     match code {
-        [
-            Instr::LoopTop {
-                depth: 0,
-                count: 2,
-                past: 6,
-            },
-            Instr::Say { n: 1 },
-            Instr::LoopTop {
-                depth: 1,
-                count: 0,
-                past: 5,
-            },
-            Instr::Say { n: 2 },
-            Instr::LoopEnd { depth: 1, top: 2 },
-            Instr::LoopEnd { depth: 0, top: 0 },
-            Instr::Finish,
-        ] => true,
+        [outer, first, inner, second, inner_end, outer_end, last] => {
+            is_top(outer, 0, 2, 6)
+                && matches!(first, Instr::Say { n: 1 })
+                && is_top(inner, 1, 0, 5)
+                && matches!(second, Instr::Say { n: 2 })
+                && is_end(inner_end, 1, 2)
+                && is_end(outer_end, 0, 0)
+                && matches!(last, Instr::Finish)
+        }
         _ => false,
     }
 }
