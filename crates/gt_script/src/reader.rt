@@ -1,32 +1,59 @@
 //! The reader: what it makes of one line after the other.
 
-ghost use Rattle.std.specs.Prelude.{◌≡◌, codes};
+ghost use Rattle.std.specs.Prelude.{◌≡◌, IfOk, codes};
+ghost use Rattle.gt_model.specs.Tables.{change};
 ghost use Rattle.gt_names.specs.Known.{known};
 ghost use Rattle.gt_grammar.specs.Deeds.{func_place};
 ghost use Rattle.gt_grammar.specs.Faults.{is_function, lacks_main};
+ghost use Rattle.gt_script.specs.Reading.{leading};
 
 use crate::command::{read_command, step_with};
 use crate::unread::Unread;
+use arrayvec::ArrayVec;
 use gt_grammar::{Progress, Statement, Why};
 use gt_lines::Line;
 use gt_model::{Code, Decl, Decls, Func, Funcs, Instr, Script, Text, What};
 use gt_names::{Declared, NameTable};
 use gt_table::{Kind, Step};
 use std::alloc::{AllocError, Global};
+use std::marker::Model;
 use std::mem;
+
+/// How deep loops may stand in one another.
+const MOST_LOOPS: usize = 4;
 
 /// What is made of the lines so far.
 #[derive(Drop)]
 pub(crate) struct Reader {
     alloc: Global,
-    pub(crate) progress: Progress,
-    pub(crate) decls: Vec<Decl>,
+    progress: Progress,
+    decls: Vec<Decl>,
     /// The functions that are closed.
-    pub(crate) funcs: Vec<Func>,
+    funcs: Vec<Func>,
     /// The place of the function that is open among the declarations.
-    pub(crate) open_decl: u32,
+    open_decl: u32,
     /// The instructions of the function that is open.
-    pub(crate) code: Vec<Instr>,
+    code: Vec<Instr>,
+    /// The indices in it of the tops of the loops that are open, the innermost last.
+    tops: ArrayVec<u32, MOST_LOOPS>,
+}
+
+impl Model for Reader {
+    ghost use Rattle.std.specs.Prelude.{reverse};
+    ghost use Rattle.gt_script.specs.Reading.{Reader as Reading};
+
+    ghost Value = { Reading };
+
+    ghost view = { λ r. record {
+      progress = r.progress;
+      built = record {
+        decls = r.decls.items;
+        funcs = r.funcs.items;
+        open_decl = r.open_decl;
+        code = r.code.items;
+        tops = reverse r.tops.items;
+      };
+    } };
 }
 
 fn is_function(declared: Option<Declared>) -> bool
@@ -54,21 +81,51 @@ fn main_place(names: &NameTable) -> u32
     }
 }
 
+// An index in a code. It has 32 bits: a code that outgrows them would take more than 100 GB, and so counts as out of memory.
+fn code_index(index: usize) -> Result<u32, AllocError>
+    ensures { IfOk result (λ i. i ≡ index) }
+{
+    match u32::try_from(index) {
+        Ok(index) => Ok(index),
+        Err(_) => Err(AllocError),
+    }
+}
+
+// The top of a loop leads past it to this index from now on.
+fn lead_past(instr: &mut Instr, index: u32)
+    ensures { instr.new ≡ leading index instr.old }
+{
+    if let Instr::LoopTop { past, .. } = instr {
+        *past = index;
+    }
+}
+
+// The same for the instruction at a place.
+fn lead(code: &mut Vec<Instr>, top: u32, index: u32)
+    ensures { code.new.items ≡ change code.old.items top (leading index) }
+{
+    if let Some(instr) = code.get_mut(top as usize) {
+        lead_past(instr, index);
+    }
+}
+
 impl Reader {
-    ghost use Rattle.std.specs.Prelude.{◌≡◌, ◌≤◌, ◌∷◌, ◌++◌, [], None, Some, OnOk, IfErr, IfSome, IsSome, false};
+    ghost use Rattle.std.specs.Prelude.{◌≡◌, ℕ, ◌≤◌, ◌<◌, ◌∷◌, [], length, None, Some, OnOk, IfErr, IfSome, IsSome, false};
+    ghost use Rattle.std.specs.Option.{unwrap_or};
     ghost use Rattle.gt_table.specs.Forms.{most_of};
     ghost use Rattle.gt_table.specs.Table.{form_of};
+    ghost use Rattle.gt_table.specs.declared.form.Step.{Step};
     ghost use Rattle.gt_lines.specs.Lines.{line_at};
     ghost use Rattle.gt_names.specs.Known.{known};
     ghost use Rattle.gt_grammar.specs.Statements.{step_with};
-    ghost use Rattle.gt_grammar.specs.Deeds.{deed_of};
-    ghost use Rattle.gt_grammar.specs.Faults.{role_of, brings_too_many, cause_at, progress_after, progress_with, no_progress};
+    ghost use Rattle.gt_grammar.specs.Deeds.{declares, closes, loops, deed_of};
+    ghost use Rattle.gt_grammar.specs.Faults.{role_of, nests_wrongly, brings_too_many, cause_at, progress_after, progress_with, no_progress};
     ghost use Rattle.gt_script.specs.Unread.{IfRefused};
-    ghost use Rattle.gt_script.specs.Reading.{Goes, built, built_after, nothing_built, script_left};
+    ghost use Rattle.gt_script.specs.Reading.{Agrees, Goes, built_after, closed, nothing_built, script_left};
 
     pub(crate) fn new(alloc: Global) -> Reader
         ensures progress { result.progress ≡ no_progress }
-        ensures built { built result.decls.items result.funcs.items result.open_decl result.code.items ≡ nothing_built }
+        ensures built { result.built ≡ nothing_built }
     {
         Reader {
             alloc,
@@ -77,15 +134,12 @@ impl Reader {
             funcs: Vec::new(alloc),
             open_decl: 0,
             code: Vec::new(alloc),
+            tops: ArrayVec::new(),
         }
     }
 
     fn declare(&mut self, name: &[u8], what: What) -> Result<(), AllocError>
-        ensures decls { OnOk result
-            (self.new.decls.items ≡ self.old.decls.items ++ record { name = name.now; what = what } ∷ []) }
-        ensures funcs { self.new.funcs.items ≡ self.old.funcs.items }
-        ensures open_decl { self.new.open_decl ≡ self.old.open_decl }
-        ensures code { self.new.code.items ≡ self.old.code.items }
+        ensures built { OnOk result (self.new.built ≡ built_after self.old.built (declares name.now what)) }
         ensures progress { self.new.progress ≡ self.old.progress }
     {
         let name = Text::of(Vec::from_slice(self.alloc, name)?);
@@ -93,12 +147,8 @@ impl Reader {
         Ok(())
     }
 
-    fn close(&mut self) -> Result<(), AllocError>
-        ensures decls { self.new.decls.items ≡ self.old.decls.items }
-        ensures funcs { OnOk result (self.new.funcs.items ≡ self.old.funcs.items
-            ++ record { decl = self.old.open_decl; code = self.old.code.items ++ Instr.Finish ∷ [] } ∷ []) }
-        ensures open_decl { self.new.open_decl ≡ self.old.open_decl }
-        ensures code { OnOk result (self.new.code.items ≡ []) }
+    fn close_function(&mut self) -> Result<(), AllocError>
+        ensures built { OnOk result (self.new.built ≡ closed self.old.built []) }
         ensures progress { self.new.progress ≡ self.old.progress }
     {
         self.code.push(Instr::Finish)?;
@@ -110,10 +160,48 @@ impl Reader {
         Ok(())
     }
 
+    fn open_loop(&mut self, count: u32) -> Result<(), AllocError>
+        requires { length self.old.built.tops < 4 }
+        ensures built { OnOk result (self.new.built ≡ built_after self.old.built (loops count)) }
+        ensures progress { self.new.progress ≡ self.old.progress }
+    {
+        let top = code_index(self.code.len())?;
+        let depth = self.tops.len() as u8;
+        self.code.push(Instr::LoopTop {
+            depth,
+            count,
+            past: 0,
+        })?;
+        self.tops.push(top);
+        Ok(())
+    }
+
+    // Closes a loop whose top is no longer among the open ones.
+    fn close_loop(&mut self, top: u32) -> Result<(), AllocError>
+        ensures built { OnOk result (self.new.built ≡ closed self.old.built (top ∷ self.old.built.tops)) }
+        ensures progress { self.new.progress ≡ self.old.progress }
+    {
+        let depth = self.tops.len() as u8;
+        self.code.push(Instr::LoopEnd { depth, top })?;
+        let past = code_index(self.code.len())?;
+        lead(&mut self.code, top, past);
+        Ok(())
+    }
+
+    fn close(&mut self) -> Result<(), AllocError>
+        ensures built { OnOk result (self.new.built ≡ built_after self.old.built closes) }
+        ensures progress { self.new.progress ≡ self.old.progress }
+    {
+        match self.tops.pop() {
+            Some(top) => self.close_loop(top),
+            None => self.close_function(),
+        }
+    }
+
     // Does what a line does, whose first word may be a name.
     fn take(&mut self, name: &[u8], step: Step) -> Result<(), AllocError>
-        ensures built { OnOk result (built self.new.decls.items self.new.funcs.items self.new.open_decl self.new.code.items
-            ≡ built_after (built self.old.decls.items self.old.funcs.items self.old.open_decl self.old.code.items) (deed_of name.now step)) }
+        requires { (count : ℕ) → step ≡ Step.Loop count → length self.old.built.tops < 4 }
+        ensures built { OnOk result (self.new.built ≡ built_after self.old.built (deed_of name.now step)) }
         ensures progress { self.new.progress ≡ self.old.progress }
     {
         match step {
@@ -127,22 +215,26 @@ impl Reader {
                 self.code.push(instr)?;
                 Ok(())
             }
+            Step::Loop { count } => self.open_loop(count),
             Step::Close => self.close(),
         }
     }
 
     // Goes on behind a statement with nothing wrong, whose first word may be a name.
     fn go_on(&mut self, name: &[u8], statement: &Statement) -> Result<(), AllocError>
+        requires agrees { length self.old.built.tops ≡ length self.old.progress.loops }
+        requires nests { nests_wrongly self.old.progress (role_of statement.now) ≡ false }
         requires room { brings_too_many self.old.progress (role_of statement.now) ≡ false }
         requires known { IsSome (step_with statement.now) }
         requires first { IfSome statement.now.first (λ v. v ≤ most_of (form_of statement.now.keyword).first) }
         requires second { IfSome statement.now.second (λ v. v ≤ most_of (form_of statement.now.keyword).second) }
-        ensures progress { OnOk result (self.new.progress ≡ progress_with self.old.progress (role_of statement.now)) }
+        ensures progress { OnOk result (self.new.progress
+            ≡ progress_with self.old.progress (role_of statement.now) (unwrap_or statement.now.first 0)) }
         ensures built { OnOk result (IfSome (step_with statement.now) (λ step.
-            built self.new.decls.items self.new.funcs.items self.new.open_decl self.new.code.items
-            ≡ built_after (built self.old.decls.items self.old.funcs.items self.old.open_decl self.old.code.items) (deed_of name.now step))) }
+            self.new.built ≡ built_after self.old.built (deed_of name.now step))) }
     {
-        self.progress = self.progress.after(statement.keyword.form().role);
+        let role = statement.keyword.form().role;
+        self.progress.pass(role, statement.first.unwrap_or(0));
         match step_with(statement) {
             Some(step) => self.take(name, step),
             None => unreachable!(),
@@ -156,14 +248,14 @@ impl Reader {
         line: &Line<'a>,
         is_last: bool,
     ) -> Result<(), Unread>
+        requires { Agrees self.old.progress self.old.built }
         ensures fault { IfErr result (λ unread. IfRefused unread (λ fault. (fault.line ≡ line.now.number)
             × (cause_at (known names.now) is_last self.old.progress (line_at line.now) ≡ Some fault.why))) }
         ensures faultless { OnOk result (cause_at (known names.now) is_last self.old.progress (line_at line.now) ≡ None) }
         ensures progress { OnOk result (self.new.progress ≡ progress_after self.old.progress (line_at line.now)) }
         ensures built { OnOk result (Goes (known names.now)
-            self.old.progress.inside (built self.old.decls.items self.old.funcs.items self.old.open_decl self.old.code.items)
-            (line_at line.now)
-            self.new.progress.inside (built self.new.decls.items self.new.funcs.items self.new.open_decl self.new.code.items)) }
+            self.old.progress.inside self.old.built (line_at line.now) self.new.progress.inside self.new.built) }
+        ensures agrees { OnOk result (Agrees self.new.progress self.new.built) }
     {
         let Some(command) = read_command(line.word, line.rest) else {
             return Err(Unread::refused(line.number, Why::Word));
@@ -181,8 +273,7 @@ impl Reader {
 
     /// The script, where no line is left.
     pub(crate) fn finish(self, names: &NameTable) -> Script
-        ensures { result
-            ≡ script_left (known names.now) false (built self.decls.items self.funcs.items self.open_decl self.code.items) [] }
+        ensures { result ≡ script_left (known names.now) false self.built [] }
     {
         Script {
             decls: Decls::of(self.decls),

@@ -2,17 +2,21 @@
 
 ghost use Rattle.std.specs.Prelude.{◌≡◌, ◌≤◌, IfSome, if◌then◌else◌, None};
 ghost use Rattle.std.specs.Option.{option_map};
+ghost use Rattle.gt_model.specs.Good.{most_passes};
 ghost use Rattle.gt_model.specs.Times.{greatest_time};
 ghost use Rattle.gt_table.specs.Forms.{most_of};
 ghost use Rattle.gt_names.specs.Known.{known};
 ghost use Rattle.gt_names.specs.Names.{is_free_name};
 ghost use Rattle.gt_grammar.specs.Duration.{duration_of};
-ghost use Rattle.gt_grammar.specs.Statements.{timer_place, setting_place, function_place, value_of};
+ghost use Rattle.gt_grammar.specs.Statements.{timer_place, setting_place, function_place, passes_of, value_of};
 
 use gt_dur::read_dur;
 use gt_lines::read_number;
 use gt_names::{Declared, NameTable, is_free_name};
 use gt_table::{Arg, Kind};
+
+/// The greatest number of passes of a loop.
+const MOST_PASSES: u32 = 1_000_000;
 
 // The duration that a word spells, in nanoseconds. `None` for any other word, or a duration above [`gt_model::CAP`].
 fn read_duration(word: &[u8]) -> Option<u64>
@@ -23,6 +27,18 @@ fn read_duration(word: &[u8]) -> Option<u64>
         Ok(text) => read_dur(text).ok(),
         Err(_) => None,
     }
+}
+
+// How many passes of a loop a word spells.
+fn read_passes(word: &[u8]) -> Option<u32>
+    ensures value { result ≡ passes_of word.now }
+    ensures most { IfSome result (λ n. n ≤ most_passes) }
+{
+    let passes = read_number(word)?;
+    if passes > MOST_PASSES {
+        return None;
+    }
+    Some(passes)
 }
 
 fn timer_place(d: Declared) -> Option<u32>
@@ -76,5 +92,6 @@ pub(crate) fn read_value<'a>(names: &NameTable<'a>, arg: Arg, word: &'a [u8]) ->
         Arg::Function => Some(u64::from(function_place(names.find(word)?)?)),
         Arg::Duration => read_duration(word),
         Arg::Number => Some(u64::from(read_number(word)?)),
+        Arg::Passes => Some(u64::from(read_passes(word)?)),
     }
 }

@@ -43,7 +43,7 @@ fn refuses_words_names_and_numbers(rt: HostRuntime) {
     let cases: [(&[u8], u32, Why); 19] = [
         (b"gotime script 1\nnow\n", 2, Why::Word),
         (b"gotime script 1\nticker k\n", 2, Why::Word),
-        (b"gotime script 1\nfunc main\nloop 2\n", 3, Why::Word),
+        (b"gotime script 1\nloop 2\nfunc main\nend\n", 2, Why::Word),
         (b"gotime script 1\nfunc main\nend\n---\n", 4, Why::Word),
         (
             b"gotime script 1\nfunc main\nfunc f\nend\nend\n",
@@ -187,4 +187,93 @@ fn reads_what_scripts_spell(rt: HostRuntime) {
             b"gotime script 1\nfunc main\ngo main\nend\ntimer a2345678901234567890123456789012"
         )
     );
+}
+
+const LOOPS: &[u8] = b"gotime script 1\nfunc main\nloop 2\nsay 1\nloop 0\nsay 2\nend\nend\nend\n";
+
+fn is_top(instr: &Instr, around: u8, passes: u32, behind: u32) -> bool {
+    match instr {
+        Instr::LoopTop { depth, count, past } => {
+            *depth == around && *count == passes && *past == behind
+        }
+        _ => false,
+    }
+}
+
+fn is_end(instr: &Instr, around: u8, begin: u32) -> bool {
+    match instr {
+        Instr::LoopEnd { depth, top } => *depth == around && *top == begin,
+        _ => false,
+    }
+}
+
+fn is_looping(code: &[Instr]) -> bool {
+    match code {
+        [outer, first, inner, second, inner_end, outer_end, last] => {
+            is_top(outer, 0, 2, 6)
+                && matches!(first, Instr::Say { n: 1 })
+                && is_top(inner, 1, 0, 5)
+                && matches!(second, Instr::Say { n: 2 })
+                && is_end(inner_end, 1, 2)
+                && is_end(outer_end, 0, 0)
+                && matches!(last, Instr::Finish)
+        }
+        _ => false,
+    }
+}
+
+#[test]
+fn reads_loops(rt: HostRuntime) {
+    match read_script(rt.alloc(), LOOPS) {
+        Ok(script) => match script.funcs.as_slice() {
+            [main] => assert!(rt; is_looping(main.code.as_slice())),
+            _ => assert!(rt; false, "one function"),
+        },
+        Err(unread) => assert!(rt; false, "{unread:?}"),
+    }
+    assert!(rt;
+        is_read(
+            rt.alloc(),
+            b"gotime script 1\nfunc main\nloop 1000000\nloop 0\nnow\nend\nnow\nend\nloop 0\nloop 0\nnow\nend\nend\nend"
+        )
+    );
+}
+
+#[test]
+fn refuses_loops(rt: HostRuntime) {
+    let cases: [(&[u8], u32, Why); 6] = [
+        (
+            b"gotime script 1\nfunc main\nloop 1\nloop 1\nloop 1\nloop 1\nloop 1\nnow\n",
+            7,
+            Why::Nest,
+        ),
+        (
+            b"gotime script 1\nfunc main\nloop 2\nend\nend\n",
+            4,
+            Why::Nest,
+        ),
+        (
+            b"gotime script 1\nfunc main\nloop 3\nloop 0\nsay 1\nend\nend\nend\n",
+            7,
+            Why::Nest,
+        ),
+        (
+            b"gotime script 1\nfunc main\nloop 1000001\nnow\nend\nend\n",
+            3,
+            Why::Number,
+        ),
+        (
+            b"gotime script 1\nfunc main\nloop 2\nnow\n",
+            4,
+            Why::Missing,
+        ),
+        (
+            b"gotime script 1\nfunc main\nloop 2\nnow\nend\n",
+            5,
+            Why::Missing,
+        ),
+    ];
+    for (text, line, why) in cases {
+        assert!(rt; is_refused(rt.alloc(), text, line, why), "{text:?}");
+    }
 }

@@ -5,10 +5,10 @@ use Rattle.gt_lines.proofs.Ahead.{lines-ahead, last-is}
 use Rattle.gt_names.specs.Known.{known}
 use Rattle.gt_names.specs.Names.{Names}
 use Rattle.gt_grammar.specs.declared.fault.ScriptFault.{ScriptFault}
-use Rattle.gt_grammar.specs.declared.progress.Progress.{Progress}
+use Rattle.gt_grammar.specs.Progress.{Progress}
 use Rattle.gt_grammar.specs.Faults.{fault_from, cause_at, no_progress}
 use Rattle.gt_grammar.proofs.RightLines.{outside}
-use Rattle.gt_script.specs.Reading.{built, script_left}
+use Rattle.gt_script.specs.Reading.{script_left}
 use Rattle.gt_script.proofs.ReadingLemmas.{fault-here, fault-later, if-refused}
 use Rattle.gt_script.proofs.read.read_body.Goals as goal
 
@@ -42,6 +42,7 @@ loop-ahead-preserved c =
     record {
       fault = ap (λ (q : Progress). fault_from names q rest) progress ∙ sym (fault-later names p line rest c.is_none.result last none) ∙ sym (ap (fault_from names p) left) ∙ c.loop-ahead.invariant.fault;
       script = c.in_default-read.ensures.built rest
-          ∙ ap (script_left names p.inside (built old.decls.items old.funcs.items old.open_decl old.code.items)) (sym left) ∙ c.loop-ahead.invariant.script;
+          ∙ ap (script_left names p.inside old.built) (sym left) ∙ c.loop-ahead.invariant.script;
       outside = λ e. ap (λ (q : Progress). q.inside) progress ∙ outside names p line c.is_none.result (last ∙ e) none;
+      agrees = c.in_default-read.ensures.agrees;
     }
