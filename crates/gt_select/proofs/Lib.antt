@@ -6,3 +6,4 @@ pub mod Parties
 pub mod Tickets
 pub mod Places
 pub mod Shown
+pub mod Callers
