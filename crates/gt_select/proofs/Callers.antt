@@ -1,5 +1,5 @@
 -- What a caller makes of the clauses: who was found, and who may wait.
-use Rattle.std.proofs.Common.{◌≡◌, ◌≢◌, ℕ, Bool, true, not, eqb, Some, List, [], ◌∷◌, ◌++◌, length, set, replicate, get_or-set_same, get_or-set_other, refl, sym, ap, ◌∙◌, inl, inr, arith}
+use Rattle.std.proofs.Common.{◌≡◌, ◌≢◌, ℕ, ◌<◌, ◌≤◌, Bool, true, not, eqb, Some, None, List, [], ◌∷◌, ◌++◌, length, set, replicate, get_or-set_same, get_or-set_other, refl, sym, ap, ◌∙◌, inl, inr, arith}
 use Rattle.std.specs.Prelude.{filter}
 use Rattle.std.specs.List.{Contains, slice_get}
 use Rattle.std.proofs.lemmas.Bool.{cases_eq, cases_lt, cases_Bool, eq-eqb, false≢true}
@@ -7,7 +7,7 @@ use Rattle.std.proofs.lemmas.List.{get_or_past, get_or-replicate, length-replica
 use Rattle.std.proofs.lemmas.List.Elements.{Contains-push_cases}
 use Rattle.slab.proofs.SlabLemmas.{Contains-cons, Contains-cons_cases}
 use Rattle.gt_model.specs.declared.entry.Party.{Party}
-use Rattle.gt_select.specs.Waiting.{Waiting, MayWait, parties_in, without_goroutine, joined, nobody_waits}
+use Rattle.gt_select.specs.Waiting.{Waiting, MayWait, parties_in, without_goroutine, joined, enrolled, nobody_waits}
 
 Contains-filter : (keep : Party → Bool) (xs : List Party) (p : Party) → Contains (filter keep xs) p → Contains xs p × (keep p ≡ true)
 Contains-filter keep [] p h = absurd (omega (arith, h.1))
@@ -67,3 +67,11 @@ MayWait-joined w list p q other may = record {
               ]
           | inr past ↦ rw (set_past w.lists list now past) at h
         ]
+
+-- a goroutine that has just been given its ticket may wait
+pub MayWait-enrolled : (w : Waiting) (p : Party) → p.g < length w.tickets → p.case_no ≤ 16 → ((list : ℕ) → Contains (parties_in w.lists list) p → ⊥) → MayWait (enrolled w p.g) p
+MayWait-enrolled w p known small nowhere = record {
+  live = rw (get_or-set_same w.tickets p.g (Some w.turns) None known) refl;
+  case_no = small;
+  waits_nowhere = nowhere;
+}
