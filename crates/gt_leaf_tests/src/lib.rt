@@ -3,6 +3,8 @@
 #![tactic(auto)]
 
 #[cfg(test)]
+mod chan;
+#[cfg(test)]
 mod ctx;
 #[cfg(test)]
 mod heap;
@@ -18,6 +20,8 @@ mod room;
 mod scan;
 #[cfg(test)]
 mod sched;
+#[cfg(test)]
+mod select;
 #[cfg(test)]
 mod sync;
 #[cfg(test)]

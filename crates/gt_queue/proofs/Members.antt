@@ -103,10 +103,14 @@ AllByRecursion-contains P y (x ∷ xs) a h =
       | inr g ↦ AllByRecursion-contains P y xs a.1 g
     ]
 
+pub IsDistinct-apart : (x : ℕ) (xs : List ℕ) → IsDistinct eqb (x ∷ xs) → Contains xs x → ⊥
+IsDistinct-apart x xs d h =
+    false≢true (sym (AllByRecursion-contains (λ y. eqb x y ≡ false) x xs (IsDistinct-head eqb x xs d) h) ∙ eq-eqb x x refl)
+
 without-head : (x : ℕ) (xs : List ℕ) → IsDistinct eqb (x ∷ xs) → without (x ∷ xs) x ≡ xs
 without-head x xs d =
     without-same x x xs refl
-    ∙ without-absent x xs (λ h. false≢true (sym (AllByRecursion-contains (λ y. eqb x y ≡ false) x xs (IsDistinct-head eqb x xs d) h) ∙ eq-eqb x x refl))
+    ∙ without-absent x xs (IsDistinct-apart x xs d)
 
 -- without the first of them, the rest is left
 pub without-first : (m : ℕ) (xs : List ℕ) → Some m ≡ slice_get xs 0 → IsDistinct eqb xs → without xs m ≡ drop 1 xs

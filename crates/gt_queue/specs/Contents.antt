@@ -1,5 +1,5 @@
 -- What a contract sees of the queues.
-use Rattle.std.specs.Prelude.{◌≡◌, ℕ, ◌<◌, ◌==◌, List, [], Contains, filter, not, nat_eq, slice_index_or}
+use Rattle.std.specs.Prelude.{◌≡◌, ℕ, ◌<◌, ◌==◌, List, [], ◌∷◌, Contains, filter, not, nat_eq, slice_index_or, if◌then◌else◌}
 use Rattle.std.specs.List.{IsDistinct}
 
 -- the members of each queue, the longest waiting first, and the number below which each member's number lies
@@ -18,6 +18,11 @@ IsWaiting queues member = (queue : ℕ) × Contains (waiting_in queues queue) me
 -- the others, in their order
 abbrev pub without : List ℕ → ℕ → List ℕ
 without waiting member = filter (λ other. not (other == member)) waiting
+
+-- those that wait behind a member, in their order
+abbrev pub behind : List ℕ → ℕ → List ℕ
+behind [] member = []
+behind (first ∷ others) member = if first == member then others else behind others member
 
 -- what is true of the queues at all times: each number is a member's, and nobody stands in two queues or twice in one
 pub record IsLawful (c : Contents) : Type 0 where

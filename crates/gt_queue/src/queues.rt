@@ -1,6 +1,6 @@
 //! The queues.
 ghost use Rattle.std.specs.Prelude.{◌≡◌, ℕ, ◌+◌, ◌<◌, ◌^◌, ◌↔◌, [], ◌∷◌, ◌++◌, drop, map, replicate, length, slice_get, slice_set, Contains, IsTrue, IsNone, IfNone, IfOk};
-ghost use Rattle.gt_queue.specs.Contents.{IsLawful, IsWaiting, waiting_in, without};
+ghost use Rattle.gt_queue.specs.Contents.{IsLawful, IsWaiting, waiting_in, without, behind};
 
 use crate::links::{Links, splice};
 use std::alloc::{AllocError, Global};
@@ -139,6 +139,21 @@ impl Queues {
         ensures { IsTrue result ↔ IsWaiting self.now.queues member }
     {
         self.next.at(member as usize) != member
+    }
+
+    /// The member behind a member in the queue in which that one stands, or None where it is the last there.
+    pub fn next_in(&self, member: u32) -> Option<u32>
+        requires { IsWaiting self.now.queues member }
+        ensures { (queue : ℕ)
+            → Contains (waiting_in self.now.queues queue) member
+            → result ≡ slice_get (behind (waiting_in self.now.queues queue) member) 0 }
+    {
+        let node = self.next.at(member as usize);
+        if (node as usize) < self.members {
+            Some(node)
+        } else {
+            None
+        }
     }
 
     /// Whether nobody waits in a queue.

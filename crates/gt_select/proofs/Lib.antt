@@ -1,0 +1,9 @@
+pub mod Tables
+pub mod Runs
+pub mod Options
+pub mod Others
+pub mod Parties
+pub mod Tickets
+pub mod Places
+pub mod Shown
+pub mod Callers
