@@ -113,9 +113,11 @@ placed-some (x ∷ xs) (suc i) h = placed-some xs i (omega arith)
 agrees-stands : (script : Script) (s : State) (r : Goroutine) (mode : Mode) → r.mode ≡ mode → Agrees mode RunStatus.InHand
     → IsPlacedIn (code_of script r.place.func) r.place mode → (i : Instr) × (stands script r ≡ Some i) × (silent r.place i ≡ None)
 agrees-stands script s r Mode.At is h placed =
-    let found : (i : Instr) × (instr_at script r.place ≡ Some i) = placed-some (code_of script r.place.func) r.place.at placed.0.within in
-    (found.0, ap (λ (mode : Mode). elim mode [ Mode.At ↦ instr_at script r.place | _ ↦ None ]) is ∙ found.1,
-    sym (ap (λ (o : Option Instr). elim o as (λ o. Option Place) [ None ↦ None | Some i ↦ silent r.place i ]) found.1) ∙ placed.1)
+    let found : (i : Instr) × (instr_at script r.place ≡ Some i) = placed-some (code_of script r.place.func) r.place.at placed.0.within in (
+      found.0,
+      ap (λ (mode : Mode). elim mode [ Mode.At ↦ instr_at script r.place | _ ↦ None ]) is ∙ found.1,
+      sym (ap (λ (o : Option Instr). elim o as (λ o. Option Place) [ None ↦ None | Some i ↦ silent r.place i ]) found.1) ∙ placed.1,
+    )
 agrees-stands script s r (Mode.Sleeping until) is h placed = absurd h
 agrees-stands script s r Mode.Ended is h placed = absurd h
 

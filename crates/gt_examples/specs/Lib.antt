@@ -11,3 +11,4 @@ pub mod PanicsTwice
 pub mod Deadlocks
 pub mod Starts
 pub mod Limited
+pub mod Loops

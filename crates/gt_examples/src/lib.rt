@@ -19,6 +19,7 @@ ghost use Rattle.gt_examples.specs.PanicsTwice as panics_twice;
 ghost use Rattle.gt_examples.specs.Deadlocks as deadlocks;
 ghost use Rattle.gt_examples.specs.Starts as starts;
 ghost use Rattle.gt_examples.specs.Limited as limited;
+ghost use Rattle.gt_examples.specs.Loops as loops;
 
 /// main sleeps for 5 ms and looks at the clock.
 pub fn sleeps_and_looks()
@@ -29,6 +30,21 @@ pub fn sleeps_and_looks()
 /// main ends at once.
 pub fn ends_at_once()
     ensures { History ends.script default_limits ends.history Outcome.Exit }
+{}
+
+/// A loop is passed as often as it says, one in it each time anew, and one with no pass is passed over.
+pub fn loops()
+    ensures { History loops.script default_limits loops.history Outcome.Exit }
+{}
+
+/// A loop of two passes is passed a third time.
+pub fn loops_once_more()
+    ensures { IsVerdict loops.script default_limits loops.once_more (Verdict.Illegal 7) }
+{}
+
+/// A loop with no pass is entered.
+pub fn enters_a_loop_without_passes()
+    ensures { IsVerdict loops.script default_limits loops.entered (Verdict.Illegal 2) }
 {}
 
 /// The clock moves before the sleep that waits for it: the sleep is not legal there.

@@ -61,6 +61,7 @@ code_walkable script f good =
         let before : top < i = end.before in
         ((good.loops top depth end.count (i + 1) end.begin).shallow, omega arith)
     leads-rightly script code i _ good on = tt
+
     code-walkable : (script : Script) (code : List Instr) → IsGoodCode script code → IsWalkable code
     code-walkable script code good = record { short = good.short; leads = λ i x on. leads-rightly script code i x good on }
 

@@ -93,7 +93,9 @@ impl Keyword {
             },
             Keyword::Func => Step::Open { decl: first as u32 },
             Keyword::End => Step::Close,
-            Keyword::Loop => Step::Loop { count: first as u32 },
+            Keyword::Loop => Step::Loop {
+                count: first as u32,
+            },
             Keyword::Say => act(Instr::Say { n: first as u32 }),
             Keyword::Now => act(Instr::Now),
             Keyword::Sleep => act(Instr::Sleep { d: first }),

@@ -29,6 +29,12 @@ const RUNS: &[(&str, &str, Outcome)] = &[
         Outcome::Exit,
     ),
     ("func main\nend\n", "end g1\nexit\n", Outcome::Exit),
+    // loops in loops, and one with no pass
+    (
+        "func main\nloop 2\nsay 1\nloop 0\nsay 2\nend\nloop 2\nsay 3\nend\nend\nend\n",
+        "say g1 1\nsay g1 3\nsay g1 3\nsay g1 1\nsay g1 3\nsay g1 3\nend g1\nexit\n",
+        Outcome::Exit,
+    ),
     // a time past the greatest one
     (
         "func main\nsleep 9223372036854ms\nsleep 1ms\nsleep 1ms\nend\n",
