@@ -1,6 +1,5 @@
 -- The states that a run reaches are formed, and the program's clock never falls.
-use Rattle.std.proofs.Common.{◌≡◌, ℕ, zero, suc, ◌+◌, ◌<◌, ◌≤◌, List, [], ◌∷◌, ◌++◌, map, set, length, refl, sym, ap, subst, ◌∙◌, arith, slice_get, slice_index, Option, None, Some, true, false, eqb, IsSomeAnd, IfSome, option_map}
-use Rattle.std.proofs.lemmas.Bool.{eqb-false}
+use Rattle.std.proofs.Common.{◌≡◌, ℕ, zero, suc, ◌+◌, ◌<◌, ◌≤◌, List, [], ◌∷◌, ◌++◌, map, set, length, refl, sym, ap, subst, ◌∙◌, arith, slice_get, slice_index, Option, None, Some, true, false, IsSomeAnd, IfSome, option_map}
 use Rattle.std.proofs.lemmas.List.{length-map, length-set}
 use Rattle.std.proofs.lemmas.Option.{slice_get_within}
 use Rattle.std.proofs.Math.ListN.{length-append}
@@ -20,7 +19,7 @@ use Rattle.gt_model.specs.Times.{greatest_time}
 use Rattle.gt_model.specs.Tables.{change, change_numbered, flatten}
 use Rattle.gt_rules.specs.State.{State, goroutine_at, stands_at, until_of, sleeps_until, clock, clock_of, world_of, timer_at}
 use Rattle.gt_model.specs.Script.{code_of, instr_at, is_func, names_func, func_of}
-use Rattle.gt_model.specs.Good.{IsGood, IsGoodCode, IsGoodInstr, StartsRightly, is_finish}
+use Rattle.gt_model.specs.Good.{IsGood, IsGoodCode, StartsRightly, is_finish}
 use Rattle.gt_rules.specs.declared.change.Move.{Move}
 use Rattle.gt_rules.specs.declared.change.Setting.{Setting}
 use Rattle.gt_rules.specs.declared.change.Start.{Start}

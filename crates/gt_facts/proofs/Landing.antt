@@ -1,11 +1,11 @@
 -- From a good code a goroutine always lands on an instruction that makes an entry.
-use Rattle.std.proofs.Common.{◌≡◌, ℕ, zero, suc, ◌+◌, ◌<◌, ◌≤◌, List, [], ◌∷◌, length, refl, sym, ap, subst, ◌∙◌, arith, slice_get, slice_index, set, Option, None, Some, Bool, true, false, cond, eqb, ltb}
+use Rattle.std.proofs.Common.{◌≡◌, ℕ, zero, suc, ◌+◌, ◌<◌, ◌≤◌, List, length, refl, sym, ap, subst, ◌∙◌, arith, slice_get, set, Option, None, Some, Bool, true, false, cond, eqb, ltb}
 use Rattle.std.proofs.lemmas.Bool.{eqb-true, eqb-false, ne_eqb, ltb-true, ltb-false}
 use Rattle.std.proofs.lemmas.Option.{slice_get_within}
 use Rattle.gt_model.specs.declared.script.Script.{Script}
 use Rattle.gt_model.specs.declared.script.Instr.{Instr}
 use Rattle.gt_model.specs.declared.script.Place.{Place}
-use Rattle.gt_model.specs.Good.{IsGoodCode, IsGoodInstr, IsGoodLoop, IsGoodEnd, is_finish, meets_instr}
+use Rattle.gt_model.specs.Good.{IsGoodCode, IsGoodLoop, IsGoodEnd, is_finish, meets_instr}
 use Rattle.gt_rules.specs.Places.{at_top, at_end, passes_left, silent, silent_at, go_on, settled_in}
 use Rattle.gt_facts.specs.Formed.{IsOnWay}
 

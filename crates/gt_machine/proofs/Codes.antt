@@ -1,5 +1,5 @@
 -- The instruction at a goroutine's place, as it is looked up.
-use Rattle.std.proofs.Common.{◌≡◌, ℕ, zero, suc, ◌-◌, ◌+◌, ◌<◌, List, [], length, get_or, refl, sym, subst, ◌∙◌, ap, slice_get, Option, None, Some, sub-one, true, is_some, arith}
+use Rattle.std.proofs.Common.{◌≡◌, ℕ, zero, suc, ◌-◌, ◌<◌, List, [], length, get_or, refl, sym, subst, ◌∙◌, ap, slice_get, Option, None, Some, sub-one, true, is_some, arith}
 use Rattle.std.proofs.lemmas.Option.{slice_get_within, slice_get-get_or}
 use Rattle.gt_model.specs.declared.script.Script.{Script}
 use Rattle.gt_model.specs.declared.script.Func.{Func}

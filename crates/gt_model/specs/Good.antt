@@ -11,7 +11,7 @@ use Rattle.gt_model.specs.declared.script.What.{What}
 use Rattle.gt_model.specs.declared.script.Instr.{Instr}
 use Rattle.gt_model.specs.Times.{greatest_time}
 use Rattle.gt_model.specs.declared.entry.Limits.{Limits}
-use Rattle.gt_model.specs.Script.{what_at, is_timer, is_func}
+use Rattle.gt_model.specs.Script.{is_timer, is_func}
 
 -- a timer that is set and stopped: a channel timer or an AfterFunc timer
 abbrev pub is_setting : Script → ℕ → Bool

@@ -1,4 +1,4 @@
-use Rattle.std.proofs.Common.{◌≡◌, List, [], refl, sym, subst, ap}
+use Rattle.std.proofs.Common.{◌≡◌, List, [], sym, subst, ap}
 use Rattle.gt_model.specs.declared.script.Instr.{Instr}
 use Rattle.gt_model.specs.Script.{code_of}
 use Rattle.gt_rules.specs.Places as places
