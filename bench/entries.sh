@@ -21,6 +21,7 @@ script() {
     case $1 in
     nothing) printf 'func main\nend\n' ;;
     say) echo "func main" && repeated "say 1" "$2" && echo "end" ;;
+    loop) printf 'func main\nloop 10\nloop %s\nsay 1\nend\nend\nend\n' "$(($2 / 10))" ;;
     sleep) echo "func main" && repeated "sleep 1ms" "$(($2 / 3))" && echo "end" ;;
     reset) printf 'timer t\nfunc main\nnew t 1ms\n' && repeated "reset t 1ms" "$2" && echo "end" ;;
     receive) printf 'timer t\nfunc main\nnew t 1ms\n' && repeated $'recv t\nreset t 1ms' "$(($2 / 3 * 2))" && echo "end" ;;
@@ -43,7 +44,7 @@ instructions() {
 }
 
 # A chain of goroutines goes on until its limit, the others to their end. A script has fewer than 4,096 timers.
-for kind in say sleep reset receive go sleepers timers; do
+for kind in say loop sleep reset receive go sleepers timers; do
     for count in 1000 99000; do
         limit=200000
         if [ "$kind" = timers ] && [ "$count" -gt 12000 ]; then count=12000; fi
