@@ -21,26 +21,19 @@ pub fn begun(script: &Script, world: u32, f: u32) -> Goroutine
     }
 }
 
-/// What becomes of a goroutine.
-pub fn moved(script: &Script, r: Goroutine, how: Move) -> Goroutine
+/// What becomes of a goroutine. It is changed where it stands, since each entry moves one.
+pub fn move_goroutine(script: &Script, r: &mut Goroutine, how: Move)
     requires good { IsGood script.now }
-    requires inside { r.place.at < 2 ^ 32 - 1 }
-    ensures { result ≡ after.moved script.now how r }
+    requires inside { r.old.place.at < 2 ^ 32 - 1 }
+    ensures { r.new ≡ after.moved script.now how r.old }
 {
     match how {
-        Move::GoesOn { .. } => Goroutine {
-            place: place_after(script, r.place),
-            mode: Mode::At,
-            ..r
-        },
-        Move::FallsAsleep { until } => Goroutine {
-            mode: Mode::Sleeping { until },
-            ..r
-        },
-        Move::Ends => Goroutine {
-            mode: Mode::Ended,
-            ..r
-        },
+        Move::GoesOn { .. } => {
+            r.place = place_after(script, r.place);
+            r.mode = Mode::At;
+        }
+        Move::FallsAsleep { until } => r.mode = Mode::Sleeping { until },
+        Move::Ends => r.mode = Mode::Ended,
     }
 }
 

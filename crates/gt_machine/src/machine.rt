@@ -14,7 +14,7 @@ ghost use Rattle.gt_machine.specs.Machine.{state_of, IsInside, with_new};
 ghost use Rattle.gt_machine.specs.Outcomes as outcomes;
 ghost use Rattle.gt_machine.specs.Places.{placed_at};
 
-use crate::changes::{begun, moved, retimed};
+use crate::changes::{begun, move_goroutine, retimed};
 use crate::lookups::{function_of, instr_at};
 use gt_model::{
     Ending, Entry, Goroutine, Instr, Limits, Mode, NoMemory, Outcome, Reason, Script, Timer,
@@ -137,9 +137,7 @@ impl Machine {
         ensures spare { self.new.goroutines.spare ≡ self.old.goroutines.spare }
     {
         if let Some((g, how)) = mover {
-            let place = g as usize - 1;
-            let was = *self.goroutines.at(place);
-            self.goroutines.set(place, moved(script, was, how));
+            move_goroutine(script, self.goroutines.at_mut(g as usize - 1), how);
         }
     }
 

@@ -1,6 +1,6 @@
 //! Where a goroutine begins, and where it goes on: over the bounds of loops.
 
-ghost use Rattle.std.specs.Prelude.{◌≡◌, ◌+◌, ◌-◌, ◌<◌, ◌^◌, None, length, slice_get};
+ghost use Rattle.std.specs.Prelude.{◌≡◌, ◌+◌, ◌-◌, ◌<◌, ◌^◌, None, is_some, length, slice_get};
 ghost use Rattle.gt_model.specs.Good.{IsGood};
 ghost use Rattle.gt_rules.specs.Places as places;
 ghost use Rattle.gt_machine.specs.Places.{LeadsRightly, IsWalkable};
@@ -79,13 +79,28 @@ fn walked(code: &[Instr], place: Place) -> Place
     here
 }
 
+/// Whether a loop begins or ends at a place of a code.
+fn is_bound(code: &[Instr], place: Place) -> bool
+    ensures { result ≡ is_some (places.silent_at code.now place) }
+{
+    matches!(
+        code.get(place.at as usize),
+        Some(Instr::LoopTop { .. } | Instr::LoopEnd { .. })
+    )
+}
+
+// Most instructions are followed by one that makes an entry.
 fn settled(script: &Script, place: Place) -> Place
     requires { IsGood script.now }
     ensures { result ≡ places.settled script.now place }
 {
-    match code_of(script, place.func) {
-        None => place,
-        Some(code) => walked(code, place),
+    let Some(code) = code_of(script, place.func) else {
+        return place;
+    };
+    if is_bound(code, place) {
+        walked(code, place)
+    } else {
+        place
     }
 }
 

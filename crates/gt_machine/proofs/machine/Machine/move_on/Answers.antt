@@ -1,4 +1,4 @@
-use Rattle.std.proofs.Common.{length-set, ◌-◌, ap}
+use Rattle.std.proofs.Common.{ap}
 use Rattle.gt_rules.specs.After.{moved}
 use Rattle.gt_machine.proofs.Machines.{set_numbered}
 use Rattle.gt_machine.specs.Machine.{state_of}
@@ -6,9 +6,6 @@ use Rattle.gt_machine.proofs.machine.Machine.move_on.Goals as goal
 
 pub returns-in-Some-clause-state : goal.returns-in-Some-clause-state
 returns-in-Some-clause-state c =
-    rw (c.set.ensures.items, c.moved.ensures, c.in-Some.is)
+    rw (c.move_goroutine.ensures, c.in-Some.is)
     (ap (λ gs. record (state_of c.args.self.now) { goroutines = gs })
-    (set_numbered c.args.self.now.goroutines.items c.in-Some.g (moved c.args.script.now c.in-Some.how) c.at-was.result.now _ (rw c.in-Some.is at c.requires.inside) c.at-was.ensures.value))
-
-pub returns-in-Some-clause-many : goal.returns-in-Some-clause-many
-returns-in-Some-clause-many c = rw c.set.ensures.items (length-set c.args.self.now.goroutines.items (c.in-Some.g - 1) c.moved.result)
+    (set_numbered c.args.self.now.goroutines.items c.in-Some.g (moved c.args.script.now c.in-Some.how) c.at_mut.result.now _ (rw c.in-Some.is at c.requires.inside) c.at_mut.ensures.value))
