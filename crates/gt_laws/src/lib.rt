@@ -17,6 +17,7 @@ ghost use Rattle.gt_rules.specs.Finish.{IsIdle};
 ghost use Rattle.gt_facts.specs.Still.{IsStill};
 ghost use Rattle.gt_laws.specs.Told.{ending_told};
 ghost use Rattle.gt_laws.specs.Laws.{AtEach, InOrder, InTime, IsFresh, UsesRightly};
+ghost use Rattle.gt_laws.specs.Unrolled.{InTurn};
 ghost use Rattle.gt_laws.specs.Ends.{EndsRightly, EndsWhereStuck, JumpsToLeast};
 ghost use Rattle.gt_laws.specs.GoesOn.{counted_told, IsStillTold, IsStuckTold};
 ghost use Rattle.gt_laws.specs.Broken as broken;
@@ -25,6 +26,13 @@ ghost use Rattle.gt_laws.specs.Broken as broken;
 pub fn calls_come_in_order()
     ensures { (script : Script) (limits : Limits) (h : List Entry) (outcome : Outcome)
         → IsGood script → History script limits h outcome → AtEach (InOrder script) h }
+{}
+
+/// Loops repeat their bodies exactly as often as they say: each goroutine stands, or sleeps, at the instruction whose turn it is in its function's code
+/// with the loops written out.
+pub fn loops_repeat_as_they_say()
+    ensures { (script : Script) (limits : Limits) (h : List Entry) (outcome : Outcome)
+        → IsGood script → History script limits h outcome → AtEach (InTurn script) h }
 {}
 
 /// Nothing comes before its time.
