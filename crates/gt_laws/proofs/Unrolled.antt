@@ -145,8 +145,12 @@ record IsRegion (code : List Instr) (i j low : ℕ) : Type 0 where
   tops : (k depth count past : ℕ) → i ≤ k → k < j → slice_get code k ≡ Some (Instr.LoopTop depth count past) → (low ≤ depth) × (past ≤ j)
   ends : (k depth top : ℕ) → i ≤ k → k < j → slice_get code k ≡ Some (Instr.LoopEnd depth top) → i ≤ top
 
-same-past : (a b c d e f : ℕ) → Some (Instr.LoopTop a b c) ≡ Some (Instr.LoopTop d e f) → c ≡ f
-same-past a b c d e f h = cc
+-- an end whose top this is ends this loop
+own-end : (code : List Instr) (i depth count past k inner top : ℕ) → slice_get code i ≡ Some (Instr.LoopTop depth count past) → IsGoodEnd code k inner top → i ≡ top → past ≡ k + 1
+own-end code i depth count past k inner top on is same = same-past depth count past inner is.count (k + 1) (sym on ∙ (ap (λ m. slice_get code m) same ∙ is.begin))
+  where
+    same-past : (a b c d e f : ℕ) → Some (Instr.LoopTop a b c) ≡ Some (Instr.LoopTop d e f) → c ≡ f
+    same-past a b c d e f h = cc
 
 -- the body of a loop, and what stands behind it
 body-region : (script : Script) (code : List Instr) (i j low depth count past : ℕ) → IsGoodCode script code → IsRegion code i j low → i < j
@@ -169,9 +173,7 @@ body-region script code i j low depth count past good region inside on =
           elim (eqb i top) as (λ b. eqb i top ≡ b → i + 1 ≤ top) [
             | true ↦ λ e.
                 let same : i ≡ top = eqb-true i top e in
-                let again : Some (Instr.LoopTop depth count past) ≡ Some (Instr.LoopTop inner is.count (k + 1)) =
-                sym on ∙ (ap (λ m. slice_get code m) same ∙ is.begin) in
-                let last : past ≡ k + 1 = same-past depth count past inner is.count (k + 1) again in
+                let last : past ≡ k + 1 = own-end code i depth count past k inner top on is same in
                 absurd (omega arith)
             | false ↦ λ e. let differ : i ≡ top → ⊥ = eqb-false i top e in omega arith
           ] refl;
@@ -195,9 +197,7 @@ rest-region script code i j low depth count past good region inside on =
                 elim (eqb i top) as (λ b. eqb i top ≡ b → past ≤ top) [
                   | true ↦ λ e.
                       let same : i ≡ top = eqb-true i top e in
-                      let again : Some (Instr.LoopTop depth count past) ≡ Some (Instr.LoopTop inner is.count (k + 1)) =
-                      sym on ∙ (ap (λ m. slice_get code m) same ∙ is.begin) in
-                      let last : past ≡ k + 1 = same-past depth count past inner is.count (k + 1) again in
+                      let last : past ≡ k + 1 = own-end code i depth count past k inner top on is same in
                       absurd (omega arith)
                   | false ↦ λ e.
                       let differ : i ≡ top → ⊥ = eqb-false i top e in
