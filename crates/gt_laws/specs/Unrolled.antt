@@ -49,7 +49,7 @@ abbrev pub moved_told : ℕ → List Entry → ℕ
 moved_told g h = told (moved_by g) 0 h
 
 -- Each goroutine stands, or sleeps, at the instruction whose turn it is: of its function's code with the loops written out, the one behind as many as
--- it has done. It stands behind the last one where there is none
+-- it has done
 abbrev pub InTurn : Script → List Entry → Entry → Type 0
 InTurn script front e =
     (g : ℕ) → IfSome (place_told script g front) (λ (p : Place). instr_at script p ≡ slice_get (unrolled_code (code_of script p.func)) (moved_told g front))
