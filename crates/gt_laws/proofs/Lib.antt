@@ -10,3 +10,5 @@ pub mod Made
 pub mod Jumps
 pub mod Ends
 pub mod Converse
+pub mod Unrolled
+pub mod Turns

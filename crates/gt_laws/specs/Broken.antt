@@ -57,6 +57,28 @@ one_stop = record {
   main = 0;
 }
 
+-- func main / loop 2 / say 1 / end / end; what it makes with its loop written out
+abbrev pub two_passes : Script
+two_passes = record {
+  decls = (record { name = codes "main"; what = What.Function }) ∷ [];
+  funcs = (record { decl = 0; code = Instr.LoopTop 0 2 3 ∷ Instr.Say 1 ∷ Instr.LoopEnd 0 0 ∷ Instr.Finish ∷ [] }) ∷ [];
+  main = 0;
+}
+
+abbrev pub written_out : List Instr
+written_out = Instr.Say 1 ∷ Instr.Say 1 ∷ Instr.Finish ∷ []
+
+-- the loop of two is passed once, and three times
+abbrev pub one_pass : List Entry
+one_pass = Entry.Say 1 1 ∷ Entry.End 1 ∷ []
+
+abbrev pub third_pass : List Entry
+third_pass = Entry.Say 1 1 ∷ Entry.Say 1 1 ∷ Entry.Say 1 1 ∷ []
+
+-- a goroutine makes a call before it is started
+abbrev pub unstarted : List Entry
+unstarted = Entry.Say 2 1 ∷ Entry.Go 1 2 0 ∷ Entry.End 1 ∷ []
+
 -- it falls asleep while it sleeps; the sleep is shorter than its call says
 abbrev pub asleep_twice : List Entry
 asleep_twice = Entry.Sleep 1 (Some 9) ∷ Entry.Sleep 1 (Some 9) ∷ []

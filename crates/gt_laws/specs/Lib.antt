@@ -3,3 +3,4 @@ pub mod GoesOn
 pub mod Laws
 pub mod Ends
 pub mod Broken
+pub mod Unrolled

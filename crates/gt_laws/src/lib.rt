@@ -8,6 +8,7 @@ ghost use Rattle.gt_model.specs.declared.entry.Limits.{Limits};
 ghost use Rattle.gt_model.specs.declared.entry.Outcome.{Outcome};
 ghost use Rattle.gt_model.specs.declared.state.Ending.{Ending};
 ghost use Rattle.gt_model.specs.Good.{IsGood};
+ghost use Rattle.gt_model.specs.Script.{code_of};
 ghost use Rattle.gt_rules.specs.After.{first_state};
 ghost use Rattle.gt_rules.specs.Counted.{counted};
 ghost use Rattle.gt_rules.specs.History.{AllJump, AllLegal, History, state_after};
@@ -17,6 +18,7 @@ ghost use Rattle.gt_rules.specs.Finish.{IsIdle};
 ghost use Rattle.gt_facts.specs.Still.{IsStill};
 ghost use Rattle.gt_laws.specs.Told.{ending_told};
 ghost use Rattle.gt_laws.specs.Laws.{AtEach, InOrder, InTime, IsFresh, UsesRightly};
+ghost use Rattle.gt_laws.specs.Unrolled.{InTurn, unrolled_code};
 ghost use Rattle.gt_laws.specs.Ends.{EndsRightly, EndsWhereStuck, JumpsToLeast};
 ghost use Rattle.gt_laws.specs.GoesOn.{counted_told, IsStillTold, IsStuckTold};
 ghost use Rattle.gt_laws.specs.Broken as broken;
@@ -25,6 +27,13 @@ ghost use Rattle.gt_laws.specs.Broken as broken;
 pub fn calls_come_in_order()
     ensures { (script : Script) (limits : Limits) (h : List Entry) (outcome : Outcome)
         → IsGood script → History script limits h outcome → AtEach (InOrder script) h }
+{}
+
+/// Loops repeat their bodies exactly as often as they say: each goroutine stands, or sleeps, at the instruction whose turn it is in its function's code
+/// with the loops written out.
+pub fn loops_repeat_as_they_say()
+    ensures { (script : Script) (limits : Limits) (h : List Entry) (outcome : Outcome)
+        → IsGood script → History script limits h outcome → AtEach (InTurn script) h }
 {}
 
 /// Nothing comes before its time.
@@ -109,6 +118,14 @@ pub fn calls_out_of_order_break_the_law()
     ensures asleep_twice { ¬ AtEach (InOrder broken.one_sleep) broken.asleep_twice }
     ensures cut_short { ¬ AtEach (InOrder broken.one_sleep) broken.cut_short }
     ensures number_twice { ¬ AtEach (InOrder broken.one_start) broken.number_twice }
+{}
+
+/// A loop of two that is passed once or three times is no history. Nor is a call of a goroutine that is started later: it is not where its turn is.
+pub fn a_third_pass_breaks_the_law()
+    ensures written_out { unrolled_code (code_of broken.two_passes 0) ≡ broken.written_out }
+    ensures one_pass { ¬ AtEach (InOrder broken.two_passes) broken.one_pass }
+    ensures third_pass { ¬ AtEach (InOrder broken.two_passes) broken.third_pass }
+    ensures unstarted { ¬ AtEach (InTurn broken.one_start) broken.unstarted }
 {}
 
 /// A sleep that ends early is no history, nor is a clock that falls or passes the greatest time, or a look at it that sees another time.

@@ -13,6 +13,7 @@ use Rattle.gt_facts.proofs.Named.{AllNamed-legal}
 use Rattle.gt_laws.proofs.Laws.{each-in_order, each-in_time, each-fresh}
 use Rattle.gt_laws.proofs.Made.{each-uses_rightly}
 use Rattle.gt_laws.proofs.Jumps.{each-jumps}
+use Rattle.gt_laws.proofs.Turns.{each-in_turn}
 use Rattle.gt_laws.proofs.Ends.{each-ends, each-ends_where_stuck}
 use Rattle.gt_book.specs.View.{BookView, IsLawful, outcome_of}
 use Rattle.gt_machine.specs.Outcomes.{outcome_in}
@@ -38,6 +39,7 @@ complete-IsRun script limits b outcome run lawful is =
       complete = complete;
       jumps = jumps;
       in_order = each-in_order script limits b.history outcome good complete;
+      in_turn = each-in_turn script limits b.history outcome good complete;
       in_time = each-in_time script limits b.history outcome good complete;
       fresh = each-fresh script limits b.history outcome good complete;
       uses = each-uses_rightly script limits b.history outcome good complete;
