@@ -89,7 +89,8 @@ fn is_bound(code: &[Instr], place: Place) -> bool
     )
 }
 
-// Most instructions are followed by one that makes an entry.
+// Most instructions are followed by one that makes an entry, so each entry comes here and few go further.
+#[inline(always)]
 fn settled(script: &Script, place: Place) -> Place
     requires { IsGood script.now }
     ensures { result ≡ places.settled script.now place }
