@@ -25,10 +25,11 @@ use Rattle.gt_schedule.specs.declared.scheduler.Scheduler.{Scheduler}
 use Rattle.gt_schedule.specs.declared.status.RunStatus.{RunStatus}
 use Rattle.gt_book.specs.declared.step.Step.{Step}
 use Rattle.gt_machine.specs.Machine.{state_of}
-use Rattle.gt_schedule.specs.Schedule.{Schedule, plainly, status_of, is_in_hand, is_parked, taken, Served}
+use Rattle.gt_schedule.specs.Schedule.{Schedule, plainly, status_of, is_in_hand, is_parked, taken, MayMove, ServedBy, Served}
 use Rattle.gt_schedule.specs.Scheduler.{schedule_of, capacity, IsScheduler}
 use Rattle.gt_schedule.proofs.Moving.{first-queued}
-use Rattle.gt_rules.specs.Change.{change_of}
+use Rattle.gt_rules.specs.Change.{Change, change_of}
+use Rattle.gt_rules.specs.declared.change.Move.{Move}
 use Rattle.gt_book.specs.Steps.{step_of, step_or_panic, step_of_instr}
 use Rattle.gt_book.specs.View.{BookView, IsLawful, Fits, NoneFirm, Agrees, with_entries, with_schedule, outcome_of}
 use Rattle.gt_book.specs.Book.{seen, IsKept}
@@ -203,13 +204,35 @@ makes-may script s m g e h =
 pub in_hand-goes : (o : Option RunStatus) → o ≡ Some RunStatus.InHand → IsTrue (is_in_hand o || is_parked o)
 in_hand-goes o e = ap (λ o. is_in_hand o || is_parked o) e
 
+abbrev pub IsAwake : Move → Type 0
+IsAwake (Move.FallsAsleep until) = ⊥
+IsAwake _ = Unit {0}
+
+-- a change of goroutine g that sets no timer, moves no clock and does not sleep
+pub record IsCall (g : ℕ) (c : Change) : Type 0 where
+  pub move : Move
+  pub mover : c.mover ≡ Some (g, move)
+  pub awake : IsAwake move
+  pub timer : c.timer ≡ None
+  pub clock : c.clock ≡ None
+
+pub calm-call : (s : State) (g : ℕ) (i : Instr) (e : Entry) → step_of_instr s g i ≡ Step.Makes e → IsCall g (change_of e)
+calm-call s g (Instr.Say n) e h = let is : Entry.Say g n ≡ e = cc in subst (λ e. IsCall g (change_of e)) is (record { move = Move.GoesOn 0; mover = refl; awake = tt; timer = refl; clock = refl })
+calm-call s g Instr.Now e h = let is : Entry.Now g (clock_of s g) ≡ e = cc in subst (λ e. IsCall g (change_of e)) is (record { move = Move.GoesOn 0; mover = refl; awake = tt; timer = refl; clock = refl })
+calm-call s g (Instr.Sleep zero) e h = let is : Entry.Sleep g None ≡ e = cc in subst (λ e. IsCall g (change_of e)) is (record { move = Move.GoesOn 0; mover = refl; awake = tt; timer = refl; clock = refl })
+calm-call s g (Instr.Go f) e h = let is : Entry.Go g (length s.goroutines + 1) f ≡ e = cc in subst (λ e. IsCall g (change_of e)) is (record { move = Move.GoesOn 0; mover = refl; awake = tt; timer = refl; clock = refl })
+calm-call s g Instr.Finish e h = let is : Entry.End g ≡ e = cc in subst (λ e. IsCall g (change_of e)) is (record { move = Move.Ends; mover = refl; awake = tt; timer = refl; clock = refl })
+calm-call s g _ e h = cc
+
+in_hand-moves : (o : Option RunStatus) (move : Move) → o ≡ Some RunStatus.InHand → MayMove o move
+in_hand-moves o (Move.GoesOn n) e = in_hand-goes o e
+in_hand-moves o (Move.FallsAsleep until) e = e
+in_hand-moves o Move.Ends e = e
+
 calm-served : (s : State) (m : Schedule) (g : ℕ) (i : Instr) (e : Entry) → step_of_instr s g i ≡ Step.Makes e → status_of m g ≡ Some RunStatus.InHand → Served m e
-calm-served s m g (Instr.Say n) e h in_hand = let is : Entry.Say g n ≡ e = cc in subst (Served m) is (in_hand-goes (status_of m g) in_hand)
-calm-served s m g Instr.Now e h in_hand = let is : Entry.Now g (clock_of s g) ≡ e = cc in subst (Served m) is (in_hand-goes (status_of m g) in_hand)
-calm-served s m g (Instr.Sleep zero) e h in_hand = let is : Entry.Sleep g None ≡ e = cc in subst (Served m) is (in_hand-goes (status_of m g) in_hand)
-calm-served s m g (Instr.Go f) e h in_hand = let is : Entry.Go g (length s.goroutines + 1) f ≡ e = cc in subst (Served m) is (in_hand-goes (status_of m g) in_hand)
-calm-served s m g Instr.Finish e h in_hand = let is : Entry.End g ≡ e = cc in subst (Served m) is in_hand
-calm-served s m g _ e h in_hand = cc
+calm-served s m g i e h in_hand =
+    let call : IsCall g (change_of e) = calm-call s g i e h in
+    subst (ServedBy m) (sym call.mover) (in_hand-moves (status_of m g) call.move in_hand)
 
 pub makes-served : (script : Script) (s : State) (m : Schedule) (g : ℕ) (e : Entry) → step_of script s m g ≡ Some (Step.Makes e) → status_of m g ≡ Some RunStatus.InHand → Served m e
 makes-served script s m g e h in_hand =

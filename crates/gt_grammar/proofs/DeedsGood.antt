@@ -84,8 +84,6 @@ names-setting names script known t r kind is =
 
 -- what stands last is of each instruction that sets a timer
 names_rightly-by : (names : Names) (script : Script) → AllKnown names script → (i : Instr) → Refers names i → NamesRightly script i
-names_rightly-by names script known (Instr.Say n) r = tt
-names_rightly-by names script known Instr.Now r = tt
 names_rightly-by names script known (Instr.Sleep d) r = r
 names_rightly-by names script known (Instr.Go f) r = omega (arith, r.2, func-within script r.0.name r.0.declared (known r.0.name r.0.declared r.0.known) r.1)
 names_rightly-by names script known (Instr.Stop t) r = names-setting names script known t r.0 r.1 r.2
@@ -95,7 +93,9 @@ names_rightly-by names script known (Instr.Recv o) r =
 names_rightly-by names script known (Instr.LoopTop depth count past) r = absurd r
 names_rightly-by names script known (Instr.LoopEnd depth top) r = absurd r
 names_rightly-by names script known Instr.Finish r = absurd r
-names_rightly-by names script known _ r = (names-setting names script known _ r.0 r.1 r.2, r.3)
+names_rightly-by names script known (Instr.New t d) r = (names-setting names script known t r.0 r.1 r.2, r.3)
+names_rightly-by names script known (Instr.Reset t d) r = (names-setting names script known t r.0 r.1 r.2, r.3)
+names_rightly-by names script known _ r = tt
 
 no_finish : (names : Names) (i : Instr) → Refers names i → is_finish i ≡ false
 no_finish names Instr.Finish r = absurd r

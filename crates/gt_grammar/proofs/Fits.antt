@@ -115,12 +115,11 @@ pub fits : (names : Names) (k : Keyword) (w u : List ℕ) (a b : ℕ) → value_
 fits names Keyword.Timer w u a b first second = (refl, refl, tt)
 fits names Keyword.AfterFunc w u a b first second = (refl, refl, function-by names u b (names u) refl second)
 fits names Keyword.Func w u a b first second = (refl, refl, refl)
-fits names Keyword.End w u a b first second = tt
 fits names Keyword.Loop w u a b first second = (refl, refl, passes-most w a first)
-fits names Keyword.Say w u a b first second = tt
-fits names Keyword.Now w u a b first second = tt
 fits names Keyword.Sleep w u a b first second = duration-value w a first
 fits names Keyword.Go w u a b first second = function-by names w a (names w) refl first
 fits names Keyword.Stop w u a b first second = setting-by names w a (names w) refl first
 fits names Keyword.Recv w u a b first second = timer-by names w a (names w) refl first
-fits names _ w u a b first second = let r = setting-by names w a (names w) refl first in (r.0, r.1, r.2, duration-value u b second)
+fits names Keyword.New w u a b first second = let r = setting-by names w a (names w) refl first in (r.0, r.1, r.2, duration-value u b second)
+fits names Keyword.Reset w u a b first second = let r = setting-by names w a (names w) refl first in (r.0, r.1, r.2, duration-value u b second)
+fits names _ w u a b first second = tt

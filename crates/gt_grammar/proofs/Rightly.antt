@@ -45,8 +45,6 @@ pub record Ref (names : Names) : Type 0 where
 
 -- what an instruction names is declared as such
 abbrev pub Refers : Names → Instr → Type 0
-Refers names (Instr.Say n) = Unit {0}
-Refers names Instr.Now = Unit {0}
 Refers names (Instr.Sleep d) = d ≤ greatest_time
 Refers names (Instr.Go f) = (r : Ref names) × (is_kind_function r.declared.kind ≡ true) × (f ≡ r.declared.func)
 Refers names (Instr.New t d) = (r : Ref names) × (is_kind_function r.declared.kind ≡ false) × (t ≡ r.declared.place) × (d ≤ greatest_time)
@@ -56,6 +54,7 @@ Refers names (Instr.Recv o) = (r : Ref names) × (is_kind_timer r.declared.kind 
 Refers names (Instr.LoopTop depth count past) = ⊥
 Refers names (Instr.LoopEnd depth top) = ⊥
 Refers names Instr.Finish = ⊥
+Refers names _ = Unit {0}
 
 abbrev pub Starts : Names → What → Type 0
 Starts names What.Timer = Unit {0}

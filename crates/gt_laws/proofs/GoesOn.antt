@@ -40,15 +40,11 @@ unmade-told script limits h t good legal =
 
 pub misuse-told : (script : Script) (limits : Limits) (h : List Entry) (i : Instr) → IsGood script → AllLegal script limits (first_state script) h
     → fault script (reached script h) i ≡ misuse_told h i
-misuse-told script limits h (Instr.Say n) good legal = refl
-misuse-told script limits h Instr.Now good legal = refl
-misuse-told script limits h (Instr.Sleep d) good legal = refl
-misuse-told script limits h (Instr.Go f) good legal = refl
 misuse-told script limits h (Instr.New t d) good legal = ap (λ b. when b Reason.Twice) (made-told script limits t h good legal)
-misuse-told script limits h (Instr.LoopTop depth count past) good legal = refl
-misuse-told script limits h (Instr.LoopEnd depth top) good legal = refl
-misuse-told script limits h Instr.Finish good legal = refl
-misuse-told script limits h _ good legal = unmade-told script limits h _ good legal
+misuse-told script limits h (Instr.Stop t) good legal = unmade-told script limits h t good legal
+misuse-told script limits h (Instr.Reset t d) good legal = unmade-told script limits h t good legal
+misuse-told script limits h (Instr.Recv o) good legal = unmade-told script limits h o good legal
+misuse-told script limits h _ good legal = refl
 
 done-told : (script : Script) (limits : Limits) (h : List Entry) (w : ℕ) (i : Instr) → IsGood script → AllLegal script limits (first_state script) h
     → is_ready_instr script (reached script h) w i ≡ can_be_done h (clock_told w h) i

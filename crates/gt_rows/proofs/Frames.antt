@@ -1,12 +1,10 @@
 -- What a change by an entry leaves of due times, periods, the program's clock, marks and statuses.
-use Rattle.std.proofs.Common.{◌≡◌, ◌≢◌, inl, inr, ℕ, zero, suc, ◌+◌, ◌-◌, ◌<◌, ◌≤◌, ◌==◌, ◌||◌, cond, List, [], ◌∷◌, ◌++◌, length, set, refl, sym, ap, subst, ◌∙◌, Option, None, Some, Bool, true, false, IsSome, IsSomeAnd, is_some, is_none, nat_lt, slice_index, option_map}
+use Rattle.std.proofs.Common.{◌≡◌, ◌≢◌, inl, inr, ℕ, zero, suc, ◌+◌, ◌-◌, ◌<◌, ◌==◌, ◌||◌, cond, List, [], ◌∷◌, ◌++◌, length, set, refl, sym, ap, subst, ◌∙◌, Option, None, Some, Bool, true, false, IsSome, IfSome, is_some, is_none, nat_lt, slice_index, option_map}
 use Rattle.std.proofs.lemmas.Bool.{cases_eq, eq-eqb, ne_eqb}
 use Rattle.gt_model.specs.declared.script.Script.{Script}
-use Rattle.gt_model.specs.declared.script.Instr.{Instr}
 use Rattle.gt_model.specs.declared.entry.Entry.{Entry}
 use Rattle.gt_model.specs.declared.entry.Limits.{Limits}
 use Rattle.gt_model.specs.declared.entry.Outcome.{Outcome}
-use Rattle.gt_model.specs.declared.entry.Reason.{Reason}
 use Rattle.gt_model.specs.declared.state.Goroutine.{Goroutine}
 use Rattle.gt_model.specs.declared.state.Mode.{Mode}
 use Rattle.gt_model.specs.declared.state.Timer.{Timer}
@@ -14,22 +12,18 @@ use Rattle.gt_model.specs.Good.{IsGood}
 use Rattle.gt_model.specs.Script.{instr_at}
 use Rattle.gt_model.specs.Tables.{numbered, at, change_numbered}
 use Rattle.gt_model.proofs.Items.{at-set_same, at-set_other, at-change_same, at-change_other, numbered-change_same, numbered-change_other, numbered-push_same, numbered-push_other, numbered-next, HasNumber}
-use Rattle.gt_rules.specs.State.{State, goroutine_at, stands_at, timer_at, due_of, sleeps_until, until_of, clock, clock_of}
+use Rattle.gt_rules.specs.State.{State, goroutine_at, timer_at, due_of, sleeps_until, until_of, clock}
 use Rattle.gt_rules.specs.After.{after, changed, moved, set_due, set_again, with_mover, with_starts, started_by, with_retimed, with_clock, retimed}
 use Rattle.gt_rules.specs.Change.{Change, change_of, on, ending_with}
 use Rattle.gt_rules.specs.Finish.{Legal}
 use Rattle.gt_rules.specs.History.{state_after}
-use Rattle.gt_rules.specs.Legal.{May, Does}
-use Rattle.gt_rules.specs.Panics.{fault, fault_at, panic_at, when}
+use Rattle.gt_rules.specs.Panics.{fault}
 use Rattle.gt_rules.specs.Ready.{is_firm, goes_on}
 use Rattle.gt_rules.specs.declared.change.Move.{Move}
 use Rattle.gt_rules.specs.declared.change.Setting.{Setting}
 use Rattle.gt_rules.specs.declared.change.Start.{Start}
 use Rattle.gt_facts.specs.Formed.{IsFormed}
-use Rattle.gt_facts.proofs.Lookups.{Standing, standing, Asleep, sleeper, AtOperation, at_operation}
-use Rattle.gt_facts.proofs.Named.{names-Does}
-use Rattle.gt_facts.proofs.Still.{panic_stands}
-use Rattle.gt_facts.proofs.Within.{setting_within}
+use Rattle.gt_facts.proofs.Fits.{IsLive, FitsTimer, Fits, fits-Legal}
 use Rattle.gt_book.proofs.Passing.{enters-script}
 use Rattle.gt_schedule.specs.declared.status.RunStatus.{RunStatus}
 use Rattle.gt_schedule.proofs.Counting.{Parking, status-parked}
@@ -207,66 +201,20 @@ record TouchesRightly (s : State) (c : Change) : Type 0 where
   mover : MoverIsThere s.goroutines c.mover
   setting : SettingIsRight s.timers c.timer
 
-standing-there : (script : Script) (s : State) (g : ℕ) (i : Instr) → stands_at script s g ≡ Some i → HasNumber s.goroutines g
-standing-there script s g i stands =
-    let st : Standing script s g i = standing script s g i stands in
-    record { item = st.who; there = st.there }
+goer-there : (s : State) (o : Option (ℕ × Move)) → IfSome o (λ (m : ℕ × Move). IsLive s m.0) → MoverIsThere s.goroutines o
+goer-there s None live = tt
+goer-there s (Some x) live = record { item = live.who; there = live.there }
 
--- an instruction without a misuse
-no-reason : (o : Option Reason) → (elim o as (λ o. Option (ℕ × Reason)) [ None ↦ None | Some reason ↦ Some (0, reason) ]) ≡ None → o ≡ None
-no-reason None h = refl
-no-reason (Some reason) h = cc
-
-does-faultless : (script : Script) (s : State) (g : ℕ) (i : Instr) → Does script s g i → fault script s i ≡ None
-does-faultless script s g i does =
-    let here : fault_at script s i ≡ panic_at script s g =
-    ap (λ (o : Option Instr). elim o as (λ o. Option (ℕ × Reason)) [ None ↦ None | Some i ↦ fault_at script s i ]) (sym does.stands) ∙ panic_stands script s g in
-    no-reason (fault script s i) (here ∙ does.calm)
-
-made-unless : (o : Option Timer) → when (is_none o) Reason.Unmade ≡ None → is_some o ≡ true
-made-unless None h = cc
-made-unless (Some r) h = refl
-
-made-set : (o : Option Timer) (due : ℕ) → due_in o ≡ Some due → is_some o ≡ true
-made-set None due h = cc
-made-set (Some r) due h = refl
-
-made-and : (o : Option Timer) (P : Timer → Type 0) → IsSomeAnd o P → is_some o ≡ true
-made-and None P h = absurd h
-made-and (Some r) P h = refl
-
-touches-may : (script : Script) (s : State) (e : Entry) → IsGood script → IsFormed script s → May script s e → TouchesRightly s (change_of e)
-touches-may script s (Entry.Say g n) good formed may = record { mover = standing-there script s g (Instr.Say n) may.stands; setting = tt }
-touches-may script s (Entry.Now g now) good formed may = record { mover = standing-there script s g Instr.Now may.0.stands; setting = tt }
-touches-may script s (Entry.Go g child f) good formed may = record { mover = standing-there script s g (Instr.Go f) may.0.stands; setting = tt }
-touches-may script s (Entry.End g) good formed may = record { mover = standing-there script s g Instr.Finish may.stands; setting = tt }
-touches-may script s (Entry.Sleep g until) good formed may = record { mover = standing-there script s g (Instr.Sleep may.0) may.1.stands; setting = tt }
-touches-may script s (Entry.Wake g) good formed may =
-    let a : Asleep s g = sleeper s g (λ until. until ≤ clock_of s g) may in
-    record { mover = record { item = a.who; there = a.there }; setting = tt }
-touches-may script s (Entry.New g t due) good formed may = record {
-  mover = standing-there script s g (Instr.New t may.0) may.1.stands;
-  setting = setting_within script s t formed (names-Does script s g (Instr.New t may.0) good may.1).0;
-}
-touches-may script s (Entry.Stop g t was) good formed may = record {
-  mover = standing-there script s g (Instr.Stop t) may.0.stands;
-  setting = made-unless (timer_at s t) (does-faultless script s g (Instr.Stop t) may.0);
-}
-touches-may script s (Entry.Reset g t was due) good formed may = record {
-  mover = standing-there script s g (Instr.Reset t may.0) may.1.stands;
-  setting = made-unless (timer_at s t) (does-faultless script s g (Instr.Reset t may.0) may.1);
-}
-touches-may script s (Entry.TRecv p t due next) good formed may =
-    let on : AtOperation script s p t = at_operation script s p t may.0.stands in
-    record { mover = standing-there script s p.g on.instr on.stands; setting = made-set (timer_at s t) due may.2 }
-touches-may script s (Entry.FireFunc t child) good formed may = record { mover = tt; setting = made-and (timer_at s t) _ may.1 }
-touches-may script s (Entry.Clock world to) good formed may = record { mover = tt; setting = tt }
-touches-may script s (Entry.Panic p reason) good formed may = record { mover = tt; setting = tt }
-touches-may script s (Entry.Finish outcome) good formed may = absurd may
+setting-right : (s : State) (o : Option (ℕ × Setting)) → IfSome o (λ (x : ℕ × Setting). FitsTimer s x.0 x.1) → SettingIsRight s.timers o
+setting-right s None fits = tt
+setting-right s (Some (t, Setting.Made due)) fits = fits.0
+setting-right s (Some (t, Setting.SetAnew due)) fits = fits
+setting-right s (Some (t, Setting.Ended next)) fits = fits
 
 touches-legal : (script : Script) (limits : Limits) (s : State) (e : Entry) → IsGood script → IsFormed script s → Legal script limits s e → TouchesRightly s (change_of e)
-touches-legal script limits s (Entry.Finish outcome) good formed legal = record { mover = tt; setting = tt }
-touches-legal script limits s e good formed legal = touches-may script s e good formed legal.1
+touches-legal script limits s e good formed legal =
+    let fits : Fits s (change_of e) = fits-Legal script limits s e good formed legal in
+    record { mover = goer-there s (change_of e).mover fits.mover; setting = setting-right s (change_of e).timer fits.timer }
 
 enters-touches : (old : BookView) (e : Entry) (new : BookView) → IsLawful old → Enters old e new → TouchesRightly old.state (change_of e)
 enters-touches old e new lawful enters = touches-legal old.script old.limits old.state e lawful.good lawful.formed enters.legal.0

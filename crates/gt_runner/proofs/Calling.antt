@@ -1,5 +1,5 @@
 -- What a whole call of a goroutine in hand does to a run.
-use Rattle.std.proofs.Common.{◌≡◌, ◌≢◌, ℕ, zero, suc, ◌+◌, ◌<◌, ◌≤◌, List, [], ◌∷◌, length, set, slice_get, count_by, refl, sym, ap, subst, ◌∙◌, arith, Option, None, Some, IsNone, MatchOption, Bool, true, false, ◌||◌, is_some, inr}
+use Rattle.std.proofs.Common.{◌≡◌, ◌≢◌, ℕ, zero, suc, ◌+◌, ◌<◌, ◌≤◌, List, [], ◌∷◌, length, set, slice_get, count_by, refl, sym, ap, subst, ◌∙◌, arith, Option, None, Some, IsNone, MatchOption, Bool, true, false, ◌||◌, is_some, inr, ◌⊎◌, IfSome}
 use Rattle.std.specs.Option.{option_map}
 use Rattle.std.proofs.lemmas.Option.{slice_get_within}
 use Rattle.gt_model.specs.declared.script.Decl.{Decl}
@@ -38,7 +38,10 @@ use Rattle.gt_book.specs.declared.answers.Did.{Did}
 use Rattle.gt_book.specs.Steps.{set_instr, set_entry, step_of_instr, step_or_panic, Does, Steps}
 use Rattle.gt_book.specs.View.{BookView, Enters, IsLawful, Agrees, outcome_of}
 use Rattle.gt_book.proofs.Fitting.{Known, known}
-use Rattle.gt_book.proofs.Going.{IsStep, step-is, in_hand-goes, makes-served}
+use Rattle.gt_rules.specs.declared.change.Move.{Move}
+use Rattle.gt_rules.specs.declared.change.Setting.{Setting}
+use Rattle.gt_rows.specs.Frames.{until_after}
+use Rattle.gt_book.proofs.Going.{IsStep, step-is, in_hand-goes, makes-served, IsCall, IsAwake, calm-call}
 use Rattle.gt_book.proofs.Setting.{instr-set}
 use Rattle.gt_book.proofs.Passing.{enters-script, enters-limits}
 use Rattle.gt_runner.specs.declared.runner.Runner.{Runner}
@@ -239,14 +242,19 @@ tended-plain x x' e tended lawful enters leaves records_are heap_is noted_is =
     })
 
 -- what a step makes touches no record
+awake-until : (m : Move) → IsAwake m → until_after m ≡ None
+awake-until (Move.GoesOn n) h = refl
+awake-until (Move.FallsAsleep until) h = absurd h
+awake-until Move.Ends h = refl
+
 calm-leaves : (v : BookView) (g : ℕ) (i : Instr) (e : Entry) (j : ℕ) → sleeps_until v.state g ≡ None → step_of_instr v.state g i ≡ Step.Makes e → Leaves v (change_of e) j
-calm-leaves v g (Instr.Say n) e j awake h = let is : Entry.Say g n ≡ e = cc in subst (λ e. Leaves v (change_of e) j) is (record { timer = tt; mover = inr (awake, refl) })
-calm-leaves v g Instr.Now e j awake h = let is : Entry.Now g (clock_of v.state g) ≡ e = cc in subst (λ e. Leaves v (change_of e) j) is (record { timer = tt; mover = inr (awake, refl) })
-calm-leaves v g (Instr.Sleep zero) e j awake h = let is : Entry.Sleep g None ≡ e = cc in subst (λ e. Leaves v (change_of e) j) is (record { timer = tt; mover = inr (awake, refl) })
-calm-leaves v g (Instr.Sleep (suc d)) e j awake h = cc
-calm-leaves v g (Instr.Go f) e j awake h = let is : Entry.Go g (length v.state.goroutines + 1) f ≡ e = cc in subst (λ e. Leaves v (change_of e) j) is (record { timer = tt; mover = inr (awake, refl) })
-calm-leaves v g Instr.Finish e j awake h = let is : Entry.End g ≡ e = cc in subst (λ e. Leaves v (change_of e) j) is (record { timer = tt; mover = inr (awake, refl) })
-calm-leaves v g _ e j awake h = cc
+calm-leaves v g i e j awake h =
+    let call : IsCall g (change_of e) = calm-call v.state g i e h in
+    record {
+      timer = subst (λ (o : Option (ℕ × Setting)). IfSome o (λ x. x.0 ≢ j)) (sym call.timer) tt;
+      mover = subst (λ (o : Option (ℕ × Move)). IfSome o (λ x. (length v.script.decls + x.0 ≢ j) ⊎ ((sleeps_until v.state x.0 ≡ None) × (until_after x.1 ≡ None)))) (sym call.mover)
+          (inr (awake, awake-until call.move call.awake));
+    }
 
 pub makes-leaves : (v : BookView) (g : ℕ) (e : Entry) (j : ℕ) → sleeps_until v.state g ≡ None → next_of v g ≡ Some (Step.Makes e) → Leaves v (change_of e) j
 makes-leaves v g e j awake h =

@@ -1,8 +1,9 @@
 -- One call of a goroutine, and what happens where nobody runs, keep a run.
-use Rattle.std.proofs.Common.{◌≡◌, ℕ, zero, suc, ◌+◌, ◌<◌, [], ◌∷◌, ◌++◌, refl, sym, subst, arith, Option, None, Some, MatchOption, Bool, false, length, length-append, inl, inr, true}
+use Rattle.std.proofs.Common.{◌≡◌, ℕ, ◌+◌, ◌<◌, [], ◌∷◌, ◌++◌, refl, sym, subst, arith, Option, None, Some, MatchOption, Bool, false, length, length-append, inl, inr, true}
 use Rattle.gt_model.specs.declared.entry.Entry.{Entry}
 use Rattle.gt_model.specs.declared.entry.Outcome.{Outcome}
 use Rattle.gt_rules.specs.After.{first_state}
+use Rattle.gt_rules.specs.Change.{change_of}
 use Rattle.gt_rules.specs.History.{ClockJumps}
 use Rattle.gt_book.specs.declared.answers.Did.{Did}
 use Rattle.gt_book.specs.declared.answers.TimerOp.{TimerOp}
@@ -10,12 +11,12 @@ use Rattle.gt_book.specs.declared.step.Step.{Step}
 use Rattle.gt_schedule.specs.Schedule.{plainly, parked_at}
 use Rattle.gt_model.specs.declared.script.Script.{Script}
 use Rattle.gt_model.specs.declared.script.Instr.{Instr}
-use Rattle.gt_rules.specs.State.{State, clock_of}
+use Rattle.gt_rules.specs.State.{State}
 use Rattle.gt_rules.specs.Panics.{fault}
 use Rattle.gt_book.specs.Steps.{step_of, step_of_instr, step_or_panic, Steps, Does, entry_of, is_gone, Commits}
 use Rattle.gt_book.specs.declared.answers.Op.{Op}
 use Rattle.gt_book.specs.declared.answers.Commit.{Commit}
-use Rattle.gt_book.proofs.Going.{IsStep, step-is}
+use Rattle.gt_book.proofs.Going.{IsStep, step-is, calm-call}
 use Rattle.gt_book.specs.View.{BookView, Enters, IsLawful, outcome_of, with_entries, with_schedule}
 use Rattle.gt_book.proofs.Passing.{jumps-append, enters-script, enters-limits, enters-jumps, enters-longer, enters-hands, parked_at-leaves_hand, parked_at-hands, parked_at-queued_count}
 use Rattle.gt_runner.specs.Run.{HandsFree, IsAlone, Passes, Goes, Moves}
@@ -67,14 +68,12 @@ goes-waits old new g t is alone = subst (Goes g old) (sym is) (record {
 })
 
 -- no step moves a clock
+no-clock : (script : Script) (s : State) (e : Entry) → (change_of e).clock ≡ None → ClockJumps script 0 s e
+no-clock script s (Entry.Clock world to) h = cc
+no-clock script s _ h = tt
+
 calm-no_clock : (script : Script) (s : State) (g : ℕ) (i : Instr) (e : Entry) → step_of_instr s g i ≡ Step.Makes e → ClockJumps script 0 s e
-calm-no_clock script s g (Instr.Say n) e h = let is : Entry.Say g n ≡ e = cc in subst (ClockJumps script 0 s) is tt
-calm-no_clock script s g Instr.Now e h = let is : Entry.Now g (clock_of s g) ≡ e = cc in subst (ClockJumps script 0 s) is tt
-calm-no_clock script s g (Instr.Sleep zero) e h = let is : Entry.Sleep g None ≡ e = cc in subst (ClockJumps script 0 s) is tt
-calm-no_clock script s g (Instr.Sleep (suc d)) e h = cc
-calm-no_clock script s g (Instr.Go f) e h = let is : Entry.Go g (length s.goroutines + 1) f ≡ e = cc in subst (ClockJumps script 0 s) is tt
-calm-no_clock script s g Instr.Finish e h = let is : Entry.End g ≡ e = cc in subst (ClockJumps script 0 s) is tt
-calm-no_clock script s g _ e h = cc
+calm-no_clock script s g i e h = no-clock script s e (calm-call s g i e h).clock
 
 pub makes-no_clock : (old : BookView) (g : ℕ) (e : Entry) → step_of old.script old.state old.schedule g ≡ Some (Step.Makes e) → ClockJumps old.script 0 old.state e
 makes-no_clock old g e h =
