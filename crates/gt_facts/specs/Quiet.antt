@@ -1,12 +1,12 @@
 -- Where a program of one world is quiet: nobody could go on, and no time has come.
 use Rattle.std.specs.Prelude.{ℕ, nat_lt, ◌≡◌, Bool, true, not}
-use Rattle.std.specs.List.{list_all}
+use Rattle.std.specs.List.{list_all, enumerate_from}
 use Rattle.std.specs.declared.option.Option.TheVariants.{Some}
 use Rattle.gt_model.specs.declared.script.Script.{Script}
 use Rattle.gt_model.specs.declared.state.Goroutine.{Goroutine}
 use Rattle.gt_model.specs.declared.state.Timer.{Timer}
 use Rattle.gt_rules.specs.State.{State, clock, goroutine_at, timer_at}
-use Rattle.gt_rules.specs.Ready.{is_firm}
+use Rattle.gt_rules.specs.Ready.{is_firm, everyone}
 use Rattle.gt_rules.specs.Counted.{counted}
 
 -- everything belongs to the program
@@ -14,9 +14,9 @@ pub record IsOneWorld (s : State) : Type 0 where
   pub goroutines : (g : ℕ) (r : Goroutine) → goroutine_at s g ≡ Some r → r.world ≡ 0
   pub timers : (t : ℕ) (r : Timer) → timer_at s t ≡ Some r → r.world ≡ 0
 
--- no goroutine is firmly ready
+-- no goroutine is firmly ready, be its partners parked or not
 abbrev pub none_firm : Script → State → Bool
-none_firm script s = list_all (λ (r : Goroutine). not (is_firm script s r)) s.goroutines
+none_firm script s = list_all (λ (e : ℕ × Goroutine). not (is_firm script s everyone e.0 e.1)) (enumerate_from 1 s.goroutines)
 
 -- no counted time of the program is at or below its clock
 abbrev pub none_due : Script → State → Bool

@@ -10,5 +10,5 @@ use Rattle.gt_rules.specs.Ready.{is_due, is_ready}
 
 -- nobody is ready, and no AfterFunc timer has come to its time
 pub record IsStill (script : Script) (s : State) : Type 0 where
-  pub nobody_ready : (g : ℕ) (r : Goroutine) → goroutine_at s g ≡ Some r → is_ready script s r ≡ false
+  pub nobody_ready : (g : ℕ) (r : Goroutine) → goroutine_at s g ≡ Some r → is_ready script s g r ≡ false
   pub no_func_due : (t : ℕ) (r : Timer) → timer_at s t ≡ Some r → IsTrue (is_func script t) → is_due r.due (clock s r.world) ≡ false

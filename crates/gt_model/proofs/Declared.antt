@@ -4,7 +4,7 @@ use Rattle.std.proofs.lemmas.Option.{slice_get_within}
 use Rattle.gt_model.specs.declared.script.Script.{Script}
 use Rattle.gt_model.specs.declared.script.Decl.{Decl}
 use Rattle.gt_model.specs.declared.script.What.{What}
-use Rattle.gt_model.specs.Script.{what_at, is_timer, is_func, names_timer, names_func}
+use Rattle.gt_model.specs.Script.{what_at, is_timer, is_func, is_chan, names_timer, names_func, names_chan}
 use Rattle.gt_model.specs.Good.{is_setting}
 
 pub declared_within : (script : Script) (t : ℕ) (P : Option What → Bool) → P None ≡ false → IsTrue (P (what_at script t)) → t < length script.decls
@@ -20,6 +20,10 @@ declared_at script place what e = declared_within script place is_some refl (rw 
 -- a timer of either kind is declared
 pub setting_declared : (script : Script) (t : ℕ) → IsTrue (is_setting script t) → t < length script.decls
 setting_declared script t h = declared_within script t (λ o. names_timer o || names_func o) refl h
+
+-- and so is a channel
+pub chan_declared : (script : Script) (c : ℕ) → IsTrue (is_chan script c) → c < length script.decls
+chan_declared script c h = declared_within script c names_chan refl h
 
 pub timer_setting : (script : Script) (t : ℕ) → IsTrue (is_timer script t) → IsTrue (is_setting script t)
 timer_setting script t h = rw h refl

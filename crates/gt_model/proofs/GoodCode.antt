@@ -47,6 +47,7 @@ record IsFunctionPlace (ds : List Decl) (i x : ℕ) : Type 0 where
 function_is : (w : What) → is_function w ≡ true → w ≡ What.Function
 function_is What.Timer h = cc
 function_is (What.AfterFunc func) h = cc
+function_is (What.Chan cap) h = cc
 function_is What.Function h = refl
 
 next_place : (d : Decl) (ds : List Decl) (i x : ℕ) → IsFunctionPlace ds (i + 1) x → IsFunctionPlace (d ∷ ds) i x

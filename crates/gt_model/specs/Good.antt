@@ -11,7 +11,7 @@ use Rattle.gt_model.specs.declared.script.What.{What}
 use Rattle.gt_model.specs.declared.script.Instr.{Instr}
 use Rattle.gt_model.specs.Times.{greatest_time}
 use Rattle.gt_model.specs.declared.entry.Limits.{Limits}
-use Rattle.gt_model.specs.Script.{is_timer, is_func}
+use Rattle.gt_model.specs.Script.{is_timer, is_func, is_chan}
 
 -- a timer that is set and stopped: a channel timer or an AfterFunc timer
 abbrev pub is_setting : Script → ℕ → Bool
@@ -36,11 +36,19 @@ is_name (b ∷ bs) = is_letter b && list_all is_name_byte bs && nat_le (length b
 abbrev pub most_passes : ℕ
 most_passes = 1000000
 
+-- the greatest capacity of a channel
+abbrev pub most_capacity : ℕ
+most_capacity = 1024
+
 -- how deep loops may stand in one another
 abbrev pub most_loops : ℕ
 most_loops = 4
 
--- What an instruction names is declared as such, and its times are at most the greatest. A channel timer alone is received from
+-- what is received from: a channel timer or a channel
+abbrev pub gives_values : Script → ℕ → Bool
+gives_values script o = is_timer script o || is_chan script o
+
+-- What an instruction names is declared as such, and its times are at most the greatest
 abbrev pub NamesRightly : Script → Instr → Type 0
 NamesRightly script (Instr.Say n) = Unit {0}
 NamesRightly script Instr.Now = Unit {0}
@@ -49,7 +57,10 @@ NamesRightly script (Instr.Go f) = f < length script.funcs
 NamesRightly script (Instr.New t d) = IsTrue (is_setting script t) × (d ≤ greatest_time)
 NamesRightly script (Instr.Stop t) = IsTrue (is_setting script t)
 NamesRightly script (Instr.Reset t d) = IsTrue (is_setting script t) × (d ≤ greatest_time)
-NamesRightly script (Instr.Recv o) = IsTrue (is_timer script o)
+NamesRightly script (Instr.Recv o) = IsTrue (gives_values script o)
+NamesRightly script (Instr.Make c) = IsTrue (is_chan script c)
+NamesRightly script (Instr.Send c v) = IsTrue (is_chan script c)
+NamesRightly script (Instr.Close c) = IsTrue (is_chan script c)
 NamesRightly script (Instr.LoopTop depth count past) = count ≤ most_passes
 NamesRightly script (Instr.LoopEnd depth top) = Unit {0}
 NamesRightly script Instr.Finish = Unit {0}
@@ -100,11 +111,12 @@ pub record IsGoodCode (script : Script) (code : List Instr) : Type 0 where
   pub loops : (i depth count past : ℕ) → slice_get code i ≡ Some (Instr.LoopTop depth count past) → IsGoodLoop code i depth count past
   pub ends : (i depth top : ℕ) → slice_get code i ≡ Some (Instr.LoopEnd depth top) → IsGoodEnd code i depth top
 
--- a declaration names what it starts
-abbrev pub StartsRightly : Script → What → Type 0
-StartsRightly script What.Timer = Unit {0}
-StartsRightly script (What.AfterFunc func) = func < length script.funcs
-StartsRightly script What.Function = Unit {0}
+-- a declaration names what it starts, and a channel has a capacity that it may have
+abbrev pub DeclaresRightly : Script → What → Type 0
+DeclaresRightly script What.Timer = Unit {0}
+DeclaresRightly script (What.AfterFunc func) = func < length script.funcs
+DeclaresRightly script (What.Chan cap) = cap ≤ most_capacity
+DeclaresRightly script What.Function = Unit {0}
 
 -- the greatest numbers of names, of functions among them, and of instructions that a script may have
 abbrev pub most_names : ℕ
@@ -135,6 +147,7 @@ instruction_count script = sum_by (λ (f : Func). length (filter is_line f.code)
 abbrev pub is_function : What → Bool
 is_function What.Timer = false
 is_function (What.AfterFunc func) = false
+is_function (What.Chan cap) = false
 is_function What.Function = true
 
 -- the places of the functions among declarations, the first of which has the place i
@@ -155,7 +168,7 @@ pub record HasNames (decls : List Decl) : Type 0 where
 pub record IsGood (script : Script) : Type 0 where
   pub main : function_name script script.main ≡ Some (codes "main")
   pub names : HasNames script.decls
-  pub starts : All (λ (d : Decl). StartsRightly script d.what) script.decls
+  pub declares : All (λ (d : Decl). DeclaresRightly script d.what) script.decls
   -- the functions are the declarations of functions, in their order
   pub functions : map (λ (f : Func). f.decl) script.funcs ≡ function_places 0 script.decls
   pub code : All (λ (f : Func). IsGoodCode script f.code) script.funcs

@@ -11,13 +11,14 @@ pub data Part : Type 0 where
   keyword : List ℕ → Part
   goroutine : ℕ → Part
   party : Party → Part
-  -- a number or a time; the second may be missing
+  -- a number, a time or a value; the second may be missing
   number : ℕ → Part
-  time : Option ℕ → Part
-  -- what is named: a channel timer, an AfterFunc timer, a timer of either kind, a function
+  maybe_number : Option ℕ → Part
+  -- what is named: a channel timer, an AfterFunc timer, a timer of either kind, a channel, a function
   timer : ℕ → Part
   after_func : ℕ → Part
   setting : ℕ → Part
+  channel : ℕ → Part
   function : ℕ → Part
   -- whether a timer was set, where that is told
   flag : Option Bool → Part
@@ -30,13 +31,18 @@ parts_of (Entry.Say g n) = keyword (codes "say") ∷ goroutine g ∷ number n �
 parts_of (Entry.Now g at) = keyword (codes "now") ∷ goroutine g ∷ number at ∷ []
 parts_of (Entry.Go g child f) = keyword (codes "go") ∷ goroutine g ∷ goroutine child ∷ function f ∷ []
 parts_of (Entry.End g) = keyword (codes "end") ∷ goroutine g ∷ []
-parts_of (Entry.Sleep g until) = keyword (codes "sleep") ∷ goroutine g ∷ time until ∷ []
+parts_of (Entry.Sleep g until) = keyword (codes "sleep") ∷ goroutine g ∷ maybe_number until ∷ []
 parts_of (Entry.Wake g) = keyword (codes "wake") ∷ goroutine g ∷ []
 parts_of (Entry.New g t due) = keyword (codes "new") ∷ goroutine g ∷ setting t ∷ number due ∷ []
 parts_of (Entry.Stop g t was) = keyword (codes "stop") ∷ goroutine g ∷ setting t ∷ flag was ∷ []
 parts_of (Entry.Reset g t was due) = keyword (codes "reset") ∷ goroutine g ∷ setting t ∷ flag was ∷ number due ∷ []
-parts_of (Entry.TRecv p t due next) = keyword (codes "trecv") ∷ party p ∷ timer t ∷ number due ∷ time next ∷ []
+parts_of (Entry.TRecv p t due next) = keyword (codes "trecv") ∷ party p ∷ timer t ∷ number due ∷ maybe_number next ∷ []
 parts_of (Entry.FireFunc t child) = keyword (codes "fire") ∷ after_func t ∷ goroutine child ∷ []
+parts_of (Entry.Make g c) = keyword (codes "make") ∷ goroutine g ∷ channel c ∷ []
+parts_of (Entry.Send p c v) = keyword (codes "send") ∷ party p ∷ channel c ∷ number v ∷ []
+parts_of (Entry.Recv p c v) = keyword (codes "recv") ∷ party p ∷ channel c ∷ maybe_number v ∷ []
+parts_of (Entry.Pair from to c v) = keyword (codes "pair") ∷ party from ∷ party to ∷ channel c ∷ number v ∷ []
+parts_of (Entry.Close g c) = keyword (codes "close") ∷ goroutine g ∷ channel c ∷ []
 parts_of (Entry.Clock world at) = keyword (codes "clock") ∷ number world ∷ number at ∷ []
 parts_of (Entry.Panic p why) = keyword (codes "panic") ∷ party p ∷ reason why ∷ []
 parts_of (Entry.Finish how) = outcome how ∷ []

@@ -30,11 +30,22 @@ abbrev pub names_func : Option What → Bool
 names_func (Some (What.AfterFunc func)) = true
 names_func _ = false
 
+abbrev pub names_chan : Option What → Bool
+names_chan (Some (What.Chan cap)) = true
+names_chan _ = false
+
 abbrev pub is_timer : Script → ℕ → Bool
 is_timer script t = names_timer (what_at script t)
 
 abbrev pub is_func : Script → ℕ → Bool
 is_func script t = names_func (what_at script t)
+
+-- a channel, and how many values it keeps at most
+abbrev pub is_chan : Script → ℕ → Bool
+is_chan script c = names_chan (what_at script c)
+
+abbrev pub capacity_of : Script → ℕ → ℕ
+capacity_of script c = elim (what_at script c) [ None ↦ 0 | Some what ↦ elim what [ What.Chan cap ↦ cap | _ ↦ 0 ] ]
 
 -- the function that an AfterFunc timer starts
 abbrev pub func_of : Script → ℕ → ℕ

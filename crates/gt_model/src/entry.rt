@@ -71,6 +71,35 @@ pub enum Entry {
         t: u32,
         child: u32,
     },
+    /// A goroutine made a channel.
+    Make {
+        g: u32,
+        c: u32,
+    },
+    /// A goroutine sent a value to a channel with room, which keeps it.
+    Send {
+        p: Party,
+        c: u32,
+        v: u32,
+    },
+    /// A goroutine received the first value that a channel kept; none where the channel is closed and keeps none.
+    Recv {
+        p: Party,
+        c: u32,
+        v: Option<u32>,
+    },
+    /// A goroutine sent a value to another one, which received it, over a channel that keeps none.
+    Pair {
+        from: Party,
+        to: Party,
+        c: u32,
+        v: u32,
+    },
+    /// A goroutine closed a channel.
+    Close {
+        g: u32,
+        c: u32,
+    },
     /// The clock of a world moved to a time. The program is world 0.
     Clock {
         world: u32,
@@ -107,6 +136,8 @@ pub enum Reason {
     Unmade,
     /// The object was made before.
     Twice,
+    /// The channel was closed before.
+    Closed,
 }
 
 /// The most entries that a run may have, its end not counted.

@@ -27,6 +27,8 @@ pub enum What {
     Timer,
     /// An AfterFunc timer, which starts the function at this place in the script's `funcs`.
     AfterFunc { func: u32 },
+    /// A channel that keeps so many values at most: 0 to 1,024.
+    Chan { cap: u32 },
     Function,
 }
 
@@ -56,8 +58,14 @@ pub enum Instr {
     Stop { t: u32 },
     /// Set a timer anew, due after `d` nanoseconds.
     Reset { t: u32, d: u64 },
-    /// Receive from a timer.
+    /// Receive from a timer or a channel.
     Recv { o: u32 },
+    /// Make a channel.
+    Make { c: u32 },
+    /// Send a value to a channel.
+    Send { c: u32, v: u32 },
+    /// Close a channel.
+    Close { c: u32 },
     /// The top of a loop, around which are `depth` other loops of the function: with a count of 0 the loop is passed over, to the index `past`, behind its
     /// end; else its body is passed `count` times. It makes no entry.
     LoopTop { depth: u8, count: u32, past: u32 },
@@ -65,6 +73,15 @@ pub enum Instr {
     LoopEnd { depth: u8, top: u32 },
     /// The end of the function.
     Finish,
+}
+
+/// What a goroutine wants of an object, alone or as a case of its choice. The first number is the place of the object's declaration.
+#[derive(Clone, Copy)]
+pub enum CaseKind {
+    /// To receive from it.
+    Recv(u32),
+    /// To send this value to it.
+    Send(u32, u32),
 }
 
 /// Where a goroutine stands.

@@ -1,5 +1,5 @@
 -- The state after an entry.
-use Rattle.std.specs.Prelude.{ℕ, ◌+◌, List, [], ◌∷◌, ◌++◌, map, set}
+use Rattle.std.specs.Prelude.{ℕ, ◌+◌, true, false, List, [], ◌∷◌, ◌++◌, drop, map, set}
 use Rattle.std.specs.declared.option.Option.{Option}
 use Rattle.std.specs.declared.option.Option.TheVariants.{None, Some}
 use Rattle.gt_model.specs.declared.script.Script.{Script}
@@ -11,12 +11,13 @@ use Rattle.gt_model.specs.declared.state.Mode.{Mode}
 use Rattle.gt_model.specs.declared.state.Timer.{Timer}
 use Rattle.gt_model.specs.declared.state.Ending.{Ending}
 use Rattle.gt_model.specs.Tables.{change, change_numbered}
-use Rattle.gt_rules.specs.State.{State, stands_at, world_of, timer_at}
+use Rattle.gt_rules.specs.State.{State, Channel, stands_at, world_of, timer_at}
 use Rattle.gt_model.specs.Script.{func_of}
 use Rattle.gt_rules.specs.Places.{first_place, place_after}
 use Rattle.gt_rules.specs.declared.change.Move.{Move}
 use Rattle.gt_rules.specs.declared.change.Setting.{Setting}
 use Rattle.gt_rules.specs.declared.change.Start.{Start}
+use Rattle.gt_rules.specs.declared.change.Trade.{Trade}
 use Rattle.gt_rules.specs.Change.{Change, change_of}
 
 abbrev pub in_mode : Mode → Goroutine → Goroutine
@@ -30,6 +31,7 @@ abbrev pub moved : Script → Move → Goroutine → Goroutine
 moved script (Move.GoesOn case_no) r = moved_on script r
 moved script (Move.FallsAsleep until) r = in_mode (Mode.Sleeping until) r
 moved script Move.Ends r = in_mode Mode.Ended r
+moved script Move.Panics r = r
 
 -- a new goroutine at the beginning of function f
 abbrev pub begun : Script → ℕ → ℕ → Goroutine
@@ -71,6 +73,21 @@ retimed script s mover t timers (Setting.Made due) =
 retimed script s mover t timers (Setting.SetAnew due) = change timers t (set_again due (new_period script s (number_of mover) t))
 retimed script s mover t timers (Setting.Ended due) = change timers t (set_due due)
 
+abbrev pub with_items : (List ℕ → List ℕ) → Option Channel → Option Channel
+with_items f None = None
+with_items f (Some r) = Some (record r { items = f r.items })
+
+abbrev pub shut : Option Channel → Option Channel
+shut None = None
+shut (Some r) = Some (record r { closed = true })
+
+-- what becomes of a channel, by somebody of world w
+abbrev pub traded : ℕ → Trade → Option Channel → Option Channel
+traded w Trade.Opened was = Some (record { world = w; items = []; closed = false })
+traded w (Trade.Puts v) was = with_items (λ items. items ++ v ∷ []) was
+traded w Trade.Takes was = with_items (drop 1) was
+traded w Trade.Shut was = shut was
+
 abbrev pub with_mover : Script → List Goroutine → Option (ℕ × Move) → List Goroutine
 with_mover script gs None = gs
 with_mover script gs (Some m) = change_numbered gs m.0 (moved script m.1)
@@ -88,6 +105,10 @@ abbrev pub with_retimed : Script → State → Option (ℕ × Move) → List (Op
 with_retimed script s mover timers None = timers
 with_retimed script s mover timers (Some c) = retimed script s mover c.0 timers c.1
 
+abbrev pub with_traded : State → Option (ℕ × Move) → List (Option Channel) → Option (ℕ × Trade) → List (Option Channel)
+with_traded s mover channels None = channels
+with_traded s mover channels (Some c) = change channels c.0 (traded (world_of s (number_of mover)) c.1)
+
 abbrev pub with_clock : List ℕ → Option (ℕ × ℕ) → List ℕ
 with_clock clocks None = clocks
 with_clock clocks (Some c) = set clocks c.0 c.1
@@ -101,8 +122,9 @@ abbrev pub changed : Script → State → Change → State
 changed script s c = record {
   clocks = with_clock s.clocks c.clock;
   entries = s.entries + c.counted;
-  goroutines = with_starts script s (with_mover script s.goroutines c.mover) c.starts;
+  goroutines = with_starts script s (with_mover script (with_mover script s.goroutines c.mover) c.partner) c.starts;
   timers = with_retimed script s c.mover s.timers c.timer;
+  channels = with_traded s c.mover s.channels c.channel;
   ending = option_or s.ending c.ending;
 }
 
@@ -117,5 +139,6 @@ first_state script = record {
   entries = 0;
   goroutines = begun script 0 script.main ∷ [];
   timers = map (λ (d : Decl). None) script.decls;
+  channels = map (λ (d : Decl). None) script.decls;
   ending = Ending.Running;
 }

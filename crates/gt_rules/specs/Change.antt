@@ -3,25 +3,32 @@ use Rattle.std.specs.Prelude.{ℕ, ◌==◌, cond, List, [], ◌∷◌}
 use Rattle.std.specs.declared.option.Option.{Option}
 use Rattle.std.specs.declared.option.Option.TheVariants.{None, Some}
 use Rattle.gt_model.specs.declared.entry.Entry.{Entry}
+use Rattle.gt_model.specs.declared.entry.Party.{Party}
 use Rattle.gt_model.specs.declared.state.Ending.{Ending}
 use Rattle.gt_rules.specs.declared.change.Move.{Move}
 use Rattle.gt_rules.specs.declared.change.Setting.{Setting}
 use Rattle.gt_rules.specs.declared.change.Start.{Start}
+use Rattle.gt_rules.specs.declared.change.Trade.{Trade}
 
 pub record Change : Type 0 where
-  pub mover : Option (ℕ × Move)  -- a goroutine by its number, and what becomes of it
+  pub mover : Option (ℕ × Move)  -- who makes the entry, by its number, and what becomes of it; of two the sender
+  pub partner : Option (ℕ × Move)  -- the receiver, where two make the entry
   pub timer : Option (ℕ × Setting)  -- a timer by its declaration, and what becomes of it
+  pub channel : Option (ℕ × Trade)  -- a channel by its declaration, and what becomes of it
   pub starts : List Start  -- who are started, in the order of their numbers
   pub clock : Option (ℕ × ℕ)  -- a world, and the time of its clock
   pub ending : Option Ending  -- how far the run is, where the entry says it
   pub counted : ℕ  -- how much of the limit it takes
 
 abbrev pub nothing : Change
-nothing = record { mover = None; timer = None; starts = []; clock = None; ending = None; counted = 1 }
+nothing = record { mover = None; partner = None; timer = None; channel = None; starts = []; clock = None; ending = None; counted = 1 }
 
--- a goroutine goes on after its plain instruction
+-- a goroutine goes on after its plain instruction; a party goes on after its operation
 abbrev pub on : ℕ → Change
 on g = record nothing { mover = Some (g, Move.GoesOn 0) }
+
+abbrev pub goes_on : Party → ℕ × Move
+goes_on p = (p.g, Move.GoesOn p.case_no)
 
 -- who is started, where one is at most
 abbrev pub started : Option Start → List Start
@@ -32,6 +39,11 @@ started (Some start) = start ∷ []
 abbrev pub sleeps : Option ℕ → Move
 sleeps None = Move.GoesOn 0
 sleeps (Some until) = Move.FallsAsleep until
+
+-- a value that is received leaves its channel
+abbrev pub takes : ℕ → Option ℕ → Option (ℕ × Trade)
+takes c None = None
+takes c (Some v) = Some (c, Trade.Takes)
 
 -- the run ends with the function of goroutine 1, which runs main
 abbrev pub ending_with : ℕ → Option Ending
@@ -48,8 +60,13 @@ change_of (Entry.Wake g) = on g
 change_of (Entry.New g t due) = record (on g) { timer = Some (t, Setting.Made due) }
 change_of (Entry.Stop g t was) = record (on g) { timer = Some (t, Setting.Ended None) }
 change_of (Entry.Reset g t was due) = record (on g) { timer = Some (t, Setting.SetAnew due) }
-change_of (Entry.TRecv p t due next) = record nothing { mover = Some (p.g, Move.GoesOn p.case_no); timer = Some (t, Setting.Ended next) }
+change_of (Entry.TRecv p t due next) = record nothing { mover = Some (goes_on p); timer = Some (t, Setting.Ended next) }
 change_of (Entry.FireFunc t child) = record nothing { timer = Some (t, Setting.Ended None); starts = Start.ByTimer t ∷ [] }
+change_of (Entry.Make g c) = record (on g) { channel = Some (c, Trade.Opened) }
+change_of (Entry.Send p c v) = record nothing { mover = Some (goes_on p); channel = Some (c, Trade.Puts v) }
+change_of (Entry.Recv p c v) = record nothing { mover = Some (goes_on p); channel = takes c v }
+change_of (Entry.Pair from to c v) = record nothing { mover = Some (goes_on from); partner = Some (goes_on to) }
+change_of (Entry.Close g c) = record (on g) { channel = Some (c, Trade.Shut) }
 change_of (Entry.Clock world at) = record nothing { clock = Some (world, at) }
-change_of (Entry.Panic p reason) = record nothing { ending = Some Ending.Panicked }
+change_of (Entry.Panic p reason) = record nothing { mover = Some (p.g, Move.Panics); ending = Some Ending.Panicked }
 change_of (Entry.Finish outcome) = record nothing { ending = Some (Ending.Finished outcome); counted = 0 }

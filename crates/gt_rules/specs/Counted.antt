@@ -4,24 +4,19 @@ use Rattle.std.specs.List.{filter_map, list_any, enumerate_from}
 use Rattle.std.specs.declared.option.Option.{Option}
 use Rattle.std.specs.declared.option.Option.TheVariants.{None, Some}
 use Rattle.gt_model.specs.declared.script.Script.{Script}
-use Rattle.gt_model.specs.declared.script.Instr.{Instr}
 use Rattle.gt_model.specs.declared.state.Goroutine.{Goroutine}
 use Rattle.gt_model.specs.declared.state.Timer.{Timer}
 use Rattle.gt_rules.specs.State.{State, until_of, stands}
+use Rattle.gt_rules.specs.Operations.{receives_from, offers}
 use Rattle.gt_model.specs.Script.{is_func}
 
 -- the time until which a goroutine of world w sleeps
 abbrev pub sleep_of : ℕ → Goroutine → Option ℕ
 sleep_of w r = if r.world == w then until_of r.mode else None
 
--- whether an instruction is a receive from this timer
-abbrev pub receives : ℕ → Instr → Bool
-receives t (Instr.Recv o) = o == t
-receives t _ = false
-
 -- whether a goroutine of world w stands at a receive from this timer
 abbrev pub awaits : Script → ℕ → ℕ → Goroutine → Bool
-awaits script w t r = r.world == w && elim (stands script r) [ None ↦ false | Some i ↦ receives t i ]
+awaits script w t r = r.world == w && elim (stands script r) [ None ↦ false | Some i ↦ offers (receives_from t) i ]
 
 abbrev pub is_awaited : Script → State → ℕ → ℕ → Bool
 is_awaited script s w t = list_any (awaits script w t) s.goroutines

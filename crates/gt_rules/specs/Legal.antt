@@ -1,5 +1,5 @@
 -- Which entry may come next.
-use Rattle.std.specs.Prelude.{ℕ, zero, suc, ◌+◌, ◌<◌, ◌≤◌, ◌≡◌, min, Bool, IsTrue, IsSomeAnd, is_some}
+use Rattle.std.specs.Prelude.{ℕ, zero, suc, ◌+◌, ◌<◌, ◌≤◌, ◌≡◌, min, Bool, IsTrue, IsSomeAnd, is_some, ◌≢◌, [], slice_get}
 use Rattle.std.specs.declared.option.Option.{Option}
 use Rattle.std.specs.declared.option.Option.TheVariants.{None, Some}
 use Rattle.gt_model.specs.declared.script.Script.{Script}
@@ -9,8 +9,10 @@ use Rattle.gt_model.specs.Times.{greatest_time}
 use Rattle.gt_model.specs.declared.entry.Party.{Party}
 use Rattle.gt_model.specs.declared.entry.Reason.{Reason}
 use Rattle.gt_model.specs.declared.state.Timer.{Timer}
-use Rattle.gt_rules.specs.State.{State, stands_at, clock, clock_of, sleeps_until, next_number, timer_at, due_of}
-use Rattle.gt_model.specs.Script.{is_timer, is_func}
+use Rattle.gt_model.specs.declared.script.CaseKind.{CaseKind}
+use Rattle.gt_rules.specs.State.{State, stands_at, clock, clock_of, sleeps_until, next_number, timer_at, due_of, items_of, item_count, is_open, is_closed}
+use Rattle.gt_rules.specs.Operations.{operation}
+use Rattle.gt_model.specs.Script.{is_timer, is_func, is_chan, capacity_of}
 use Rattle.gt_rules.specs.Panics.{panic_at}
 use Rattle.gt_rules.specs.Ready.{is_due}
 
@@ -28,17 +30,13 @@ pub record Does (script : Script) (s : State) (g : ℕ) (i : Instr) : Type 0 whe
   pub stands : stands_at script s g ≡ Some i
   pub calm : panic_at script s g ≡ None
 
--- the operation at which an instruction stands under a case number: 0 is a plain one
-abbrev pub operation : Instr → ℕ → Option ℕ
-operation (Instr.Recv o) zero = Some o
-operation _ _ = None
-
-abbrev pub operation_at : Script → State → Party → Option ℕ
+-- the operation at which a party stands
+abbrev pub operation_at : Script → State → Party → Option CaseKind
 operation_at script s p = elim (stands_at script s p.g) [ None ↦ None | Some i ↦ operation i p.case_no ]
 
--- p stands at a receive from this object, and makes no panic
-pub record Receives (script : Script) (s : State) (p : Party) (o : ℕ) : Type 0 where
-  pub stands : operation_at script s p ≡ Some o
+-- p stands at this operation, and makes no panic
+pub record Operates (script : Script) (s : State) (p : Party) (kind : CaseKind) : Type 0 where
+  pub stands : operation_at script s p ≡ Some kind
   pub calm : panic_at script s p.g ≡ None
 
 -- what `stop` and `reset` answer: whether the timer is set
@@ -48,6 +46,11 @@ was_set script s t = Some (is_some (due_of s t))
 -- the due time after a receive of v: a timer that ticks once has none
 abbrev pub LeavesDue : Script → State → ℕ → ℕ → ℕ → Option ℕ → Type 0
 LeavesDue script s now t v next = next ≡ None
+
+-- what a receive from a channel gives: its first value, or none where it is closed and keeps none
+abbrev pub Gives : State → ℕ → Option ℕ → Type 0
+Gives s c None = (items_of s c ≡ []) × IsTrue (is_closed s c)
+Gives s c (Some v) = slice_get (items_of s c) 0 ≡ Some v
 
 -- the misuse of p's goroutine where it stands, with its case number
 abbrev pub MayPanic : Script → State → Party → Reason → Type 0
@@ -71,9 +74,15 @@ May script s (Entry.Stop g t was) = Does script s g (Instr.Stop t) × (was ≡ w
 May script s (Entry.Reset g t was due) =
     (d : ℕ) × Does script s g (Instr.Reset t d) × (was ≡ was_set script s t) × (due ≡ due_at (clock_of s g) d)
 May script s (Entry.TRecv p t due next) =
-    Receives script s p t × IsTrue (is_timer script t) × (due_of s t ≡ Some due) × (due ≤ clock_of s p.g) × LeavesDue script s (clock_of s p.g) t due next
+    Operates script s p (CaseKind.Recv t) × IsTrue (is_timer script t) × (due_of s t ≡ Some due) × (due ≤ clock_of s p.g) × LeavesDue script s (clock_of s p.g) t due next
 May script s (Entry.FireFunc t child) =
     IsTrue (is_func script t) × IsSomeAnd (timer_at s t) (λ (r : Timer). IsTrue (is_due r.due (clock s r.world))) × (child ≡ next_number s)
+May script s (Entry.Make g c) = Does script s g (Instr.Make c)
+May script s (Entry.Send p c v) = Operates script s p (CaseKind.Send c v) × IsTrue (is_open s c) × (item_count s c < capacity_of script c)
+May script s (Entry.Recv p c v) = Operates script s p (CaseKind.Recv c) × IsTrue (is_chan script c) × Gives s c v
+May script s (Entry.Pair from to c v) =
+    Operates script s from (CaseKind.Send c v) × Operates script s to (CaseKind.Recv c) × IsTrue (is_open s c) × (capacity_of script c ≡ 0) × (from.g ≢ to.g)
+May script s (Entry.Close g c) = Does script s g (Instr.Close c)
 May script s (Entry.Clock world to) = MovesClock s world to
 May script s (Entry.Panic p reason) = MayPanic script s p reason
 May script s (Entry.Finish outcome) = ⊥

@@ -1,3 +1,4 @@
+pub mod Operations
 pub mod State
 pub mod Places
 pub mod Panics

@@ -1,24 +1,36 @@
 -- What ends a run: the misuse of an object.
-use Rattle.std.specs.Prelude.{ℕ, Bool, true, false, is_some, is_none}
+use Rattle.std.specs.Prelude.{ℕ, Bool, true, false, not, is_some, is_none}
 use Rattle.std.specs.declared.option.Option.{Option}
 use Rattle.std.specs.declared.option.Option.TheVariants.{None, Some}
 use Rattle.gt_model.specs.declared.script.Script.{Script}
 use Rattle.gt_model.specs.declared.script.Instr.{Instr}
 use Rattle.gt_model.specs.declared.entry.Reason.{Reason}
 use Rattle.gt_model.specs.declared.state.Goroutine.{Goroutine}
-use Rattle.gt_rules.specs.State.{State, stands, goroutine_at, timer_at}
+use Rattle.gt_rules.specs.State.{State, stands, goroutine_at, timer_at, channel_at, is_made, is_closed}
 
 -- the reason, if the test says so
 abbrev pub when : Bool → Reason → Option Reason
 when true reason = Some reason
 when false reason = None
 
+-- the first of two
+abbrev pub or_else : Option Reason → Option Reason → Option Reason
+or_else (Some reason) other = Some reason
+or_else None other = other
+
+-- the use of a channel that was not made, or was closed
+abbrev pub open_fault : State → ℕ → Option Reason
+open_fault s c = or_else (when (is_none (channel_at s c)) Reason.Unmade) (when (is_closed s c) Reason.Closed)
+
 -- the first misuse, of a plain instruction
 abbrev pub fault : Script → State → Instr → Option Reason
 fault script s (Instr.New t d) = when (is_some (timer_at s t)) Reason.Twice
 fault script s (Instr.Stop t) = when (is_none (timer_at s t)) Reason.Unmade
 fault script s (Instr.Reset t d) = when (is_none (timer_at s t)) Reason.Unmade
-fault script s (Instr.Recv o) = when (is_none (timer_at s o)) Reason.Unmade
+fault script s (Instr.Recv o) = when (not (is_made s o)) Reason.Unmade
+fault script s (Instr.Make c) = when (is_some (channel_at s c)) Reason.Twice
+fault script s (Instr.Send c v) = open_fault s c
+fault script s (Instr.Close c) = open_fault s c
 fault script s _ = None
 
 -- the same with its case number, which is 0 for a plain instruction

@@ -1,5 +1,5 @@
 -- The state of the one-thread timer machine, and what is looked up in it.
-use Rattle.std.specs.Prelude.{ℕ, ◌+◌, List, length, slice_index}
+use Rattle.std.specs.Prelude.{ℕ, ◌+◌, Bool, false, not, is_some, ◌||◌, List, [], length, slice_index}
 use Rattle.std.specs.Option.{option_map}
 use Rattle.std.specs.declared.option.Option.{Option}
 use Rattle.std.specs.declared.option.Option.TheVariants.{None, Some}
@@ -12,11 +12,18 @@ use Rattle.gt_model.specs.declared.state.Ending.{Ending}
 use Rattle.gt_model.specs.Tables.{numbered, at}
 use Rattle.gt_model.specs.Script.{instr_at}
 
+-- a channel that was made
+pub record Channel : Type 0 where
+  pub world : ℕ  -- where it was made
+  pub items : List ℕ  -- what was sent and not yet received, the first one first
+  pub closed : Bool
+
 pub record State : Type 0 where
   pub clocks : List ℕ  -- by world: the program is world 0
   pub entries : ℕ  -- how many came before, the end of the run not counted
   pub goroutines : List Goroutine  -- by number, from 1
   pub timers : List (Option Timer)  -- by declaration; none is unmade
+  pub channels : List (Option Channel)  -- by declaration; none is unmade
   pub ending : Ending
 
 abbrev pub goroutine_at : State → ℕ → Option Goroutine
@@ -60,3 +67,24 @@ timer_at s t = at s.timers t
 
 abbrev pub due_of : State → ℕ → Option ℕ
 due_of s t = elim (timer_at s t) [ None ↦ None | Some r ↦ r.due ]
+
+abbrev pub channel_at : State → ℕ → Option Channel
+channel_at s c = at s.channels c
+
+-- the values that a channel keeps, and how many
+abbrev pub items_of : State → ℕ → List ℕ
+items_of s c = elim (channel_at s c) [ None ↦ [] | Some r ↦ r.items ]
+
+abbrev pub item_count : State → ℕ → ℕ
+item_count s c = length (items_of s c)
+
+-- a channel that was closed, and one that was made and not closed
+abbrev pub is_closed : State → ℕ → Bool
+is_closed s c = elim (channel_at s c) [ None ↦ false | Some r ↦ r.closed ]
+
+abbrev pub is_open : State → ℕ → Bool
+is_open s c = elim (channel_at s c) [ None ↦ false | Some r ↦ not r.closed ]
+
+-- a timer or a channel that was made
+abbrev pub is_made : State → ℕ → Bool
+is_made s o = is_some (timer_at s o) || is_some (channel_at s o)

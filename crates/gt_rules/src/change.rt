@@ -3,7 +3,7 @@
 ghost use Rattle.std.specs.Prelude.{◌≡◌};
 ghost use Rattle.gt_rules.specs.Change as table;
 
-use gt_model::{Ending, Entry};
+use gt_model::{Ending, Entry, Party};
 
 /// What becomes of the goroutine that makes an entry.
 #[derive(Clone, Copy)]
@@ -14,6 +14,8 @@ pub enum Move {
     FallsAsleep { until: u64 },
     /// Its function has ended.
     Ends,
+    /// It stays where it is: it misuses an object, and the run ends.
+    Panics,
 }
 
 /// What becomes of a timer.
@@ -27,6 +29,19 @@ pub enum Setting {
     Ended { next: Option<u64> },
 }
 
+/// What becomes of a channel.
+#[derive(Clone, Copy)]
+pub enum Trade {
+    /// It is made, open and empty.
+    Opened,
+    /// It keeps a value more, behind the others.
+    Puts { v: u32 },
+    /// Its first value leaves it.
+    Takes,
+    /// It is closed.
+    Shut,
+}
+
 /// Who starts a goroutine.
 #[derive(Clone, Copy)]
 pub enum Start {
@@ -36,7 +51,14 @@ pub enum Start {
     ByTimer { t: u32 },
 }
 
-/// The goroutine whose place or mode an entry changes, and what becomes of it.
+/// A party goes on.
+fn goes_on(p: Party) -> (u32, Move)
+    ensures { result ≡ table.goes_on p }
+{
+    (p.g, Move::GoesOn { case_no: p.case_no })
+}
+
+/// The goroutine that makes an entry, and what becomes of it; of two the sender.
 pub fn mover_of(entry: &Entry) -> Option<(u32, Move)>
     ensures { result ≡ (table.change_of entry.now).mover }
 {
@@ -49,15 +71,28 @@ pub fn mover_of(entry: &Entry) -> Option<(u32, Move)>
         | Entry::New { g, .. }
         | Entry::Stop { g, .. }
         | Entry::Reset { g, .. }
+        | Entry::Make { g, .. }
+        | Entry::Close { g, .. }
         | Entry::Sleep { g, until: None } => Some((g, Move::GoesOn { case_no })),
-        Entry::TRecv { p, .. } => Some((p.g, Move::GoesOn { case_no: p.case_no })),
+        Entry::TRecv { p, .. } | Entry::Send { p, .. } | Entry::Recv { p, .. } => Some(goes_on(p)),
+        Entry::Pair { from, .. } => Some(goes_on(from)),
         Entry::Sleep {
             g,
             until: Some(until),
         } => Some((g, Move::FallsAsleep { until })),
         Entry::End { g } => Some((g, Move::Ends)),
-        Entry::FireFunc { .. } | Entry::Clock { .. } | Entry::Panic { .. } | Entry::Finish { .. } =>
-            None,
+        Entry::Panic { p, .. } => Some((p.g, Move::Panics)),
+        Entry::FireFunc { .. } | Entry::Clock { .. } | Entry::Finish { .. } => None,
+    }
+}
+
+/// The receiver of a value that passes from one goroutine to another, and what becomes of it.
+pub fn partner_of(entry: &Entry) -> Option<(u32, Move)>
+    ensures { result ≡ (table.change_of entry.now).partner }
+{
+    match *entry {
+        Entry::Pair { to, .. } => Some(goes_on(to)),
+        _ => None,
     }
 }
 
@@ -72,6 +107,19 @@ pub fn timer_of(entry: &Entry) -> Option<(u32, Setting)>
             Some((t, Setting::Ended { next: None }))
         }
         Entry::TRecv { t, next, .. } => Some((t, Setting::Ended { next })),
+        _ => None,
+    }
+}
+
+/// The channel that an entry changes, and what becomes of it.
+pub fn channel_of(entry: &Entry) -> Option<(u32, Trade)>
+    ensures { result ≡ (table.change_of entry.now).channel }
+{
+    match *entry {
+        Entry::Make { c, .. } => Some((c, Trade::Opened)),
+        Entry::Send { c, v, .. } => Some((c, Trade::Puts { v })),
+        Entry::Recv { c, v: Some(_), .. } => Some((c, Trade::Takes)),
+        Entry::Close { c, .. } => Some((c, Trade::Shut)),
         _ => None,
     }
 }

@@ -4,4 +4,7 @@
 
 mod change;
 
-pub use change::{Move, Setting, Start, clock_of, ending_of, mover_of, start_of, timer_of};
+pub use change::{
+    Move, Setting, Start, Trade, channel_of, clock_of, ending_of, mover_of, partner_of, start_of,
+    timer_of,
+};

@@ -6,6 +6,7 @@ use Rattle.gt_model.specs.declared.script.Script.{Script}
 use Rattle.gt_model.specs.declared.entry.Entry.{Entry}
 use Rattle.gt_model.specs.declared.entry.Limits.{Limits}
 use Rattle.gt_model.specs.declared.entry.Party.{Party}
+use Rattle.gt_model.specs.declared.script.CaseKind.{CaseKind}
 use Rattle.gt_model.specs.Tables.{numbered, change_numbered}
 use Rattle.gt_rules.specs.declared.change.Move.{Move}
 use Rattle.gt_rules.specs.declared.change.Start.{Start}
@@ -150,9 +151,18 @@ next_park parks = min (parks + 1) (2 ^ 64 - 1)
 abbrev pub parked : Schedule → ℕ → Schedule
 parked m g = record m { statuses = change_numbered m.statuses g (λ _. RunStatus.Parked m.parks); parks = next_park m.parks }
 
--- a party waits at a receive from t
-abbrev pub parked_at : Schedule → Party → ℕ → Schedule
-parked_at m p t = let next : Schedule = parked m p.g in record next { receivers = joins m.receivers t p }
+-- a party waits at an operation, behind those that wait there
+abbrev pub waiting_at : Schedule → Party → CaseKind → Schedule
+waiting_at m p (CaseKind.Recv o) = record m { receivers = joins m.receivers o p }
+waiting_at m p (CaseKind.Send c v) = record m { senders = joins m.senders c p }
+
+abbrev pub parked_at : Schedule → Party → CaseKind → Schedule
+parked_at m p kind = waiting_at (parked m p.g) p kind
+
+-- the object of an operation
+abbrev pub object_of : CaseKind → ℕ
+object_of (CaseKind.Recv o) = o
+object_of (CaseKind.Send c v) = c
 
 -- the ticket of a goroutine that is parked next
 abbrev pub ticket_of : Schedule → ℕ → Ticket
@@ -184,6 +194,7 @@ abbrev pub turned : Schedule → ℕ → Move → Schedule
 turned m g (Move.GoesOn case_no) = gone_on m g (is_parked (status_of m g))
 turned m g (Move.FallsAsleep until) = parked m g
 turned m g Move.Ends = with_status m g RunStatus.Ended
+turned m g Move.Panics = m
 
 abbrev pub moved_by : Schedule → Option (ℕ × Move) → Schedule
 moved_by m None = m
@@ -195,7 +206,7 @@ begun_by m (x ∷ xs) = begun_by (with_new m) xs
 
 -- what a change does to the schedule
 abbrev pub rescheduled : Schedule → Change → Schedule
-rescheduled m c = begun_by (moved_by m c.mover) c.starts
+rescheduled m c = begun_by (moved_by (moved_by m c.mover) c.partner) c.starts
 
 -- what an entry does to the schedule
 abbrev pub scheduled : Schedule → Entry → Schedule
@@ -205,24 +216,28 @@ abbrev pub schedule_after : Schedule → List Entry → Schedule
 schedule_after m [] = m
 schedule_after m (e ∷ h) = schedule_after (scheduled m e) h
 
--- where a goroutine has to be that moves: in hand, or parked where it goes on
+-- where a goroutine has to be that moves: in hand, or parked where it goes on or panics
 abbrev pub MayMove : Option RunStatus → Move → Type 0
 MayMove status (Move.GoesOn case_no) = IsTrue (is_in_hand status || is_parked status)
 MayMove status (Move.FallsAsleep until) = status ≡ Some RunStatus.InHand
 MayMove status Move.Ends = status ≡ Some RunStatus.InHand
+MayMove status Move.Panics = IsTrue (is_in_hand status || is_parked status)
 
 abbrev pub ServedBy : Schedule → Option (ℕ × Move) → Type 0
 ServedBy m None = Unit {0}
 ServedBy m (Some x) = MayMove (status_of m x.0) x.1
 
--- who makes an entry has it in hand, or waits for it; timers and clocks are nobody's
+-- who makes an entry is in hand, or waits for it, and so is the other one of two; timers and clocks are nobody's
+abbrev pub ServedIn : Schedule → Change → Type 0
+ServedIn m c = ServedBy m c.mover × ServedBy (moved_by m c.mover) c.partner
+
 abbrev pub Served : Schedule → Entry → Type 0
-Served m e = ServedBy m (change_of e).mover
+Served m e = ServedIn m (change_of e)
 
 -- the run queue has exactly those that are queued, each once
 abbrev pub RunsQueued : Schedule → Type 0
 RunsQueued m = (g : ℕ) → times g m.run_queue ≡ as_number (is_queued (status_of m g))
 
--- who stands at a receive is parked
-abbrev pub ReceivesParked : Schedule → Type 0
-ReceivesParked m = (t : ℕ) (p : Party) → is_parked (status_of m p.g) ≡ false → often p (parties_at m.receivers t) ≡ 0
+-- who stands in a list is parked
+abbrev pub AreParked : Schedule → List (List Party) → Type 0
+AreParked m lists = (t : ℕ) (p : Party) → is_parked (status_of m p.g) ≡ false → often p (parties_at lists t) ≡ 0

@@ -9,14 +9,14 @@ ghost use Rattle.gt_rules.specs.Change.{change_of};
 ghost use Rattle.gt_schedule.specs.Counts.{times};
 ghost use Rattle.gt_schedule.specs.declared.status.RunStatus.{RunStatus};
 ghost use Rattle.gt_schedule.specs.Schedule as table;
-ghost use Rattle.gt_schedule.specs.Schedule.{first_schedule, status_of, with_status, with_new, parked, parked_at, unparked, taken, turned, scheduled, is_parked, parties_at, ticket_of, marks_at, marked, unmarked, HasMarkRoom, put_back, given_back, in_hand, is_in_hand, IsLive, RunsQueued, MayMove};
-ghost use Rattle.gt_schedule.specs.Scheduler.{schedule_of, capacity, IsScheduler, IsOrderly, CanApply};
+ghost use Rattle.gt_schedule.specs.Schedule.{first_schedule, status_of, with_status, with_new, parked, parked_at, unparked, taken, turned, scheduled, is_parked, parties_at, ticket_of, marks_at, marked, unmarked, HasMarkRoom, object_of, put_back, given_back, in_hand, is_in_hand, IsLive, RunsQueued, MayMove};
+ghost use Rattle.gt_schedule.specs.Scheduler.{schedule_of, capacity, queue_of, IsScheduler, IsOrderly, CanApply};
 
 use crate::status::{RunStatus, Ticket};
-use gt_model::{Entry, Limits, NoMemory, Party, Script};
+use gt_model::{CaseKind, Entry, Limits, NoMemory, Party, Script};
 use gt_queue::Queues;
 use gt_room::Room;
-use gt_rules::{Move, mover_of, start_of};
+use gt_rules::{Move, mover_of, partner_of, start_of};
 use std::alloc::Global;
 
 /// The number of the run queue.
@@ -27,7 +27,10 @@ const RUN_QUEUE: u32 = 0;
 pub struct Scheduler {
     /// Where each goroutine is; number 1 is at place 0.
     pub statuses: Room<RunStatus>,
-    /// The run queue, and then for each declaration those that are parked at a receive from it, by goroutine number.
+    /// How many names are declared.
+    pub declared: u32,
+    /// The run queue; then for each declaration those that are parked at a receive from it, and behind them for each declaration those that are
+    /// parked at a send to it, by goroutine number.
     pub queues: Queues,
     /// How many times a goroutine was parked.
     pub parks: u64,
@@ -76,11 +79,12 @@ impl Scheduler {
         statuses.put(RunStatus::Queued);
         let mut marks = Room::with_room(alloc, most).map_err(|_| NoMemory)?;
         marks.put(None);
-        let count = script.decls.as_slice().len() + 1;
-        let mut queues = Queues::with_room(alloc, count, most + 1).map_err(|_| NoMemory)?;
+        let declared = script.decls.as_slice().len();
+        let mut queues = Queues::with_room(alloc, declared + declared + 1, most + 1).map_err(|_| NoMemory)?;
         queues.enqueue(RUN_QUEUE, 1);
         Ok(Scheduler {
             statuses,
+            declared: declared as u32,
             queues,
             parks: 0,
             running: 0,
@@ -120,14 +124,27 @@ impl Scheduler {
         self.running -= 1;
     }
 
-    /// A goroutine that was in hand waits at a receive from `t` from now on. The answer is the ticket of this parking.
-    pub fn park_at(&mut self, g: u32, t: u32) -> Ticket
+    /// The queue of those that are parked at an operation.
+    fn queue_of(&self, kind: CaseKind) -> u32
+        requires kept { IsScheduler self.now }
+        requires declared { object_of kind < length (schedule_of self.now).receivers }
+        ensures within { result < length self.now.queues.queues }
+        ensures side { result ≡ queue_of self.now.declared kind }
+    {
+        match kind {
+            CaseKind::Recv(o) => 1 + o,
+            CaseKind::Send(c, _) => 1 + self.declared + c,
+        }
+    }
+
+    /// A goroutine that was in hand waits at an operation from now on, behind those that wait there. The answer is the ticket of this parking.
+    pub fn park_at(&mut self, g: u32, kind: CaseKind) -> Ticket
         requires kept { IsScheduler self.old }
         requires orderly { IsOrderly (schedule_of self.old) }
         requires in_hand { status_of (schedule_of self.old) g ≡ Some RunStatus.InHand }
-        requires declared { t < length (schedule_of self.old).receivers }
+        requires declared { object_of kind < length (schedule_of self.old).receivers }
         ensures ticket { result ≡ ticket_of (schedule_of self.old) g }
-        ensures schedule { schedule_of self.new ≡ parked_at (schedule_of self.old) (table.plainly g) t }
+        ensures schedule { schedule_of self.new ≡ parked_at (schedule_of self.old) (table.plainly g) kind }
         ensures room { capacity self.new ≡ capacity self.old }
         ensures kept { IsScheduler self.new }
     {
@@ -136,7 +153,8 @@ impl Scheduler {
             turn: self.parks,
         };
         self.park(g);
-        self.queues.enqueue(t + 1, g);
+        let queue = self.queue_of(kind);
+        self.queues.enqueue(queue, g);
         ticket
     }
 
@@ -184,6 +202,7 @@ impl Scheduler {
             }
             Move::FallsAsleep { .. } => self.park(g),
             Move::Ends => self.end(g),
+            Move::Panics => {}
         }
     }
 
@@ -210,6 +229,9 @@ impl Scheduler {
         ensures kept { IsScheduler self.new }
     {
         if let Some((g, step)) = mover_of(entry) {
+            self.turn(g, step);
+        }
+        if let Some((g, step)) = partner_of(entry) {
             self.turn(g, step);
         }
         if start_of(entry).is_some() {
@@ -299,7 +321,7 @@ impl Scheduler {
         self.statuses.as_slice().get(place).copied()
     }
 
-    /// Whether a goroutine waits: at a receive, or in its sleep.
+    /// Whether a goroutine waits: at an operation, or in its sleep.
     pub fn is_parked(&self, g: u32) -> bool
         ensures { result ≡ is_parked (status_of (schedule_of self.now) g) }
     {
@@ -320,6 +342,15 @@ impl Scheduler {
         ensures { result ≡ slice_get (parties_at (schedule_of self.now).receivers t) 0 }
     {
         self.queues.first(t + 1).map(plainly)
+    }
+
+    /// The party that has waited longest at a send to `c`, or None where nobody waits there.
+    pub fn first_sender(&self, c: u32) -> Option<Party>
+        requires kept { IsScheduler self.now }
+        requires declared { c < length (schedule_of self.now).senders }
+        ensures { result ≡ slice_get (parties_at (schedule_of self.now).senders c) 0 }
+    {
+        self.queues.first(1 + self.declared + c).map(plainly)
     }
 
     /// How many goroutines are in workers' hands.

@@ -7,7 +7,7 @@ pub enum RunStatus {
     Queued,
     /// A worker has it in hand.
     InHand,
-    /// It waits, at a receive or in its sleep.
+    /// It waits, at an operation or in its sleep.
     Parked {
         /// How many times a goroutine was parked before it was.
         since: u64,

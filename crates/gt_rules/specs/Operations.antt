@@ -1,0 +1,27 @@
+-- The operations of an instruction: what a party receives from, or sends to.
+use Rattle.std.specs.Prelude.{ℕ, zero, ◌==◌, Bool, false}
+use Rattle.std.specs.declared.option.Option.{Option}
+use Rattle.std.specs.declared.option.Option.TheVariants.{None, Some}
+use Rattle.gt_model.specs.declared.script.Instr.{Instr}
+use Rattle.gt_model.specs.declared.script.CaseKind.{CaseKind}
+
+-- the operation at which an instruction stands under a case number: 0 is a plain one
+abbrev pub operation : Instr → ℕ → Option CaseKind
+operation (Instr.Recv o) zero = Some (CaseKind.Recv o)
+operation (Instr.Send c v) zero = Some (CaseKind.Send c v)
+operation _ _ = None
+
+-- whether an operation is a receive from this object, or a send to it
+abbrev pub receives_from : ℕ → CaseKind → Bool
+receives_from o (CaseKind.Recv p) = p == o
+receives_from o (CaseKind.Send c v) = false
+
+abbrev pub sends_to : ℕ → CaseKind → Bool
+sends_to o (CaseKind.Recv p) = false
+sends_to o (CaseKind.Send c v) = c == o
+
+-- whether an operation of an instruction passes a test
+abbrev pub offers : (CaseKind → Bool) → Instr → Bool
+offers test (Instr.Recv o) = test (CaseKind.Recv o)
+offers test (Instr.Send c v) = test (CaseKind.Send c v)
+offers test _ = false
