@@ -5,50 +5,65 @@ use Rattle.std.proofs.lemmas.List.{get_or_past, length-set, length-replicate}
 use Rattle.std.proofs.Math.ListN.{length-append}
 use Rattle.gt_model.specs.declared.script.Script.{Script}
 use Rattle.gt_model.specs.declared.script.Instr.{Instr}
+use Rattle.gt_model.specs.declared.script.CaseKind.{CaseKind}
 use Rattle.gt_model.specs.declared.entry.Entry.{Entry}
 use Rattle.gt_model.specs.declared.entry.Party.{Party}
 use Rattle.gt_model.specs.declared.state.Goroutine.{Goroutine}
 use Rattle.gt_model.specs.declared.state.Mode.{Mode}
-use Rattle.gt_model.specs.Tables.{numbered, change_numbered}
+use Rattle.gt_model.specs.Tables.{numbered, change, change_numbered}
 use Rattle.gt_model.proofs.Changes.{length-change_numbered}
 use Rattle.gt_model.proofs.Items.{numbered-change_same, numbered-change_other, numbered-push_same, numbered-push_other, HasNumber, has_number, numbered-next}
 use Rattle.gt_rules.specs.State.{State, goroutine_at, stands, stands_at}
 use Rattle.gt_rules.specs.After.{after, changed, first_state, moved, begun, with_mover, with_starts, started_by}
 use Rattle.gt_rules.specs.Change.{Change, change_of}
-use Rattle.gt_rules.specs.Legal.{operation}
+use Rattle.gt_rules.specs.Operations.{operation, receives_from, sends_to}
 use Rattle.gt_rules.specs.declared.change.Move.{Move}
 use Rattle.gt_rules.specs.declared.change.Start.{Start}
 use Rattle.gt_facts.proofs.Lookups.{Standing, standing, Asleep}
 use Rattle.gt_schedule.specs.declared.status.RunStatus.{RunStatus}
 use Rattle.gt_schedule.specs.Counts.{as_number, times, is_party, often}
-use Rattle.gt_schedule.specs.Schedule.{Schedule, first_schedule, plainly, status_of, is_queued, is_in_hand, is_parked, parties_at, without_goroutine, joins, taken, parked_at, unparked, with_new, gone_on, turned, moved_by, begun_by, rescheduled, scheduled, MayMove, ServedBy, Served}
+use Rattle.gt_schedule.specs.Schedule.{Schedule, first_schedule, plainly, status_of, is_queued, is_in_hand, is_parked, parties_at, without_goroutine, joins, taken, parked_at, unparked, with_new, gone_on, turned, moved_by, begun_by, rescheduled, scheduled, object_of, MayMove, ServedBy, ServedIn, Served}
 use Rattle.gt_schedule.specs.Scheduler.{IsOrderly}
-use Rattle.gt_schedule.proofs.Lists.{times-one_other, times-push_same, times-push_other, times-first_same, times-first_other, is_party-other, often-push, often-without_same, often-without_other, often-first, parties-joins_same, parties-joins_other, parties-without, without-nobody}
+use Rattle.gt_schedule.proofs.Lists.{times-one_other, times-push_same, times-push_other, times-first_same, times-first_other, is_party-other, often-push, often-first, parties-joins_same, nobody-there, length-joins, length-left, often-joins_elsewhere, often-joins_other, often-left_same, often-left_other}
 use Rattle.gt_schedule.proofs.Counting.{Parking, status-parked}
 use Rattle.gt_schedule.proofs.Moving.{first-queued}
-use Rattle.gt_book.specs.View.{Agrees, is_at_receive, is_parked_at, Fits}
+use Rattle.gt_book.specs.View.{Agrees, is_waiting, is_at, is_parked_at, Fits}
 
 -- ---- the facts of one goroutine
 
--- whether a goroutine stands at a receive from t under a case number
-abbrev pub awaits_at : Script → Option Goroutine → ℕ → ℕ → Bool
-awaits_at script o n t =
-    elim (elim (elim o as (λ x. Option Instr) [ None ↦ None | Some r ↦ stands script r ]) as (λ x. Option ℕ) [ None ↦ None | Some i ↦ operation i n ]) [ None ↦ false | Some u ↦ eqb u t ]
+-- whether a goroutine stands, under a case number, at an operation that passes a test
+abbrev pub at_case : Script → Option Goroutine → ℕ → (CaseKind → Bool) → Bool
+at_case script o n test =
+    elim (elim (elim o as (λ x. Option Instr) [ None ↦ None | Some r ↦ stands script r ]) as (λ x. Option CaseKind) [ None ↦ None | Some i ↦ operation i n ]) [
+      | None ↦ false
+      | Some kind ↦ test kind
+    ]
 
 abbrev party : ℕ → ℕ → Party
 party g n = record { g = g; case_no = n }
+
+-- the lists have a goroutine exactly where it is parked at an operation that passes the test of its declaration
+abbrev pub InLists : Script → List (List Party) → ℕ → Option Goroutine → Option RunStatus → (ℕ → CaseKind → Bool) → Type 0
+InLists script lists g o status test =
+    (t n : ℕ) → t < length script.decls → often (party g n) (parties_at lists t) ≡ as_number (is_parked status && at_case script o n (test t))
 
 -- a goroutine fits its status, and stands where its status says
 pub record FitsOne (script : Script) (m : Schedule) (g : ℕ) (o : Option Goroutine) (status : Option RunStatus) : Type 0 where
   pub agree : (r : Goroutine) (x : RunStatus) → o ≡ Some r → status ≡ Some x → Agrees r.mode x
   pub queued : times g m.run_queue ≡ as_number (is_queued status)
-  pub waiting : (t n : ℕ) → t < length script.decls → often (party g n) (parties_at m.receivers t) ≡ as_number (is_parked status && awaits_at script o n t)
+  pub waiting : InLists script m.receivers g o status receives_from
+  pub sending : InLists script m.senders g o status sends_to
 
 pub fits-one : (script : Script) (s : State) (m : Schedule) (g : ℕ) → Fits script s m → FitsOne script m g (goroutine_at s g) (status_of m g)
-fits-one script s m g fits = record { agree = fits.agree g; queued = fits.queued g; waiting = λ t n h. fits.waiting t (party g n) h }
+fits-one script s m g fits = record {
+  agree = fits.agree g;
+  queued = fits.queued g;
+  waiting = λ t n h. fits.waiting t (party g n) h;
+  sending = λ c n h. fits.sending c (party g n) h;
+}
 
 pub fits-from_each : (script : Script) (s : State) (m : Schedule) → length m.statuses ≡ length s.goroutines → length m.receivers ≡ length script.decls
-    → m.senders ≡ replicate (length script.decls) [] → ((g : ℕ) → FitsOne script m g (goroutine_at s g) (status_of m g)) → Fits script s m
+    → length m.senders ≡ length script.decls → ((g : ℕ) → FitsOne script m g (goroutine_at s g) (status_of m g)) → Fits script s m
 fits-from_each script s m as_many receivers senders each = record {
   as_many = as_many;
   receivers = receivers;
@@ -56,6 +71,7 @@ fits-from_each script s m as_many receivers senders each = record {
   agree = λ g. (each g).agree;
   queued = λ g. (each g).queued;
   waiting = λ t p h. (each p.g).waiting t p.case_no h;
+  sending = λ c p h. (each p.g).sending c p.case_no h;
 }
 
 -- what is known of a goroutine and its status
@@ -65,15 +81,17 @@ one-is script m g o p x y e f one = subst (λ o. FitsOne script m g o x) (sym e)
 -- a goroutine with its status
 pub one-of : (script : Script) (m : Schedule) (g : ℕ) (r : Goroutine) (x : RunStatus) → Agrees r.mode x
     → times g m.run_queue ≡ as_number (is_queued (Some x))
-    → ((t n : ℕ) → t < length script.decls → often (party g n) (parties_at m.receivers t) ≡ as_number (is_parked (Some x) && awaits_at script (Some r) n t))
+    → InLists script m.receivers g (Some r) (Some x) receives_from
+    → InLists script m.senders g (Some r) (Some x) sends_to
     → FitsOne script m g (Some r) (Some x)
-one-of script m g r x agrees in_run in_lists = record {
+one-of script m g r x agrees in_run in_receivers in_senders = record {
   agree = λ q y e f.
       let same : r ≡ q = cc in
       let known : x ≡ y = cc in
       subst (λ (q : Goroutine). Agrees q.mode y) same (subst (λ (y : RunStatus). Agrees r.mode y) known agrees);
   queued = in_run;
-  waiting = in_lists;
+  waiting = in_receivers;
+  sending = in_senders;
 }
 
 -- ---- the number and the status of a goroutine come together
@@ -109,14 +127,15 @@ pub fits-changes : (script : Script) (s next : State) (m n : Schedule) (g : ℕ)
     → Fits script s m
     → length n.statuses ≡ length next.goroutines
     → length n.receivers ≡ length m.receivers
-    → n.senders ≡ m.senders
+    → length n.senders ≡ length m.senders
     → ((x : ℕ) → x ≢ g → goroutine_at next x ≡ goroutine_at s x)
     → ((x : ℕ) → x ≢ g → status_of n x ≡ status_of m x)
     → ((x : ℕ) → x ≢ g → times x n.run_queue ≡ times x m.run_queue)
     → ((t : ℕ) (p : Party) → p.g ≢ g → often p (parties_at n.receivers t) ≡ often p (parties_at m.receivers t))
+    → ((t : ℕ) (p : Party) → p.g ≢ g → often p (parties_at n.senders t) ≡ often p (parties_at m.senders t))
     → FitsOne script n g (goroutine_at next g) (status_of n g)
     → Fits script next n
-fits-changes script s next m n g fits as_many receivers senders others statuses in_run in_lists one =
+fits-changes script s next m n g fits as_many receivers senders others statuses in_run in_receivers in_senders one =
     fits-from_each script next n as_many (receivers ∙ fits.receivers) (senders ∙ fits.senders) (λ x.
     elim (cases_eq x g) [
       | inl e ↦ subst (λ x. FitsOne script n x (goroutine_at next x) (status_of n x)) (sym e) one
@@ -126,7 +145,8 @@ fits-changes script s next m n g fits as_many receivers senders others statuses 
           (record {
             agree = before.agree;
             queued = in_run x k ∙ before.queued;
-            waiting = λ t c h. in_lists t (party x c) k ∙ before.waiting t c h;
+            waiting = λ t c h. in_receivers t (party x c) k ∙ before.waiting t c h;
+            sending = λ t c h. in_senders t (party x c) k ∙ before.sending t c h;
           })
     ])
 
@@ -155,16 +175,17 @@ fits-goes_on script s next m g f fits in_hand is agrees =
     (λ x n. refl)
     (λ x n. refl)
     (λ t p n. refl)
+    (λ t p n. refl)
     (one-is script m g (goroutine_at next g) (Some (f k.who)) (status_of m g) (Some RunStatus.InHand)
     (ap (λ gs. numbered gs g) is ∙ numbered-change_same s.goroutines g f k.who k.there) in_hand
-    (one-of script m g (f k.who) RunStatus.InHand (agrees k.who) k.one.queued k.one.waiting))
+    (one-of script m g (f k.who) RunStatus.InHand (agrees k.who) k.one.queued k.one.waiting k.one.sending))
 
--- it leaves the hand, and stands at no receive
+-- it leaves the hand, and stands at no operation
 fits-leaves_hand : (script : Script) (s next : State) (m : Schedule) (parks g : ℕ) (f : Goroutine → Goroutine) (x : RunStatus) → Fits script s m → status_of m g ≡ Some RunStatus.InHand
     → next.goroutines ≡ change_numbered s.goroutines g f
     → ((r : Goroutine) → Agrees (f r).mode x)
     → is_queued (Some x) ≡ false
-    → ((r : Goroutine) (t n : ℕ) → as_number (is_parked (Some x) && awaits_at script (Some (f r)) n t) ≡ 0)
+    → ((r : Goroutine) (n : ℕ) (test : CaseKind → Bool) → as_number (is_parked (Some x) && at_case script (Some (f r)) n test) ≡ 0)
     → Fits script next (record m { statuses = change_numbered m.statuses g (λ _. x); parks = parks })
 fits-leaves_hand script s next m parks g f x fits in_hand is agrees not_queued nowhere =
     let k : Known script s m g RunStatus.InHand = known script s m g RunStatus.InHand fits in_hand in
@@ -177,11 +198,13 @@ fits-leaves_hand script s next m parks g f x fits in_hand is agrees not_queued n
     (λ y other. numbered-change_other m.statuses g y (λ _. x) other)
     (λ y other. refl)
     (λ t p other. refl)
+    (λ t p other. refl)
     (one-is script n g (goroutine_at next g) (Some (f k.who)) (status_of n g) (Some x)
     (ap (λ gs. numbered gs g) is ∙ numbered-change_same s.goroutines g f k.who k.there)
     (numbered-change_same m.statuses g (λ _. x) RunStatus.InHand in_hand)
     (one-of script n g (f k.who) x (agrees k.who) (k.one.queued ∙ sym (ap as_number not_queued))
-    (λ t c h. k.one.waiting t c h ∙ sym (nowhere k.who t c))))
+    (λ t c h. k.one.waiting t c h ∙ sym (nowhere k.who c (receives_from t)))
+    (λ t c h. k.one.sending t c h ∙ sym (nowhere k.who c (sends_to t)))))
 
 -- ---- a goroutine that waited goes on
 
@@ -191,26 +214,22 @@ fits-unparked script s next m g f fits waits is agrees =
     let was : Parking (status_of m g) = status-parked (status_of m g) waits in
     let k : Known script s m g (RunStatus.Parked was.since) = known script s m g (RunStatus.Parked was.since) fits was.is in
     let n : Schedule = unparked m g in
-    let left : map (without_goroutine g) m.senders ≡ m.senders =
-    ap (map (without_goroutine g)) fits.senders ∙ (without-nobody g (length script.decls) ∙ sym fits.senders) in
     fits-changes script s next m n g fits
     (length-change_numbered m.statuses g (λ _. RunStatus.Queued) ∙ (fits.as_many ∙ sym (ap length is ∙ length-change_numbered s.goroutines g f)))
-    (lists-left g m.receivers)
-    left
+    (length-left g m.receivers)
+    (length-left g m.senders)
     (λ y other. ap (λ gs. numbered gs y) is ∙ numbered-change_other s.goroutines g y f other)
     (λ y other. numbered-change_other m.statuses g y (λ _. RunStatus.Queued) other)
     (λ y other. times-push_other y g m.run_queue other)
-    (λ t p other. ap (often p) (parties-without g m.receivers t) ∙ often-without_other p g (parties_at m.receivers t) other)
+    (λ t p other. often-left_other g m.receivers t p other)
+    (λ t p other. often-left_other g m.senders t p other)
     (one-is script n g (goroutine_at next g) (Some (f k.who)) (status_of n g) (Some RunStatus.Queued)
     (ap (λ gs. numbered gs g) is ∙ numbered-change_same s.goroutines g f k.who k.there)
     (numbered-change_same m.statuses g (λ _. RunStatus.Queued) (RunStatus.Parked was.since) was.is)
     (one-of script n g (f k.who) RunStatus.Queued (agrees k.who)
     (times-push_same g m.run_queue ∙ ap (λ n. n + 1) k.one.queued)
-    (λ t c h. ap (often (party g c)) (parties-without g m.receivers t) ∙ often-without_same (party g c) g (parties_at m.receivers t) refl)))
-  where
-    lists-left : (g : ℕ) (lists : List (List Party)) → length (map (without_goroutine g) lists) ≡ length lists
-    lists-left g [] = refl
-    lists-left g (x ∷ xs) = ap suc (lists-left g xs)
+    (λ t c h. often-left_same g m.receivers t (party g c) refl)
+    (λ t c h. often-left_same g m.senders t (party g c) refl)))
 
 -- ---- every move
 
@@ -231,14 +250,25 @@ fits-gone_on script s m g n true e fits may =
 fits-gone_on script s m g n false e fits may =
     fits-goes_on script s (with_goroutines s (change_numbered s.goroutines g (moved script (Move.GoesOn n)))) m g (moved script (Move.GoesOn n)) fits (hand-is (status_of m g) e may) refl (λ r. tt)
 
+-- a change to the same changes nothing
+same-change : {X : Type 0} (xs : List X) (i : ℕ) → change xs i (λ x. x) ≡ xs
+same-change [] i = refl
+same-change (x ∷ xs) zero = refl
+same-change (x ∷ xs) (suc i) = ap (λ ys. x ∷ ys) (same-change xs i)
+
+pub unchanged : {X : Type 0} (xs : List X) (g : ℕ) → change_numbered xs g (λ x. x) ≡ xs
+unchanged xs zero = refl
+unchanged xs (suc i) = same-change xs i
+
 fits-turned : (script : Script) (s : State) (m : Schedule) (g : ℕ) (move : Move) → Fits script s m → MayMove (status_of m g) move
     → Fits script (with_goroutines s (change_numbered s.goroutines g (moved script move))) (turned m g move)
 fits-turned script s m g (Move.GoesOn n) fits may = fits-gone_on script s m g n (is_parked (status_of m g)) refl fits may
 fits-turned script s m g (Move.FallsAsleep until) fits may =
     fits-leaves_hand script s (with_goroutines s (change_numbered s.goroutines g (moved script (Move.FallsAsleep until)))) m _ g (moved script (Move.FallsAsleep until)) (RunStatus.Parked m.parks)
-    fits may refl (λ r. tt) refl (λ r t n. refl)
+    fits may refl (λ r. tt) refl (λ r n test. refl)
 fits-turned script s m g Move.Ends fits may =
-    fits-leaves_hand script s (with_goroutines s (change_numbered s.goroutines g (moved script Move.Ends))) m m.parks g (moved script Move.Ends) RunStatus.Ended fits may refl (λ r. tt) refl (λ r t n. refl)
+    fits-leaves_hand script s (with_goroutines s (change_numbered s.goroutines g (moved script Move.Ends))) m m.parks g (moved script Move.Ends) RunStatus.Ended fits may refl (λ r. tt) refl (λ r n test. refl)
+fits-turned script s m g Move.Panics fits may = fits-stays script s (with_goroutines s (change_numbered s.goroutines g (λ r. r))) m fits (unchanged s.goroutines g)
 
 pub fits-moved : (script : Script) (s : State) (m : Schedule) (o : Option (ℕ × Move)) → Fits script s m → ServedBy m o
     → Fits script (with_goroutines s (with_mover script s.goroutines o)) (moved_by m o)
@@ -264,12 +294,14 @@ fits-begins script s next m r fits is agrees =
     (λ y other. numbered-push_other m.statuses RunStatus.Queued y other)
     (λ y other. times-push_other y child m.run_queue other)
     (λ t p other. refl)
+    (λ t p other. refl)
     (one-is script (with_new m) child (goroutine_at next child) (Some r) (status_of (with_new m) child) (Some RunStatus.Queued)
     (ap (λ gs. numbered gs child) is ∙ numbered-push_same s.goroutines r child new)
     (numbered-push_same m.statuses RunStatus.Queued child refl)
     (one-of script (with_new m) child r RunStatus.Queued agrees
     (times-push_same child m.run_queue ∙ ap (λ n. n + 1) (before.queued ∙ ap (λ o. as_number (is_queued o)) none))
-    (λ t n h. before.waiting t n h ∙ off (is_parked (status_of m child)) (awaits_at script (goroutine_at s child) n t) (ap is_parked none))))
+    (λ t n h. before.waiting t n h ∙ off (is_parked (status_of m child)) (at_case script (goroutine_at s child) n (receives_from t)) (ap is_parked none))
+    (λ t n h. before.sending t n h ∙ off (is_parked (status_of m child)) (at_case script (goroutine_at s child) n (sends_to t)) (ap is_parked none))))
 
 started-at : (script : Script) (s : State) (x : Start) → Agrees (started_by script s x).mode RunStatus.Queued
 started-at script s (Start.ByGoroutine g f) = tt
@@ -284,38 +316,42 @@ fits-begun script s gs m (x ∷ xs) fits =
 
 -- ---- every change
 
-pub fits-changed : (script : Script) (s : State) (m : Schedule) (c : Change) → Fits script s m → ServedBy m c.mover → Fits script (changed script s c) (rescheduled m c)
+-- who makes the entry moves, and then its partner
+pub fits-both : (script : Script) (s : State) (m : Schedule) (c : Change) → Fits script s m → ServedIn m c
+    → Fits script (with_goroutines s (with_mover script (with_mover script s.goroutines c.mover) c.partner)) (moved_by (moved_by m c.mover) c.partner)
+fits-both script s m c fits served =
+    fits-moved script (with_goroutines s (with_mover script s.goroutines c.mover)) (moved_by m c.mover) c.partner (fits-moved script s m c.mover fits served.0) served.1
+
+pub fits-changed : (script : Script) (s : State) (m : Schedule) (c : Change) → Fits script s m → ServedIn m c → Fits script (changed script s c) (rescheduled m c)
 fits-changed script s m c fits served =
     fits-stays script (with_goroutines s (changed script s c).goroutines) (changed script s c) (rescheduled m c)
-    (fits-begun script s (with_mover script s.goroutines c.mover) (moved_by m c.mover) c.starts (fits-moved script s m c.mover fits served)) refl
+    (fits-begun script s (with_mover script (with_mover script s.goroutines c.mover) c.partner) (moved_by (moved_by m c.mover) c.partner) c.starts (fits-both script s m c fits served)) refl
 
 pub fits-entered : (script : Script) (s : State) (m : Schedule) (e : Entry) → Fits script s m → Served m e → Fits script (after script s e) (scheduled m e)
 fits-entered script s m e fits served = fits-changed script s m (change_of e) fits served
 
 -- ---- the first schedule
 
-nobody-there : (n t : ℕ) → parties_at (replicate n []) t ≡ []
-nobody-there zero t = refl
-nobody-there (suc n) zero = refl
-nobody-there (suc n) (suc t) = nobody-there n t
-
 one-first : (script : Script) (g : ℕ) → FitsOne script (first_schedule script) g (goroutine_at (first_state script) g) (status_of (first_schedule script) g)
 one-first script zero = record {
   agree = λ r x e f. cc;
   queued = refl;
   waiting = λ t n h. ap (often (party 0 n)) (nobody-there (length script.decls) t);
+  sending = λ t n h. ap (often (party 0 n)) (nobody-there (length script.decls) t);
 }
 one-first script (suc zero) =
     one-of script (first_schedule script) 1 (begun script 0 script.main) RunStatus.Queued tt refl (λ t n h. ap (often (party 1 n)) (nobody-there (length script.decls) t))
+    (λ t n h. ap (often (party 1 n)) (nobody-there (length script.decls) t))
 one-first script (suc (suc i)) = record {
   agree = λ r x e f. cc;
   queued = times-one_other (suc (suc i)) 1 (λ e. absurd (omega arith));
   waiting = λ t n h. ap (often (party (suc (suc i)) n)) (nobody-there (length script.decls) t);
+  sending = λ t n h. ap (often (party (suc (suc i)) n)) (nobody-there (length script.decls) t);
 }
 
 pub fits-first : (script : Script) → Fits script (first_state script) (first_schedule script)
 fits-first script =
-    fits-from_each script (first_state script) (first_schedule script) refl (length-replicate (length script.decls) []) refl (one-first script)
+    fits-from_each script (first_state script) (first_schedule script) refl (length-replicate (length script.decls) []) (length-replicate (length script.decls) []) (one-first script)
 
 -- ---- the run queue
 
@@ -346,23 +382,33 @@ fits-taken script s m g fits e =
     (λ x n. numbered-change_other m.statuses g x (λ _. RunStatus.InHand) n)
     (λ x n. times-first_other x g m.run_queue e n)
     (λ t p n. refl)
+    (λ t p n. refl)
     (one-is script (taken m g) g (goroutine_at s g) (Some k.who) (status_of (taken m g) g) (Some RunStatus.InHand) k.there
     (numbered-change_same m.statuses g (λ _. RunStatus.InHand) RunStatus.Queued in_queue)
-    (one-of script (taken m g) g k.who RunStatus.InHand (queued-agrees k.who.mode k.agrees) no_more k.one.waiting))
+    (one-of script (taken m g) g k.who RunStatus.InHand (queued-agrees k.who.mode k.agrees) no_more k.one.waiting k.one.sending))
 
--- ---- a goroutine in hand waits at a receive
+-- ---- a goroutine in hand waits at an operation
 
 at-agrees : (mode : Mode) (since : ℕ) → mode ≡ Mode.At → Agrees mode (RunStatus.Parked since)
 at-agrees mode since e = subst (λ (mode : Mode). Agrees mode (RunStatus.Parked since)) (sym e) tt
 
--- who stands at a receive from t awaits that one, at its plain instruction
-awaits-standing : (script : Script) (r : Goroutine) (n t u : ℕ) → stands script r ≡ Some (Instr.Recv t) → awaits_at script (Some r) n u ≡ (eqb 0 n && eqb t u)
-awaits-standing script r n t u e =
-    ap (λ (o : Option Instr). elim (elim o as (λ x. Option ℕ) [ None ↦ None | Some i ↦ operation i n ]) [ None ↦ false | Some v ↦ eqb v u ]) e ∙ at_case n
+-- a plain instruction has one operation
+one-operation : (i : Instr) (n : ℕ) → operation i (suc n) ≡ None
+one-operation (Instr.Recv o) n = refl
+one-operation (Instr.Send c v) n = refl
+one-operation i n = refl
+
+-- who stands at an operation stands at that one, at its plain instruction
+case-standing : (script : Script) (r : Goroutine) (i : Instr) (n : ℕ) (kind : CaseKind) (test : CaseKind → Bool) → stands script r ≡ Some i → operation i 0 ≡ Some kind
+    → at_case script (Some r) n test ≡ (eqb 0 n && test kind)
+case-standing script r i n kind test e has =
+    ap (λ (o : Option Instr). elim (elim o as (λ x. Option CaseKind) [ None ↦ None | Some i ↦ operation i n ]) as (λ x. Bool) [ None ↦ false | Some kind ↦ test kind ]) e ∙ at_number n
   where
-    at_case : (n : ℕ) → (elim (operation (Instr.Recv t) n) [ None ↦ false | Some v ↦ eqb v u ]) ≡ (eqb 0 n && eqb t u)
-    at_case zero = refl
-    at_case (suc n) = ap (λ b. b && eqb t u) (sym (ne_eqb 0 (suc n) (λ e. absurd (omega arith))))
+    at_number : (n : ℕ) → (elim (operation i n) as (λ x. Bool) [ None ↦ false | Some kind ↦ test kind ]) ≡ (eqb 0 n && test kind)
+    at_number zero = ap (λ (o : Option CaseKind). elim o as (λ x. Bool) [ None ↦ false | Some kind ↦ test kind ]) has
+    at_number (suc n) =
+        ap (λ (o : Option CaseKind). elim o as (λ x. Bool) [ None ↦ false | Some kind ↦ test kind ]) (one-operation i n)
+        ∙ ap (λ b. b && test kind) (sym (ne_eqb 0 (suc n) (λ e. absurd (omega arith))))
 
 both-true : (a b : Bool) → b ≡ true → (a && b) ≡ a
 both-true true b e = e
@@ -375,61 +421,94 @@ both-false false b e = refl
 own-party : (g n : ℕ) → is_party (plainly g) (party g n) ≡ eqb 0 n
 own-party g n = rw (eq-eqb g g refl) refl
 
-joined-waits : (script : Script) (m : Schedule) (r : Goroutine) (g n t u : ℕ) → t < length m.receivers → often (party g n) (parties_at m.receivers u) ≡ 0 → stands script r ≡ Some (Instr.Recv t)
-    → often (party g n) (parties_at (joins m.receivers t (plainly g)) u) ≡ as_number (awaits_at script (Some r) n u)
-joined-waits script m r g n t u within none stands_so =
-    elim (cases_eq u t) [
-      | inl e ↦
-          let here : often (party g n) (parties_at m.receivers t) ≡ 0 = subst (λ u. often (party g n) (parties_at m.receivers u) ≡ 0) e none in
-          let one : often (party g n) (parties_at (joins m.receivers t (plainly g)) t) ≡ 0 + as_number (eqb 0 n) =
-          ap (often (party g n)) (parties-joins_same m.receivers t (plainly g) within)
-          ∙ (often-push (party g n) (plainly g) (parties_at m.receivers t) ∙ (ap (λ k. k + as_number (is_party (plainly g) (party g n))) here ∙ ap (λ b. 0 + as_number b) (own-party g n))) in
-          let awaits : awaits_at script (Some r) n t ≡ eqb 0 n = awaits-standing script r n t t stands_so ∙ both-true (eqb 0 n) (eqb t t) (eq-eqb t t refl) in
-          let same : as_number (awaits_at script (Some r) n t) ≡ as_number (eqb 0 n) = ap as_number awaits in
-          subst (λ u. often (party g n) (parties_at (joins m.receivers t (plainly g)) u) ≡ as_number (awaits_at script (Some r) n u)) (sym e) (omega arith)
-      | inr k ↦
-          ap (often (party g n)) (parties-joins_other m.receivers t u (plainly g) k)
-          ∙ (none ∙ sym (ap as_number (awaits-standing script r n t u stands_so ∙ both-false (eqb 0 n) (eqb t u) (ne_eqb t u (λ e. k (sym e))))))
-    ]
+-- a goroutine that is to wait at an operation
+pub record Waiter (script : Script) (s : State) (m : Schedule) (g : ℕ) (kind : CaseKind) : Type 0 where
+  pub instr : Instr
+  pub stands : stands_at script s g ≡ Some instr
+  pub has : operation instr 0 ≡ Some kind
+  pub in_hand : status_of m g ≡ Some RunStatus.InHand
+  pub declared : object_of kind < length script.decls
 
-pub fits-parked_at : (script : Script) (s : State) (m : Schedule) (g t : ℕ) → Fits script s m → status_of m g ≡ Some RunStatus.InHand → stands_at script s g ≡ Some (Instr.Recv t)
-    → t < length script.decls → Fits script s (parked_at m (plainly g) t)
-fits-parked_at script s m g t fits in_hand at_receive declared =
-    let k : Known script s m g RunStatus.InHand = known script s m g RunStatus.InHand fits in_hand in
-    let st : Standing script s g (Instr.Recv t) = standing script s g (Instr.Recv t) at_receive in
-    let there : goroutine_at s g ≡ Some k.who = k.there in
-    let there_too : goroutine_at s g ≡ Some st.who = st.there in
-    let same : st.who ≡ k.who = cc in
-    let stands_there : k.who.mode ≡ Mode.At = subst (λ (r : Goroutine). r.mode ≡ Mode.At) same st.at in
-    let stands_so : stands script k.who ≡ Some (Instr.Recv t) =
-    ap (λ (o : Option Goroutine). elim o as (λ x. Option Instr) [ None ↦ None | Some r ↦ stands script r ]) (sym there) ∙ at_receive in
-    let within : t < length m.receivers = subst (λ n. t < n) (sym fits.receivers) declared in
-    let x : RunStatus = RunStatus.Parked m.parks in
-    let n : Schedule = parked_at m (plainly g) t in
-    fits-changes script s s m n g fits
-    (length-change_numbered m.statuses g (λ _. x) ∙ fits.as_many)
-    (length-set m.receivers t (parties_at m.receivers t ++ plainly g ∷ []))
-    refl
-    (λ y other. refl)
-    (λ y other. numbered-change_other m.statuses g y (λ _. x) other)
-    (λ y other. refl)
-    (λ u p other. joined-others m.receivers t u p g within other)
-    (one-is script n g (goroutine_at s g) (Some k.who) (status_of n g) (Some x) k.there
-    (numbered-change_same m.statuses g (λ _. x) RunStatus.InHand in_hand)
-    (one-of script n g k.who x (at-agrees k.who.mode m.parks stands_there) k.one.queued
-    (λ u c h. joined-waits script m k.who g c t u within (k.one.waiting u c h) stands_so)))
-  where
-    joined-others : (lists : List (List Party)) (t u : ℕ) (p : Party) (g : ℕ) → t < length lists → p.g ≢ g
-        → often p (parties_at (joins lists t (plainly g)) u) ≡ often p (parties_at lists u)
-    joined-others lists t u p g within other =
-        elim (cases_eq u t) [
-          | inl e ↦
-              let push : often p (parties_at lists t ++ plainly g ∷ []) ≡ often p (parties_at lists t) + as_number (is_party (plainly g) p) = often-push p (plainly g) (parties_at lists t) in
-              let none : as_number (is_party (plainly g) p) ≡ 0 = ap as_number (is_party-other (plainly g) p (λ k. other (sym k))) in
-              let at : often p (parties_at (joins lists t (plainly g)) t) ≡ often p (parties_at lists t ++ plainly g ∷ []) = ap (often p) (parties-joins_same lists t (plainly g) within) in
-              subst (λ u. often p (parties_at (joins lists t (plainly g)) u) ≡ often p (parties_at lists u)) (sym e) (omega arith)
-          | inr k ↦ ap (often p) (parties-joins_other lists t u (plainly g) k)
-        ]
+module _ (script : Script) (lists : List (List Party)) (r : Goroutine) (i : Instr) (g : ℕ) (kind : CaseKind) (test : ℕ → CaseKind → Bool)
+    (stands_so : stands script r ≡ Some i) (has : operation i 0 ≡ Some kind) where
+  -- it joins the list of its operation
+  joined-waits : (t u n : ℕ) → ((u : ℕ) → test u kind ≡ eqb t u) → t < length lists → often (party g n) (parties_at lists u) ≡ 0
+      → often (party g n) (parties_at (joins lists t (plainly g)) u) ≡ as_number (at_case script (Some r) n (test u))
+  joined-waits t u n of_t within none =
+      elim (cases_eq u t) [
+        | inl e ↦
+            let here : often (party g n) (parties_at lists t) ≡ 0 = subst (λ u. often (party g n) (parties_at lists u) ≡ 0) e none in
+            let one : often (party g n) (parties_at (joins lists t (plainly g)) t) ≡ 0 + as_number (eqb 0 n) =
+            ap (often (party g n)) (parties-joins_same lists t (plainly g) within)
+            ∙ (often-push (party g n) (plainly g) (parties_at lists t) ∙ (ap (λ k. k + as_number (is_party (plainly g) (party g n))) here ∙ ap (λ b. 0 + as_number b) (own-party g n))) in
+            let waits : at_case script (Some r) n (test t) ≡ eqb 0 n =
+            case-standing script r i n kind (test t) stands_so has ∙ both-true (eqb 0 n) (test t kind) (of_t t ∙ eq-eqb t t refl) in
+            let same : as_number (at_case script (Some r) n (test t)) ≡ as_number (eqb 0 n) = ap as_number waits in
+            subst (λ u. often (party g n) (parties_at (joins lists t (plainly g)) u) ≡ as_number (at_case script (Some r) n (test u))) (sym e) (omega arith)
+        | inr k ↦
+            often-joins_elsewhere lists t u (party g n) (plainly g) k
+            ∙ (none ∙ sym (ap as_number (case-standing script r i n kind (test u) stands_so has ∙ both-false (eqb 0 n) (test u kind) (of_t u ∙ ne_eqb t u (λ e. k (sym e))))))
+      ]
+
+  -- it stands in no list of another kind
+  apart-waits : (u n : ℕ) → test u kind ≡ false → often (party g n) (parties_at lists u) ≡ 0 → often (party g n) (parties_at lists u) ≡ as_number (at_case script (Some r) n (test u))
+  apart-waits u n other none = none ∙ sym (ap as_number (case-standing script r i n kind (test u) stands_so has ∙ both-false (eqb 0 n) (test u kind) other))
+
+module _ (script : Script) (s : State) (m : Schedule) (g : ℕ) (fits : Fits script s m) where
+  fits-parked_by : (kind : CaseKind) → Waiter script s m g kind → Fits script s (parked_at m (plainly g) kind)
+  fits-parked_by kind w =
+      let k : Known script s m g RunStatus.InHand = known script s m g RunStatus.InHand fits w.in_hand in
+      let st : Standing script s g w.instr = standing script s g w.instr w.stands in
+      let there : goroutine_at s g ≡ Some k.who = k.there in
+      let there_too : goroutine_at s g ≡ Some st.who = st.there in
+      let same : st.who ≡ k.who = cc in
+      let stands_there : k.who.mode ≡ Mode.At = subst (λ (r : Goroutine). r.mode ≡ Mode.At) same st.at in
+      let stands_so : stands script k.who ≡ Some w.instr =
+      ap (λ (o : Option Goroutine). elim o as (λ x. Option Instr) [ None ↦ None | Some r ↦ stands script r ]) (sym there) ∙ w.stands in
+      with_kind kind k stands_there stands_so w.has w.in_hand w.declared
+    where
+      x : RunStatus
+      x = RunStatus.Parked m.parks
+
+      with_kind : (kind : CaseKind) (k : Known script s m g RunStatus.InHand) → k.who.mode ≡ Mode.At → stands script k.who ≡ Some w.instr → operation w.instr 0 ≡ Some kind
+          → status_of m g ≡ Some RunStatus.InHand → object_of kind < length script.decls → Fits script s (parked_at m (plainly g) kind)
+      with_kind (CaseKind.Recv t) k at on has in_hand declared =
+          let within : t < length m.receivers = subst (λ n. t < n) (sym fits.receivers) declared in
+          let n : Schedule = parked_at m (plainly g) (CaseKind.Recv t) in
+          fits-changes script s s m n g fits
+          (length-change_numbered m.statuses g (λ _. x) ∙ fits.as_many)
+          (length-joins m.receivers t (plainly g))
+          refl
+          (λ y other. refl)
+          (λ y other. numbered-change_other m.statuses g y (λ _. x) other)
+          (λ y other. refl)
+          (λ u p other. often-joins_other m.receivers t u p (plainly g) other)
+          (λ u p other. refl)
+          (one-is script n g (goroutine_at s g) (Some k.who) (status_of n g) (Some x) k.there
+          (numbered-change_same m.statuses g (λ _. x) RunStatus.InHand in_hand)
+          (one-of script n g k.who x (at-agrees k.who.mode m.parks at) k.one.queued
+          (λ u c h. joined-waits script m.receivers k.who w.instr g (CaseKind.Recv t) receives_from on has t u c (λ u. refl) within (k.one.waiting u c h))
+          (λ u c h. apart-waits script m.senders k.who w.instr g (CaseKind.Recv t) sends_to on has u c refl (k.one.sending u c h))))
+      with_kind (CaseKind.Send t v) k at on has in_hand declared =
+          let within : t < length m.senders = subst (λ n. t < n) (sym fits.senders) declared in
+          let n : Schedule = parked_at m (plainly g) (CaseKind.Send t v) in
+          fits-changes script s s m n g fits
+          (length-change_numbered m.statuses g (λ _. x) ∙ fits.as_many)
+          refl
+          (length-joins m.senders t (plainly g))
+          (λ y other. refl)
+          (λ y other. numbered-change_other m.statuses g y (λ _. x) other)
+          (λ y other. refl)
+          (λ u p other. refl)
+          (λ u p other. often-joins_other m.senders t u p (plainly g) other)
+          (one-is script n g (goroutine_at s g) (Some k.who) (status_of n g) (Some x) k.there
+          (numbered-change_same m.statuses g (λ _. x) RunStatus.InHand in_hand)
+          (one-of script n g k.who x (at-agrees k.who.mode m.parks at) k.one.queued
+          (λ u c h. apart-waits script m.receivers k.who w.instr g (CaseKind.Send t v) receives_from on has u c refl (k.one.waiting u c h))
+          (λ u c h. joined-waits script m.senders k.who w.instr g (CaseKind.Send t v) sends_to on has t u c (λ u. refl) within (k.one.sending u c h))))
+
+pub fits-parked_at : (script : Script) (s : State) (m : Schedule) (g : ℕ) (kind : CaseKind) → Fits script s m → Waiter script s m g kind → Fits script s (parked_at m (plainly g) kind)
+fits-parked_at script s m g kind fits w = fits-parked_by script s m g fits kind w
 
 -- ---- who is parked
 
@@ -449,13 +528,21 @@ asleep-parked script s m g fits a =
 pub orderly-fits : (script : Script) (s : State) (m : Schedule) → Fits script s m → IsOrderly m
 orderly-fits script s m fits = record {
   queued = fits.queued;
-  receivers = λ t p not_parked. elim (cases_lt t (length script.decls)) [
-    | inl h ↦ fits.waiting t p h ∙ off (is_parked (status_of m p.g)) (is_at_receive script s p t) not_parked
-    | inr past ↦
-        let beyond : length m.receivers ≤ t = subst (λ n. n ≤ t) (sym fits.receivers) past in
-        ap (often p) (get_or_past m.receivers t [] beyond)
-  ];
+  receivers = λ t p not_parked. listed m.receivers t p fits.receivers
+      (λ h. fits.waiting t p h ∙ off (is_waiting m p.g) (is_at script s p (receives_from t)) not_parked);
+  senders = λ c p not_parked. listed m.senders c p fits.senders
+      (λ h. fits.sending c p h ∙ off (is_waiting m p.g) (is_at script s p (sends_to c)) not_parked);
 }
+  where
+    listed : (lists : List (List Party)) (t : ℕ) (p : Party) → length lists ≡ length script.decls → (t < length script.decls → often p (parties_at lists t) ≡ 0)
+        → often p (parties_at lists t) ≡ 0
+    listed lists t p many inside =
+        elim (cases_lt t (length script.decls)) [
+          | inl h ↦ inside h
+          | inr past ↦
+              let beyond : length lists ≤ t = subst (λ n. n ≤ t) (sym many) past in
+              ap (often p) (get_or_past lists t [] beyond)
+        ]
 
 positive : (b : Bool) → 0 < as_number b → b ≡ true
 positive true h = refl
@@ -465,11 +552,21 @@ no-number : (b : Bool) → as_number b ≡ 0 → b ≡ false
 no-number true e = absurd (omega arith)
 no-number false e = refl
 
--- the longest waiting at t is parked there; where nobody stands there nobody is
+-- who waits longest at a receive, or at a send, is parked there; where nobody stands there nobody is
 pub first-waiting : (script : Script) (s : State) (m : Schedule) (p : Party) (t : ℕ) → Fits script s m → t < length script.decls → slice_get (parties_at m.receivers t) 0 ≡ Some p
-    → is_parked_at script s m p t ≡ true
+    → is_parked_at script s m p (receives_from t) ≡ true
 first-waiting script s m p t fits h e =
-    positive (is_parked_at script s m p t) (subst (λ n. 0 < n) (fits.waiting t p h) (often-first p (parties_at m.receivers t) e))
+    positive (is_parked_at script s m p (receives_from t)) (subst (λ n. 0 < n) (fits.waiting t p h) (often-first p (parties_at m.receivers t) e))
 
-pub none-waiting : (script : Script) (s : State) (m : Schedule) (t : ℕ) → Fits script s m → t < length script.decls → parties_at m.receivers t ≡ [] → (p : Party) → is_parked_at script s m p t ≡ false
-none-waiting script s m t fits h e p = no-number (is_parked_at script s m p t) (sym (fits.waiting t p h) ∙ ap (often p) e)
+pub first-sending : (script : Script) (s : State) (m : Schedule) (p : Party) (c : ℕ) → Fits script s m → c < length script.decls → slice_get (parties_at m.senders c) 0 ≡ Some p
+    → is_parked_at script s m p (sends_to c) ≡ true
+first-sending script s m p c fits h e =
+    positive (is_parked_at script s m p (sends_to c)) (subst (λ n. 0 < n) (fits.sending c p h) (often-first p (parties_at m.senders c) e))
+
+pub none-waiting : (script : Script) (s : State) (m : Schedule) (t : ℕ) → Fits script s m → t < length script.decls → parties_at m.receivers t ≡ [] → (p : Party)
+    → is_parked_at script s m p (receives_from t) ≡ false
+none-waiting script s m t fits h e p = no-number (is_parked_at script s m p (receives_from t)) (sym (fits.waiting t p h) ∙ ap (often p) e)
+
+pub none-sending : (script : Script) (s : State) (m : Schedule) (c : ℕ) → Fits script s m → c < length script.decls → parties_at m.senders c ≡ [] → (p : Party)
+    → is_parked_at script s m p (sends_to c) ≡ false
+none-sending script s m c fits h e p = no-number (is_parked_at script s m p (sends_to c)) (sym (fits.sending c p h) ∙ ap (often p) e)

@@ -1,3 +1,4 @@
+pub mod Firm
 pub mod Entering
 pub mod Fitting
 pub mod Calm

@@ -1,5 +1,5 @@
 -- What a step of a goroutine is, and the entry of an operation.
-use Rattle.std.specs.Prelude.{ℕ, zero, suc, [], slice_get, ◌≡◌, Bool, true, false, not, ◌||◌, MatchOption, is_some, is_none, nat_lt, ◌&&◌}
+use Rattle.std.specs.Prelude.{ℕ, zero, suc, [], slice_get, ◌≡◌, Bool, true, false, not, ◌||◌, MatchOption, is_some, is_none, nat_lt, ◌&&◌, ◌==◌, cond, List, ◌∷◌, length}
 use Rattle.std.specs.declared.option.Option.{Option}
 use Rattle.std.specs.declared.option.Option.TheVariants.{None, Some}
 use Rattle.gt_model.specs.declared.script.Script.{Script}
@@ -7,9 +7,12 @@ use Rattle.gt_model.specs.declared.script.Instr.{Instr}
 use Rattle.gt_model.specs.declared.entry.Entry.{Entry}
 use Rattle.gt_model.specs.declared.entry.Party.{Party}
 use Rattle.gt_model.specs.declared.entry.Reason.{Reason}
-use Rattle.gt_rules.specs.State.{State, clock, stands_at, clock_of, next_number, sleeps_until}
+use Rattle.gt_model.specs.declared.script.CaseKind.{CaseKind}
+use Rattle.gt_model.specs.Script.{is_chan, capacity_of}
+use Rattle.gt_rules.specs.State.{State, clock, stands_at, clock_of, next_number, sleeps_until, items_of, item_count, is_closed}
+use Rattle.gt_rules.specs.Operations.{receives_from}
 use Rattle.gt_rules.specs.Panics.{fault}
-use Rattle.gt_rules.specs.Legal.{May}
+use Rattle.gt_rules.specs.Legal.{May, operation_at}
 use Rattle.gt_rules.specs.After.{new_period}
 use Rattle.gt_book.specs.declared.step.Step.{Step}
 use Rattle.gt_book.specs.declared.answers.Did.{Did}
@@ -17,31 +20,59 @@ use Rattle.gt_book.specs.declared.answers.Pick.{Pick}
 use Rattle.gt_book.specs.declared.answers.TimerOp.{TimerOp}
 use Rattle.gt_book.specs.declared.answers.Op.{Op}
 use Rattle.gt_book.specs.declared.answers.Commit.{Commit}
-use Rattle.gt_schedule.specs.Schedule.{Schedule, plainly, status_of, is_in_hand, is_parked, in_hand, taken, parked_at, ticket_of, Served}
-use Rattle.gt_book.specs.View.{BookView, Enters, with_schedule, outcome_of, is_at_receive}
+use Rattle.gt_schedule.specs.Schedule.{Schedule, plainly, status_of, is_in_hand, is_parked, in_hand, taken, parked_at, ticket_of, parties_at, Served}
+use Rattle.gt_schedule.specs.declared.scheduler.Scheduler.{Scheduler}
+use Rattle.gt_schedule.specs.Scheduler.{schedule_of, IsScheduler}
+use Rattle.gt_book.specs.View.{BookView, Enters, with_schedule, outcome_of, is_at}
+
+-- the party that has waited longest at the other side of a channel, where it keeps no values
+abbrev pub partner_in : Script → List (List Party) → ℕ → Option Party
+partner_in script lists c = cond (capacity_of script c == 0) (slice_get (parties_at lists c) 0) None
+
+-- the value of a send
+abbrev pub value_of : Option CaseKind → ℕ
+value_of None = 0
+value_of (Some kind) = elim kind [ CaseKind.Recv o ↦ 0 | CaseKind.Send c v ↦ v ]
+
+-- a receive from a channel, by the values that it keeps, whether it is closed, and the sender that waits there
+abbrev pub recv_by : Script → State → ℕ → ℕ → List ℕ → Bool → Option Party → Step
+recv_by script s g c (v ∷ items) closed sender = Step.Makes (Entry.Recv (plainly g) c (Some v))
+recv_by script s g c [] true sender = Step.Makes (Entry.Recv (plainly g) c None)
+recv_by script s g c [] false (Some q) = Step.Makes (Entry.Pair q (plainly g) c (value_of (operation_at script s q)))
+recv_by script s g c [] false None = Step.Parks (CaseKind.Recv c)
+
+-- a send to an open channel, by whether it has room, and the receiver that waits there
+abbrev pub send_by : ℕ → ℕ → ℕ → Bool → Option Party → Step
+send_by g c v true receiver = Step.Makes (Entry.Send (plainly g) c v)
+send_by g c v false (Some q) = Step.Makes (Entry.Pair (plainly g) q c v)
+send_by g c v false None = Step.Parks (CaseKind.Send c v)
 
 -- an instruction without a panic
-abbrev pub step_of_instr : State → ℕ → Instr → Step
-step_of_instr s g (Instr.Say n) = Step.Makes (Entry.Say g n)
-step_of_instr s g Instr.Now = Step.Makes (Entry.Now g (clock_of s g))
-step_of_instr s g (Instr.Sleep zero) = Step.Makes (Entry.Sleep g None)
-step_of_instr s g (Instr.Sleep (suc d)) = Step.Needs (TimerOp.Sleep (suc d))
-step_of_instr s g (Instr.Go f) = Step.Makes (Entry.Go g (next_number s) f)
-step_of_instr s g (Instr.New t d) = Step.Needs (TimerOp.Set t d false)
-step_of_instr s g (Instr.Stop t) = Step.Needs (TimerOp.Stop t)
-step_of_instr s g (Instr.Reset t d) = Step.Needs (TimerOp.Set t d true)
-step_of_instr s g (Instr.Recv o) = Step.Waits o
-step_of_instr s g (Instr.LoopTop depth count past) = Step.Nowhere
-step_of_instr s g (Instr.LoopEnd depth top) = Step.Nowhere
-step_of_instr s g Instr.Finish = Step.Makes (Entry.End g)
+abbrev pub step_of_instr : Script → State → Schedule → ℕ → Instr → Step
+step_of_instr script s m g (Instr.Say n) = Step.Makes (Entry.Say g n)
+step_of_instr script s m g Instr.Now = Step.Makes (Entry.Now g (clock_of s g))
+step_of_instr script s m g (Instr.Sleep zero) = Step.Makes (Entry.Sleep g None)
+step_of_instr script s m g (Instr.Sleep (suc d)) = Step.Needs (TimerOp.Sleep (suc d))
+step_of_instr script s m g (Instr.Go f) = Step.Makes (Entry.Go g (next_number s) f)
+step_of_instr script s m g (Instr.New t d) = Step.Needs (TimerOp.Set t d false)
+step_of_instr script s m g (Instr.Stop t) = Step.Needs (TimerOp.Stop t)
+step_of_instr script s m g (Instr.Reset t d) = Step.Needs (TimerOp.Set t d true)
+step_of_instr script s m g (Instr.Recv o) =
+    cond (is_chan script o) (recv_by script s g o (items_of s o) (is_closed s o) (partner_in script m.senders o)) (Step.Waits o)
+step_of_instr script s m g (Instr.Make c) = Step.Makes (Entry.Make g c)
+step_of_instr script s m g (Instr.Send c v) = send_by g c v (nat_lt (item_count s c) (capacity_of script c)) (partner_in script m.receivers c)
+step_of_instr script s m g (Instr.Close c) = Step.Makes (Entry.Close g c)
+step_of_instr script s m g (Instr.LoopTop depth count past) = Step.Nowhere
+step_of_instr script s m g (Instr.LoopEnd depth top) = Step.Nowhere
+step_of_instr script s m g Instr.Finish = Step.Makes (Entry.End g)
 
-abbrev pub step_or_panic : State → ℕ → Instr → Option Reason → Step
-step_or_panic s g i (Some reason) = Step.Makes (Entry.Panic (plainly g) reason)
-step_or_panic s g i None = step_of_instr s g i
+abbrev pub step_or_panic : Script → State → Schedule → ℕ → Instr → Option Reason → Step
+step_or_panic script s m g i (Some reason) = Step.Makes (Entry.Panic (plainly g) reason)
+step_or_panic script s m g i None = step_of_instr script s m g i
 
--- who is parked may decide what a step is; so far nothing depends on it
+-- what a goroutine does next: at a channel it goes on with a partner that is parked
 abbrev pub step_of : Script → State → Schedule → ℕ → Option Step
-step_of script s m g = elim (stands_at script s g) [ None ↦ None | Some i ↦ Some (step_or_panic s g i (fault script s i)) ]
+step_of script s m g = elim (stands_at script s g) [ None ↦ None | Some i ↦ Some (step_or_panic script s m g i (fault script s i)) ]
 
 -- the answer after an entry
 abbrev pub DidEnter : BookView → Did → Type 0
@@ -51,7 +82,8 @@ DidEnter new did = MatchOption (outcome_of new) (did ≡ Did.Entered) (λ outcom
 abbrev pub Does : BookView → ℕ → Step → BookView → Did → Type 0
 Does old g (Step.Makes e) new did = Enters old e new × DidEnter new did
 Does old g (Step.Waits t) new did =
-    (new ≡ with_schedule old (parked_at old.schedule (plainly g) t)) × (did ≡ Did.Timer (TimerOp.Enrolled (ticket_of old.schedule g)))
+    (new ≡ with_schedule old (parked_at old.schedule (plainly g) (CaseKind.Recv t))) × (did ≡ Did.Timer (TimerOp.Enrolled (ticket_of old.schedule g)))
+Does old g (Step.Parks kind) new did = (new ≡ with_schedule old (parked_at old.schedule (plainly g) kind)) × (did ≡ Did.Parked)
 Does old g (Step.Needs op) new did = (new ≡ old) × (did ≡ Did.Timer op)
 Does old g Step.Nowhere new did = ⊥
 
@@ -99,7 +131,7 @@ HasPeriod script s _ = Unit {0}
 
 -- whether a party in hand, or one that is parked, stands at a receive from t
 abbrev pub is_receiving : Script → State → Schedule → Party → ℕ → Bool
-is_receiving script s m p t = (is_in_hand (status_of m p.g) || is_parked (status_of m p.g)) && is_at_receive script s p t
+is_receiving script s m p t = (is_in_hand (status_of m p.g) || is_parked (status_of m p.g)) && is_at script s p (receives_from t)
 
 -- whether an operation comes too late for its goroutine
 abbrev pub is_late : BookView → Op → Bool
@@ -121,3 +153,9 @@ Commits old op false new did = Enters old (entry_of old.state op) new × DidComm
 -- what a commitment needs that does not come too late
 abbrev pub MayCommit : BookView → Op → Type 0
 MayCommit b op = May b.script b.state (entry_of b.state op) × Served b.schedule (entry_of b.state op) × HasPeriod b.script b.state op
+
+-- a scheduler has a list for each side of each declaration
+pub record HasLists (script : Script) (m : Scheduler) : Type 0 where
+  pub kept : IsScheduler m
+  pub receivers : length (schedule_of m).receivers ≡ length script.decls
+  pub senders : length (schedule_of m).senders ≡ length script.decls

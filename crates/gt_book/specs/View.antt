@@ -5,6 +5,7 @@ use Rattle.std.specs.declared.option.Option.TheVariants.{None, Some}
 use Rattle.gt_model.specs.declared.script.Script.{Script}
 use Rattle.gt_model.specs.declared.entry.Entry.{Entry}
 use Rattle.gt_model.specs.declared.entry.Party.{Party}
+use Rattle.gt_model.specs.declared.script.CaseKind.{CaseKind}
 use Rattle.gt_model.specs.declared.entry.Limits.{Limits}
 use Rattle.gt_model.specs.declared.entry.Outcome.{Outcome}
 use Rattle.gt_model.specs.declared.state.Goroutine.{Goroutine}
@@ -18,6 +19,7 @@ use Rattle.gt_facts.specs.Formed.{IsFormed}
 use Rattle.gt_rules.specs.Ready.{is_firm}
 use Rattle.gt_machine.specs.Outcomes.{outcome_in, due_outcome}
 use Rattle.gt_rules.specs.Legal.{operation_at}
+use Rattle.gt_rules.specs.Operations.{receives_from, sends_to}
 use Rattle.gt_rules.specs.Change.{Change, change_of}
 use Rattle.gt_rules.specs.declared.change.Move.{Move}
 use Rattle.gt_schedule.specs.declared.status.RunStatus.{RunStatus}
@@ -64,21 +66,26 @@ finish_by (Some outcome) = Entry.Finish outcome ∷ []
 abbrev pub finish_due : Limits → State → List Entry
 finish_due limits s = finish_by (due_outcome limits s)
 
--- the goroutine that goes on
+-- the goroutine that goes on, or panics
 abbrev pub goer : Option (ℕ × Move) → Option ℕ
 goer None = None
-goer (Some x) = elim x.1 [ Move.GoesOn case_no ↦ Some x.0 | Move.FallsAsleep until ↦ None | Move.Ends ↦ None ]
+goer (Some x) = elim x.1 [ Move.GoesOn case_no ↦ Some x.0 | Move.FallsAsleep until ↦ None | Move.Ends ↦ None | Move.Panics ↦ Some x.0 ]
 
--- whether a change is no more than a move of a goroutine
-abbrev pub is_move : Change → Bool
-is_move c = is_none c.timer && is_none (slice_get c.starts 0) && is_none c.clock && is_none c.ending
+-- whether a change is of one goroutine alone: it sets no timer, starts nobody and moves no clock
+abbrev pub is_own : Change → Bool
+is_own c = is_none c.partner && is_none c.timer && is_none (slice_get c.starts 0) && is_none c.clock
 
--- the goroutine that makes an entry when it is woken: it goes on, and the entry does no more
+-- the goroutine that makes an entry when it is woken: it goes on or panics, alone
 abbrev pub maker : Entry → Option ℕ
-maker e = cond (is_move (change_of e)) (goer (change_of e).mover) None
+maker e = cond (is_own (change_of e)) (goer (change_of e).mover) None
 
-abbrev pub is_firm_at : Script → State → ℕ → Bool
-is_firm_at script s g = elim (goroutine_at s g) [ None ↦ false | Some r ↦ is_firm script s r ]
+-- whether a goroutine is parked
+abbrev pub is_waiting : Schedule → ℕ → Bool
+is_waiting m g = is_parked (status_of m g)
+
+-- whether a goroutine is firmly ready, where its partners count that are parked
+abbrev pub is_firm_at : Script → State → Schedule → ℕ → Bool
+is_firm_at script s m g = elim (goroutine_at s g) [ None ↦ false | Some r ↦ is_firm script s (is_waiting m) g r ]
 
 -- Each entry is of a goroutine that was parked and is firmly ready there. It is parked no more after it, so it has one entry at most
 abbrev pub AreWoken : Script → State → Schedule → List Entry → Type 0
@@ -87,7 +94,7 @@ AreWoken script s m (e ∷ h) = WokenBy script s m (maker e) × AreWoken script 
   where
     WokenBy : Script → State → Schedule → Option ℕ → Type 0
     WokenBy script s m None = ⊥
-    WokenBy script s m (Some g) = IsTrue (is_parked (status_of m g)) × IsTrue (is_firm_at script s g)
+    WokenBy script s m (Some g) = IsTrue (is_waiting m g) × IsTrue (is_firm_at script s m g)
 
 -- What a change by an entry is: that entry, the entries of the goroutines that it wakes, and the finish that is due then. The rest stays
 pub record Enters (old : BookView) (e : Entry) (new : BookView) : Type 0 where
@@ -105,26 +112,27 @@ Agrees (Mode.Sleeping until) (RunStatus.Parked since) = Unit {0}
 Agrees Mode.Ended RunStatus.Ended = Unit {0}
 Agrees _ _ = ⊥
 
--- whether a party stands at a receive from t
-abbrev pub is_at_receive : Script → State → Party → ℕ → Bool
-is_at_receive script s p t = elim (operation_at script s p) [ None ↦ false | Some o ↦ o == t ]
+-- whether a party stands at an operation that passes a test
+abbrev pub is_at : Script → State → Party → (CaseKind → Bool) → Bool
+is_at script s p test = elim (operation_at script s p) [ None ↦ false | Some kind ↦ test kind ]
 
--- whether a party is parked at a receive from t
-abbrev pub is_parked_at : Script → State → Schedule → Party → ℕ → Bool
-is_parked_at script s m p t = is_parked (status_of m p.g) && is_at_receive script s p t
+-- whether a party is parked at such an operation
+abbrev pub is_parked_at : Script → State → Schedule → Party → (CaseKind → Bool) → Bool
+is_parked_at script s m p test = is_waiting m p.g && is_at script s p test
 
--- the schedule fits the state: the run queue has exactly those that are queued, and the list at a declaration the parties that are parked there, each once
+-- the schedule fits the state: the run queue has exactly those that are queued, and the lists at a declaration the parties that are parked there, each once
 pub record Fits (script : Script) (s : State) (m : Schedule) : Type 0 where
   pub as_many : length m.statuses ≡ length s.goroutines
   pub receivers : length m.receivers ≡ length script.decls
-  pub senders : m.senders ≡ replicate (length script.decls) []
+  pub senders : length m.senders ≡ length script.decls
   pub agree : (g : ℕ) (r : Goroutine) (status : RunStatus) → goroutine_at s g ≡ Some r → status_of m g ≡ Some status → Agrees r.mode status
   pub queued : RunsQueued m
-  pub waiting : (t : ℕ) (p : Party) → t < length script.decls → often p (parties_at m.receivers t) ≡ as_number (is_parked_at script s m p t)
+  pub waiting : (t : ℕ) (p : Party) → t < length script.decls → often p (parties_at m.receivers t) ≡ as_number (is_parked_at script s m p (receives_from t))
+  pub sending : (c : ℕ) (p : Party) → c < length script.decls → often p (parties_at m.senders c) ≡ as_number (is_parked_at script s m p (sends_to c))
 
 -- no goroutine that is parked is firmly ready
 abbrev pub NoneFirm : BookView → Type 0
-NoneFirm b = (g : ℕ) → IsTrue (is_parked (status_of b.schedule g)) → is_firm_at b.script b.state g ≡ false
+NoneFirm b = (g : ℕ) → IsTrue (is_waiting b.schedule g) → is_firm_at b.script b.state b.schedule g ≡ false
 
 -- What a book keeps: its history is legal, its state is the state after it, the run goes on or has its outcome, and until then
 -- nobody is parked who could go on by another cause than a time

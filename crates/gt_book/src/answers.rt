@@ -20,6 +20,8 @@ pub enum Pick {
 pub enum Did {
     /// Its instruction was entered, and the run goes on.
     Entered,
+    /// It waits until another goroutine lets it go on.
+    Parked,
     /// Nothing yet: its instruction needs a timer's record. Only `Enrolled` says that it waits already.
     Timer(TimerOp),
     /// The run has this outcome.

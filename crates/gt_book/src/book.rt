@@ -17,14 +17,17 @@ ghost use Rattle.gt_schedule.specs.Schedule.{parties_at, status_of, marks_at, ma
 ghost use Rattle.gt_schedule.specs.Schedule as schedule;
 ghost use Rattle.gt_book.specs.Least.{counted_of};
 ghost use Rattle.gt_book.specs.Steps.{Takes, Steps, step_of, MayCommit, Commits, is_gone, is_receiving, entry_of, Clocks};
-ghost use Rattle.gt_book.specs.View.{first_view, outcome_of, with_entries, with_schedule, is_at_receive, Enters, IsLawful};
+ghost use Rattle.gt_book.specs.View.{first_view, outcome_of, with_entries, with_schedule, Enters, IsLawful};
 
 use crate::answers::{Commit, Did, Op, Pick, TimerOp};
+use crate::channels::operation_at;
 use crate::counted::least_counted;
+use crate::run::Run;
 use crate::step::{Step, next_step};
 use gt_machine::Machine;
-use gt_model::{CAP, Entry, Instr, Limits, NoMemory, Outcome, Party, Script};
+use gt_model::{CAP, CaseKind, Entry, Instr, Limits, NoMemory, Outcome, Party, Script};
 use gt_room::Room;
+use gt_rules::channel_of;
 use gt_schedule::{RunStatus, Scheduler, Ticket, most_goroutines};
 use std::alloc::Global;
 use std::marker::Model;
@@ -37,9 +40,7 @@ const PROGRAM: u32 = 0;
 pub struct Book {
     script: Script,
     limits: Limits,
-    history: Room<Entry>,
-    machine: Machine,
-    scheduler: Scheduler,
+    run: Run,
 }
 
 impl Model for Book {
@@ -68,9 +69,11 @@ impl Book {
         Ok(Book {
             script,
             limits,
-            history,
-            machine,
-            scheduler,
+            run: Run {
+                history,
+                machine,
+                scheduler,
+            },
         })
     }
 
@@ -95,14 +98,14 @@ impl Book {
     pub fn history(&self) -> &[Entry]
         ensures { result.now ≡ self.now.history }
     {
-        self.history.as_slice()
+        self.run.history.as_slice()
     }
 
     /// The outcome of the run, if it has one.
     pub fn outcome(&self) -> Option<Outcome>
         ensures { result ≡ outcome_of self.now }
     {
-        self.machine.outcome()
+        self.run.machine.outcome()
     }
 
     /// The clock of a world, in nanoseconds. The program is world 0.
@@ -110,7 +113,7 @@ impl Book {
         requires { world < length self.now.state.clocks }
         ensures { result ≡ at.clock self.now.state world }
     {
-        self.machine.clock(world)
+        self.run.machine.clock(world)
     }
 
     /// The instruction at the place of a goroutine, whether it stands there, sleeps or has ended.
@@ -118,7 +121,7 @@ impl Book {
         requires { IsSome (at.goroutine_at self.now.state g) }
         ensures { placed_at self.now.script self.now.state g ≡ Some result.now }
     {
-        self.machine.instr_of(&self.script, g)
+        self.run.machine.instr_of(&self.script, g)
     }
 
     /// One above the greatest number of a timer's record: the declarations have the first numbers, and the sleeps of goroutines those behind them.
@@ -132,14 +135,14 @@ impl Book {
     pub fn in_hand(&self, g: u32) -> bool
         ensures { IsTrue result ↔ (status_of self.now.schedule g ≡ Some RunStatus.InHand) }
     {
-        self.scheduler.status_of(g) == Some(RunStatus::InHand)
+        self.run.scheduler.status_of(g) == Some(RunStatus::InHand)
     }
 
     /// When the timer at a place of a declaration is due, in nanoseconds, or None where it is not set or was not made.
     pub fn due_of(&self, t: u32) -> Option<u64>
         ensures { result ≡ at.due_of self.now.state t }
     {
-        self.machine.due_of(t)
+        self.run.machine.due_of(t)
     }
 
     /// Who has waited longest at a receive from a timer, or None where nobody waits there.
@@ -147,7 +150,7 @@ impl Book {
         requires { t < length self.now.script.decls }
         ensures { result ≡ slice_get (parties_at self.now.schedule.receivers t) 0 }
     {
-        self.scheduler.first_receiver(t)
+        self.run.scheduler.first_receiver(t)
     }
 
     /// The least of the times that will unblock somebody, and the number of a record that shows it; None where there is none. It looks at all
@@ -157,14 +160,14 @@ impl Book {
         ensures least { IfSome result (λ found. least (counted self.now.script self.now.state 0) ≡ Some found.0) }
         ensures whose { IfSome result (λ found. counted_of self.now.script self.now.state found.1 ≡ Some found.0) }
     {
-        least_counted(&self.machine, &self.script)
+        least_counted(&self.run.machine, &self.script)
     }
 
     /// Whether the goroutine of a ticket is still parked as it was when it got it.
     pub fn live(&self, ticket: Ticket) -> bool
         ensures { IsTrue result ↔ IsLive self.now.schedule ticket }
     {
-        self.scheduler.is_live(ticket)
+        self.run.scheduler.is_live(ticket)
     }
 
     /// Marks a goroutine that is parked at a receive from timer `t` as one that the timer's record counts. It has no mark so far.
@@ -174,14 +177,14 @@ impl Book {
         requires room { HasMarkRoom self.old.schedule ticket.g }
         ensures { self.new ≡ with_schedule self.old (marked self.old.schedule ticket.g t) }
     {
-        self.scheduler.mark_blocked(ticket.g, t);
+        self.run.scheduler.mark_blocked(ticket.g, t);
     }
 
     /// The timer of a goroutine's earliest mark, or None where it has no mark.
     pub fn next_blocked(&self, g: u32) -> Option<u32>
         ensures { result ≡ slice_get (marks_at self.now.schedule g) 0 }
     {
-        self.scheduler.next_blocked(g)
+        self.run.scheduler.next_blocked(g)
     }
 
     /// Takes one mark of timer `t` away from a goroutine.
@@ -189,17 +192,17 @@ impl Book {
         requires { 0 < times t (marks_at self.old.schedule g) }
         ensures { self.new ≡ with_schedule self.old (unmarked self.old.schedule g t) }
     {
-        self.scheduler.unmark_blocked(g, t);
+        self.run.scheduler.unmark_blocked(g, t);
     }
 
     /// Takes the first of the run queue into the caller's hand, or answers how many are in workers' hands where the queue is empty.
     pub fn take_ready(&mut self) -> Pick
         ensures { Takes self.old result self.new }
     {
-        match self.scheduler.take() {
+        match self.run.scheduler.take() {
             Some(g) => Pick::Run(g),
             None => Pick::Nothing {
-                running: self.scheduler.running(),
+                running: self.run.scheduler.running(),
             },
         }
     }
@@ -210,7 +213,7 @@ impl Book {
         ensures count { result ≡ in_hand self.old.schedule }
         ensures queue { self.new ≡ with_schedule self.old (given_back self.old.schedule) }
     {
-        self.scheduler.give_back()
+        self.run.scheduler.give_back()
     }
 
     /// One step of a goroutine that is in the caller's hand: its instruction is entered, or it waits, or its instruction needs a timer's record and
@@ -228,8 +231,12 @@ impl Book {
                 self.outcome().map_or(Did::Entered, Did::Over)
             }
             Step::Waits(t) => {
-                let ticket = self.scheduler.park_at(g, t);
+                let ticket = self.run.scheduler.park_at(g, CaseKind::Recv(t));
                 Did::Timer(TimerOp::Enrolled(ticket))
+            }
+            Step::Parks(kind) => {
+                let _ticket = self.run.scheduler.park_at(g, kind);
+                Did::Parked
             }
             Step::Needs(op) => Did::Timer(op),
             Step::Nowhere => unreachable!(),
@@ -255,7 +262,7 @@ impl Book {
         ensures { Clocks self.old (min reading greatest_time) self.new }
     {
         let to = reading.min(CAP);
-        if self.outcome().is_none() && self.machine.clock(PROGRAM) < to {
+        if self.outcome().is_none() && self.run.machine.clock(PROGRAM) < to {
             self.enter(Entry::Clock {
                 world: PROGRAM,
                 at: to,
@@ -283,8 +290,8 @@ impl Book {
         requires none_counted { counted self.old.script self.old.state 0 ≡ [] }
         ensures { self.new ≡ with_entries self.old (Entry.Finish Outcome.Deadlock ∷ []) }
     {
-        self.machine.finish(Outcome::Deadlock);
-        self.history.put(Entry::Finish {
+        self.run.machine.finish(Outcome::Deadlock);
+        self.run.history.put(Entry::Finish {
             outcome: Outcome::Deadlock,
         });
     }
@@ -294,7 +301,7 @@ impl Book {
         requires { status_of self.now.schedule g ≡ Some RunStatus.InHand }
         ensures { step_of self.now.script self.now.state self.now.schedule g ≡ Some result }
     {
-        next_step(&self.machine, &self.script, g).unwrap()
+        next_step(&self.run.machine, &self.run.scheduler, &self.script, g).unwrap()
     }
 
     /// Whether an operation comes too late.
@@ -304,7 +311,7 @@ impl Book {
         self.outcome().is_some()
             || match *op {
                 Op::TRecv { p, t, .. } => !self.is_receiving(p, t),
-                Op::Wake { g } => self.machine.until(g).is_none(),
+                Op::Wake { g } => self.run.machine.until(g).is_none(),
                 _ => false,
             }
     }
@@ -313,9 +320,8 @@ impl Book {
     fn is_receiving(&self, p: Party, t: u32) -> bool
         ensures { result ≡ is_receiving self.now.script self.now.state self.now.schedule p t }
     {
-        (self.in_hand(p.g) || self.scheduler.is_parked(p.g))
-            && p.case_no == 0
-            && matches!(self.machine.stands_at(&self.script, p.g), Some(Instr::Recv { o }) if *o == t)
+        (self.in_hand(p.g) || self.run.scheduler.is_parked(p.g))
+            && matches!(operation_at(&self.run.machine, &self.script, p), Some(CaseKind::Recv(o)) if o == t)
     }
 
     /// The entry of an operation.
@@ -351,7 +357,7 @@ impl Book {
             Op::TRecv { p, t, due, next } => Entry::TRecv { p, t, due, next },
             Op::Fire { t } => Entry::FireFunc {
                 t,
-                child: self.machine.goroutine_count() + 1,
+                child: self.run.machine.goroutine_count() + 1,
             },
             Op::Sleep { g, until } => Entry::Sleep {
                 g,
@@ -361,19 +367,17 @@ impl Book {
         }
     }
 
-    /// Makes an entry, and the finish of the run where one is due then.
+    /// Makes an entry, those of whoever goes on by it at its channel, and the finish of the run where one is due then.
     fn enter(&mut self, entry: Entry)
         requires running { outcome_of self.old ≡ None }
         requires may { May self.old.script self.old.state entry }
         requires served { Served self.old.schedule entry }
         ensures { Enters self.old entry self.new }
     {
-        self.machine.apply(&self.script, &entry);
-        self.scheduler.apply(&entry);
-        self.history.put(entry);
-        if let Some(outcome) = self.machine.due_outcome(self.limits) {
-            self.machine.finish(outcome);
-            self.history.put(Entry::Finish { outcome });
+        self.run.make(&self.script, entry);
+        if let Some((c, _)) = channel_of(&entry) {
+            self.run.wake(&self.script, self.limits, c);
         }
+        self.run.end(self.limits);
     }
 }

@@ -3,7 +3,9 @@
 
 mod answers;
 mod book;
+mod channels;
 mod counted;
+mod run;
 mod step;
 
 pub use answers::{Commit, Did, Op, Pick, TimerOp};

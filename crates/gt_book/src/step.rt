@@ -4,13 +4,15 @@ ghost use Rattle.std.specs.Prelude.{◌≡◌, ◌<◌, ◌-◌, ◌^◌, length
 ghost use Rattle.gt_rules.specs.State as at;
 ghost use Rattle.gt_facts.specs.Formed.{IsFormed};
 ghost use Rattle.gt_machine.specs.Machine.{state_of};
-ghost use Rattle.gt_schedule.specs.Schedule.{Schedule};
-ghost use Rattle.gt_book.specs.Steps.{step_of, step_of_instr};
+ghost use Rattle.gt_model.specs.Good.{IsGood, NamesRightly};
+ghost use Rattle.gt_schedule.specs.Scheduler.{schedule_of};
+ghost use Rattle.gt_book.specs.Steps.{step_of, step_of_instr, HasLists};
 
 use crate::answers::TimerOp;
-use gt_machine::Machine;
-use gt_model::{Entry, Instr, Script};
-use gt_schedule::plainly;
+use crate::channels::{step_of_recv, step_of_send};
+use gt_machine::{Machine, is_chan};
+use gt_model::{CaseKind, Entry, Instr, Script};
+use gt_schedule::{Scheduler, plainly};
 
 /// What a goroutine does next.
 #[derive(Clone, Copy)]
@@ -19,6 +21,8 @@ pub enum Step {
     Makes(Entry),
     /// It waits at a receive from this timer.
     Waits(u32),
+    /// It waits at this operation, for another goroutine.
+    Parks(CaseKind),
     /// Its instruction needs a timer's record.
     Needs(TimerOp),
     /// It is at the bounds of a loop, where nobody stands.
@@ -26,10 +30,12 @@ pub enum Step {
 }
 
 /// What an instruction without misuse is for goroutine `g`.
-fn step_of_instr(machine: &Machine, g: u32, instr: &Instr) -> Step
+fn step_of_instr(machine: &Machine, scheduler: &Scheduler, script: &Script, g: u32, instr: &Instr) -> Step
     requires world { at.world_of (state_of machine.now) g < length machine.now.clocks.items }
     requires few { length machine.now.goroutines.items < 2 ^ 32 - 1 }
-    ensures { result ≡ step_of_instr (state_of machine.now) g instr.now }
+    requires lists { HasLists script.now scheduler.now }
+    requires names { NamesRightly script.now instr.now }
+    ensures { result ≡ step_of_instr script.now (state_of machine.now) (schedule_of scheduler.now) g instr.now }
 {
     match *instr {
         Instr::Say { n } => Step::Makes(Entry::Say { g, n }),
@@ -47,17 +53,23 @@ fn step_of_instr(machine: &Machine, g: u32, instr: &Instr) -> Step
         Instr::New { t, d } => Step::Needs(TimerOp::Set { t, d, anew: false }),
         Instr::Reset { t, d } => Step::Needs(TimerOp::Set { t, d, anew: true }),
         Instr::Stop { t } => Step::Needs(TimerOp::Stop(t)),
+        Instr::Recv { o } if is_chan(script, o) => step_of_recv(machine, scheduler, script, g, o),
         Instr::Recv { o } => Step::Waits(o),
+        Instr::Make { c } => Step::Makes(Entry::Make { g, c }),
+        Instr::Send { c, v } => step_of_send(machine, scheduler, script, g, c, v),
+        Instr::Close { c } => Step::Makes(Entry::Close { g, c }),
         Instr::LoopTop { .. } | Instr::LoopEnd { .. } => Step::Nowhere,
         Instr::Finish => Step::Makes(Entry::End { g }),
     }
 }
 
 /// What goroutine `g` does next. None where it stands at no instruction.
-pub fn next_step(machine: &Machine, script: &Script, g: u32) -> Option<Step>
+pub fn next_step(machine: &Machine, scheduler: &Scheduler, script: &Script, g: u32) -> Option<Step>
+    requires good { IsGood script.now }
     requires formed { IsFormed script.now (state_of machine.now) }
     requires few { length machine.now.goroutines.items < 2 ^ 32 - 1 }
-    ensures { (m : Schedule) → result ≡ step_of script.now (state_of machine.now) m g }
+    requires lists { HasLists script.now scheduler.now }
+    ensures { result ≡ step_of script.now (state_of machine.now) (schedule_of scheduler.now) g }
 {
     let instr = machine.stands_at(script, g)?;
     Some(match machine.fault(instr) {
@@ -65,6 +77,6 @@ pub fn next_step(machine: &Machine, script: &Script, g: u32) -> Option<Step>
             p: plainly(g),
             reason,
         }),
-        None => step_of_instr(machine, g, instr),
+        None => step_of_instr(machine, scheduler, script, g, instr),
     })
 }

@@ -1,0 +1,56 @@
+//! What a run has made so far, and how an entry is made.
+
+ghost use Rattle.gt_model.specs.declared.entry.Entry.{Entry};
+ghost use Rattle.gt_model.specs.declared.entry.Limits.{Limits};
+ghost use Rattle.gt_model.specs.declared.script.Script.{Script};
+ghost use Rattle.gt_book.specs.Run.{CanMake, Makes, CanWake, Wakes, CanEnd, Ends};
+
+use crate::channels::next_woken;
+use gt_machine::Machine;
+use gt_model::{Entry, Limits, Script};
+use gt_room::Room;
+use gt_schedule::Scheduler;
+
+/// The entries that a run has made, the state after them, and who runs and who waits.
+#[derive(Drop)]
+pub struct Run {
+    pub history: Room<Entry>,
+    pub machine: Machine,
+    pub scheduler: Scheduler,
+}
+
+impl Run {
+    /// Makes an entry.
+    pub fn make(&mut self, script: &Script, entry: Entry)
+        requires { (limits : Limits) × CanMake script.now limits self.old entry }
+        ensures { (limits : Limits) → CanMake script.now limits self.old entry → Makes script.now limits self.old entry self.new }
+    {
+        self.machine.apply(script, &entry);
+        self.scheduler.apply(&entry);
+        self.history.put(entry);
+    }
+
+    /// Lets those go on that wait at a channel and can, until none can or the run is to end.
+    pub fn wake(&mut self, script: &Script, limits: Limits, c: u32)
+        requires { CanWake script.now limits self.old c }
+        ensures { Wakes script.now limits self.old self.new }
+    {
+        while self.machine.due_outcome(limits).is_none() {
+            let Some(entry) = next_woken(&self.machine, &self.scheduler, script, c) else {
+                return;
+            };
+            self.make(script, entry);
+        }
+    }
+
+    /// Ends the run where an outcome is due.
+    pub fn end(&mut self, limits: Limits)
+        requires { (script : Script) × CanEnd script limits self.old }
+        ensures { (script : Script) → CanEnd script limits self.old → Ends script limits self.old self.new }
+    {
+        if let Some(outcome) = self.machine.due_outcome(limits) {
+            self.machine.finish(outcome);
+            self.history.put(Entry::Finish { outcome });
+        }
+    }
+}
