@@ -323,15 +323,14 @@ send-not script s g c v idle does ready =
     let unshut : is_closed s c ≡ false = is.unshut in
     either-not (is_closed s c) (nat_lt (item_count s c) (capacity_of script c)) ready (λ shut. cc)
     (λ room.
-      idle (Entry.Send (plain g) c v)
-      (does-Operates script s g (Instr.Send c v) (CaseKind.Send c v) refl does, is.is, ltb-true (item_count s c) (capacity_of script c) room))
+    idle (Entry.Send (plain g) c v)
+    (does-Operates script s g (Instr.Send c v) (CaseKind.Send c v) refl does, is.is, ltb-true (item_count s c) (capacity_of script c) room))
 
 -- a sender and a receiver at a channel that keeps no values
 pair-not : (script : Script) (s : State) (from to c v : ℕ) → IsIdle script s → Does script s from (Instr.Send c v) → Does script s to (Instr.Recv c) → capacity_of script c ≡ 0
     → from ≢ to → ⊥
 pair-not script s from to c v idle sends gets none other =
-    idle (Entry.Pair (plain from) (plain to) c v)
-    (
+    idle (Entry.Pair (plain from) (plain to) c v) (
       does-Operates script s from (Instr.Send c v) (CaseKind.Send c v) refl sends,
       does-Operates script s to (Instr.Recv c) (CaseKind.Recv c) refl gets,
       (opened script s from c (Instr.Send c v) refl sends).is,

@@ -60,8 +60,7 @@ named-May script s (Entry.Recv p c v) good may = (tt, (one-operation_at script s
 named-May script s (Entry.Pair from to c v) good may =
     let sends : Operates script s from (CaseKind.Send c v) = may.0 in
     let gets : Operates script s to (CaseKind.Recv c) = may.1 in
-    let chan : IsTrue (is_chan script c) = names-Does script s from.g (Instr.Send c v) good (send-Does script s from c v sends) in
-    (
+    let chan : IsTrue (is_chan script c) = names-Does script s from.g (Instr.Send c v) good (send-Does script s from c v sends) in (
       tt,
       (
         one-operation_at script s from.g from.case_no (CaseKind.Send c v) sends.stands,
@@ -69,8 +68,7 @@ named-May script s (Entry.Pair from to c v) good may =
       ),
     )
 named-May script s e good may =
-    assumption
-    (
+    assumption (
       one-Maker script s (change_of e).mover (change_of e).partner (change_of e).clock (maker script s e may),
       sets script s e good may,
       trades-May script s e good may,

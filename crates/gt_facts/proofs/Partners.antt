@@ -1,14 +1,14 @@
 -- The partner of a goroutine at a channel that keeps no values: another one that stands at the other operation and makes no panic.
-use Rattle.std.proofs.Common.{◌≡◌, ◌≢◌, ℕ, ◌==◌, refl, sym, ap, subst, ◌∙◌, Option, None, Some, Bool, true, false, not, ◌&&◌, is_none, eqb}
+use Rattle.std.proofs.Common.{◌≡◌, ◌≢◌, ℕ, ◌==◌, refl, ap, ◌∙◌, Option, None, Some, Bool, true, false, not, ◌&&◌, is_none}
 use Rattle.std.proofs.lemmas.Bool.{and_parts, and_from, eqb-false, ne_eqb}
 use Rattle.gt_model.specs.declared.script.Script.{Script}
 use Rattle.gt_model.specs.declared.script.Instr.{Instr}
 use Rattle.gt_model.specs.declared.script.CaseKind.{CaseKind}
 use Rattle.gt_model.specs.declared.state.Goroutine.{Goroutine}
 use Rattle.gt_model.specs.declared.entry.Reason.{Reason}
-use Rattle.gt_rules.specs.State.{State, goroutine_at, stands, stands_at}
+use Rattle.gt_rules.specs.State.{State, goroutine_at, stands}
 use Rattle.gt_rules.specs.Operations.{offers}
-use Rattle.gt_rules.specs.Panics.{panic_of, panic_at}
+use Rattle.gt_rules.specs.Panics.{panic_of}
 use Rattle.gt_rules.specs.Ready.{is_partner, partner_waits}
 use Rattle.gt_rules.specs.Legal.{Does}
 use Rattle.gt_facts.proofs.Lookups.{Found, found, any-enumerated}
