@@ -152,7 +152,23 @@ often-joins_here lists t p q within = ap (often p) (parties-joins_same lists t q
 pub often-joins_elsewhere : (lists : List (List Party)) (t u : ℕ) (p q : Party) → u ≢ t → often p (parties_at (joins lists t q) u) ≡ often p (parties_at lists u)
 often-joins_elsewhere lists t u p q n = ap (often p) (parties-joins_other lists t u q n)
 
--- and the parties of the other goroutines stand as often as before
+-- both in one: it stands once more there, if it is the one that joins, and elsewhere as often as before
+pub often-joins : (lists : List (List Party)) (t u : ℕ) (p q : Party) → t < length lists
+    → often p (parties_at (joins lists t q) u) ≡ often p (parties_at lists u) + as_number (eqb t u && is_party q p)
+often-joins lists t u p q within =
+    elim (cases_eq t u) [
+      | inl e ↦
+          let one : as_number (eqb t u && is_party q p) ≡ as_number (is_party q p) = ap (λ b. as_number (b && is_party q p)) (eq-eqb t u e) in
+          let here : often p (parties_at (joins lists t q) u) ≡ often p (parties_at lists u) + as_number (is_party q p) =
+          subst (λ u. often p (parties_at (joins lists t q) u) ≡ often p (parties_at lists u) + as_number (is_party q p)) e (often-joins_here lists t p q within) in
+          omega arith
+      | inr n ↦
+          let none : as_number (eqb t u && is_party q p) ≡ 0 = ap (λ b. as_number (b && is_party q p)) (ne_eqb t u n) in
+          let same : often p (parties_at (joins lists t q) u) ≡ often p (parties_at lists u) = often-joins_elsewhere lists t u p q (λ e. n (sym e)) in
+          omega arith
+    ]
+
+-- the parties of the other goroutines stand as often as before
 pub often-joins_other : (lists : List (List Party)) (t u : ℕ) (p q : Party) → p.g ≢ q.g → often p (parties_at (joins lists t q) u) ≡ often p (parties_at lists u)
 often-joins_other lists t u p q n =
     elim (cases_eq u t) [
