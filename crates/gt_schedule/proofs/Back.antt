@@ -11,6 +11,7 @@ use Rattle.gt_schedule.specs.Counts.{as_number, times}
 use Rattle.gt_schedule.specs.Schedule.{Schedule, status_of, is_parked, is_queued, is_in_hand, back_in_queue, in_hands_from, given_back, put_back}
 use Rattle.gt_schedule.specs.Scheduler.{IsOrderly}
 use Rattle.gt_schedule.proofs.Lists.{times-push_same, times-push_other}
+use Rattle.gt_schedule.proofs.Parties.{parked-stay}
 
 pub hand-status : (o : Option RunStatus) → is_in_hand o ≡ true → o ≡ Some RunStatus.InHand
 hand-status None e = cc
@@ -114,10 +115,8 @@ orderly-queued m g orderly in_hand =
             times-push_other h g m.run_queue n
             ∙ (orderly.queued h ∙ ap (λ o. as_number (is_queued o)) (sym (numbered-change_other m.statuses g h (λ _. RunStatus.Queued) n)))
       ];
-      receivers = λ t p not_parked. elim (cases_eq p.g g) [
-        | inl e ↦ orderly.receivers t p (subst (λ h. is_parked (status_of m h) ≡ false) (sym e) (ap is_parked in_hand))
-        | inr n ↦ orderly.receivers t p (ap is_parked (sym (numbered-change_other m.statuses g p.g (λ _. RunStatus.Queued) n)) ∙ not_parked)
-      ];
+      receivers = parked-stay m (queued m g) g m.receivers orderly.receivers (ap is_parked in_hand) (λ h n. numbered-change_other m.statuses g h (λ _. RunStatus.Queued) n);
+      senders = parked-stay m (queued m g) g m.senders orderly.senders (ap is_parked in_hand) (λ h n. numbered-change_other m.statuses g h (λ _. RunStatus.Queued) n);
     }
 
 before-queued : (m : Schedule) (n : ℕ) → ((h : ℕ) → h < n + 1 → is_in_hand (status_of m h) ≡ false) → status_of m (n + 1) ≡ Some RunStatus.InHand

@@ -108,6 +108,7 @@ pub record Marks (m n : Scheduler) (g : ℕ) (was status : RunStatus) : Type 0 w
   pub spare : n.statuses.spare ≡ m.statuses.spare
   pub members : n.queues.members ≡ m.queues.members
   pub queues : length n.queues.queues ≡ length m.queues.queues
+  pub declared : n.declared ≡ m.declared
   pub running : n.running + as_number (is_in_hand (Some was)) ≡ m.running + as_number (is_in_hand (Some status))
   pub parks : m.parks ≤ 2 ^ 64 - 1 → n.parks ≤ 2 ^ 64 - 1
   pub marks : n.marks ≡ m.marks
@@ -127,7 +128,8 @@ kept-marks m n g was status marks h =
     let before : m.running ≡ in_hand (schedule_of m) = h.running in
     let change : n.running + as_number (is_in_hand (Some was)) ≡ m.running + as_number (is_in_hand (Some status)) = marks.running in
     let same_queues : length n.queues.queues ≡ length m.queues.queues = marks.queues in
-    let some_queues : 0 < length m.queues.queues = h.queues in
+    let all_queues : length m.queues.queues ≡ m.declared + m.declared + 1 = h.queues in
+    let same_names : n.declared ≡ m.declared = marks.declared in
     let few : capacity m + length m.queues.queues < 2 ^ 32 - 1 = h.few in
     record {
       running = omega arith;

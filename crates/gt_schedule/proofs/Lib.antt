@@ -1,4 +1,5 @@
 pub mod Lists
+pub mod Parties
 pub mod Counting
 pub mod Keeping
 pub mod Moving

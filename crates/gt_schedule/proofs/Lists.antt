@@ -1,7 +1,8 @@
 -- How often a number and a party stand in a list, and who stands at a declaration, after a change.
-use Rattle.std.proofs.Common.{◌≡◌, ◌≢◌, ℕ, zero, suc, ◌+◌, ◌<◌, List, [], ◌∷◌, ◌++◌, length, map, drop, replicate, refl, sym, ap, ◌∙◌, arith, slice_get, Some, Bool, true, false, ◌&&◌, eqb, get_or-set_same, get_or-set_other, inl, inr}
+use Rattle.std.proofs.Common.{◌≡◌, ◌≢◌, ℕ, zero, suc, ◌+◌, ◌<◌, List, [], ◌∷◌, ◌++◌, length, map, drop, replicate, refl, sym, ap, ◌∙◌, arith, slice_get, Some, Bool, true, false, ◌&&◌, ◌≤◌, ◌⊎◌, eqb, subst, get_or-set_same, get_or-set_other, inl, inr}
 use Rattle.std.specs.List.{Contains}
-use Rattle.std.proofs.lemmas.Bool.{cases_eq, eq-eqb, ne_eqb}
+use Rattle.std.proofs.lemmas.Bool.{cases_eq, cases_lt, eq-eqb, ne_eqb}
+use Rattle.std.proofs.lemmas.List.{get_or_past, length-set}
 use Rattle.gt_model.specs.declared.entry.Party.{Party}
 use Rattle.gt_queue.proofs.Members.{Contains-nil, Contains_cases}
 use Rattle.gt_schedule.specs.Counts.{as_number, times, is_party, often}
@@ -127,3 +128,67 @@ parties-without g (x ∷ xs) (suc t) = parties-without g xs t
 pub without-nobody : (g n : ℕ) → map (without_goroutine g) (replicate n []) ≡ replicate n []
 without-nobody g zero = refl
 without-nobody g (suc n) = ap (λ xs. [] ∷ xs) (without-nobody g n)
+
+-- nobody stands at a declaration where the lists are empty
+pub nobody-there : (n t : ℕ) → parties_at (replicate n []) t ≡ []
+nobody-there zero t = refl
+nobody-there (suc n) zero = refl
+nobody-there (suc n) (suc t) = nobody-there n t
+
+-- ---- how often a party stands at a declaration, after a change of the lists
+
+pub length-joins : (lists : List (List Party)) (t : ℕ) (q : Party) → length (joins lists t q) ≡ length lists
+length-joins lists t q = length-set lists t (parties_at lists t ++ q ∷ [])
+
+pub length-left : (g : ℕ) (lists : List (List Party)) → length (map (without_goroutine g) lists) ≡ length lists
+length-left g [] = refl
+length-left g (x ∷ xs) = ap suc (length-left g xs)
+
+-- where a party joins, it stands once more
+pub often-joins_here : (lists : List (List Party)) (t : ℕ) (p q : Party) → t < length lists
+    → often p (parties_at (joins lists t q) t) ≡ often p (parties_at lists t) + as_number (is_party q p)
+often-joins_here lists t p q within = ap (often p) (parties-joins_same lists t q within) ∙ often-push p q (parties_at lists t)
+
+pub often-joins_elsewhere : (lists : List (List Party)) (t u : ℕ) (p q : Party) → u ≢ t → often p (parties_at (joins lists t q) u) ≡ often p (parties_at lists u)
+often-joins_elsewhere lists t u p q n = ap (often p) (parties-joins_other lists t u q n)
+
+-- both in one: it stands once more there, if it is the one that joins, and elsewhere as often as before
+pub often-joins : (lists : List (List Party)) (t u : ℕ) (p q : Party) → t < length lists
+    → often p (parties_at (joins lists t q) u) ≡ often p (parties_at lists u) + as_number (eqb t u && is_party q p)
+often-joins lists t u p q within =
+    elim (cases_eq t u) [
+      | inl e ↦
+          let one : as_number (eqb t u && is_party q p) ≡ as_number (is_party q p) = ap (λ b. as_number (b && is_party q p)) (eq-eqb t u e) in
+          let here : often p (parties_at (joins lists t q) u) ≡ often p (parties_at lists u) + as_number (is_party q p) =
+          subst (λ u. often p (parties_at (joins lists t q) u) ≡ often p (parties_at lists u) + as_number (is_party q p)) e (often-joins_here lists t p q within) in
+          omega arith
+      | inr n ↦
+          let none : as_number (eqb t u && is_party q p) ≡ 0 = ap (λ b. as_number (b && is_party q p)) (ne_eqb t u n) in
+          let same : often p (parties_at (joins lists t q) u) ≡ often p (parties_at lists u) = often-joins_elsewhere lists t u p q (λ e. n (sym e)) in
+          omega arith
+    ]
+
+-- the parties of the other goroutines stand as often as before
+pub often-joins_other : (lists : List (List Party)) (t u : ℕ) (p q : Party) → p.g ≢ q.g → often p (parties_at (joins lists t q) u) ≡ often p (parties_at lists u)
+often-joins_other lists t u p q n =
+    elim (cases_eq u t) [
+      | inl e ↦ subst (λ u. often p (parties_at (joins lists t q) u) ≡ often p (parties_at lists u)) (sym e) (here (cases_lt t (length lists)))
+      | inr k ↦ often-joins_elsewhere lists t u p q k
+    ]
+  where
+    here : (t < length lists) ⊎ (length lists ≤ t) → often p (parties_at (joins lists t q) t) ≡ often p (parties_at lists t)
+    here (inl within) =
+        let push : often p (parties_at (joins lists t q) t) ≡ often p (parties_at lists t) + as_number (is_party q p) = often-joins_here lists t p q within in
+        let none : as_number (is_party q p) ≡ 0 = ap as_number (is_party-other q p (λ e. n (sym e))) in
+        omega arith
+    here (inr past) =
+        let long : length (joins lists t q) ≡ length lists = length-joins lists t q in
+        ap (often p) (get_or_past (joins lists t q) t [] (omega arith) ∙ sym (get_or_past lists t [] past))
+
+-- who has left stands nowhere, and the parties of the others stand as often as before
+pub often-left_same : (g : ℕ) (lists : List (List Party)) (t : ℕ) (p : Party) → p.g ≡ g → often p (parties_at (map (without_goroutine g) lists) t) ≡ 0
+often-left_same g lists t p e = ap (often p) (parties-without g lists t) ∙ often-without_same p g (parties_at lists t) e
+
+pub often-left_other : (g : ℕ) (lists : List (List Party)) (t : ℕ) (p : Party) → p.g ≢ g
+    → often p (parties_at (map (without_goroutine g) lists) t) ≡ often p (parties_at lists t)
+often-left_other g lists t p n = ap (often p) (parties-without g lists t) ∙ often-without_other p g (parties_at lists t) n

@@ -6,10 +6,13 @@ use Rattle.gt_model.proofs.Changes.{length-change_numbered}
 use Rattle.gt_model.proofs.Items.{numbered-change_same, numbered-change_other}
 use Rattle.gt_rules.specs.declared.change.Move.{Move}
 use Rattle.gt_schedule.specs.declared.status.RunStatus.{RunStatus}
-use Rattle.gt_schedule.specs.Counts.{as_number, times, often}
-use Rattle.gt_schedule.specs.Schedule.{Schedule, status_of, is_parked, is_queued, parties_at, unparked, with_status, gone_on, turned, moved_by, MayMove, ServedBy, RunsQueued}
-use Rattle.gt_schedule.specs.Scheduler.{IsOrderly}
-use Rattle.gt_schedule.proofs.Lists.{times-push_same, times-push_other, times-first_same, often-without_same, often-without_other, parties-without}
+use Rattle.gt_schedule.specs.Counts.{as_number, times}
+use Rattle.gt_schedule.specs.Schedule.{Schedule, status_of, is_parked, is_queued, unparked, with_status, gone_on, turned, moved_by, MayMove, ServedBy, ServedIn, RunsQueued}
+use Rattle.gt_schedule.specs.Scheduler.{schedule_of, capacity, IsOrderly}
+use Rattle.gt_schedule.specs.declared.scheduler.Scheduler.{Scheduler}
+use Rattle.gt_rules.specs.Change.{Change}
+use Rattle.gt_schedule.proofs.Lists.{times-push_same, times-push_other, times-first_same}
+use Rattle.gt_schedule.proofs.Parties.{parked-stay, parked-left}
 use Rattle.gt_schedule.proofs.Counting.{Parking, status-parked}
 
 -- one goroutine takes a status in which it is neither queued nor parked, or is parked from now on
@@ -24,10 +27,8 @@ orderly-leaves_hand m parks g x orderly in_hand unqueued =
             (orderly.queued g ∙ (ap (λ o. as_number (is_queued o)) in_hand ∙ sym (ap (λ o. as_number (is_queued o)) now ∙ ap as_number unqueued)))
         | inr n ↦ orderly.queued h ∙ ap (λ o. as_number (is_queued o)) (sym (numbered-change_other m.statuses g h (λ _. x) n))
       ];
-      receivers = λ t p not_parked. elim (cases_eq p.g g) [
-        | inl e ↦ orderly.receivers t p (subst (λ h. is_parked (status_of m h) ≡ false) (sym e) (ap is_parked in_hand))
-        | inr n ↦ orderly.receivers t p (ap is_parked (sym (numbered-change_other m.statuses g p.g (λ _. x) n)) ∙ not_parked)
-      ];
+      receivers = parked-stay m (with_status m g x) g m.receivers orderly.receivers (ap is_parked in_hand) (λ h n. numbered-change_other m.statuses g h (λ _. x) n);
+      senders = parked-stay m (with_status m g x) g m.senders orderly.senders (ap is_parked in_hand) (λ h n. numbered-change_other m.statuses g h (λ _. x) n);
     }
 
 orderly-unparked : (m : Schedule) (g : ℕ) → IsOrderly m → is_parked (status_of m g) ≡ true → IsOrderly (unparked m g)
@@ -43,12 +44,8 @@ orderly-unparked m g orderly waits =
             times-push_other h g m.run_queue n
             ∙ (orderly.queued h ∙ ap (λ o. as_number (is_queued o)) (sym (numbered-change_other m.statuses g h (λ _. RunStatus.Queued) n)))
       ];
-      receivers = λ t p not_parked. ap (often p) (parties-without g m.receivers t) ∙ (elim (cases_eq p.g g) [
-        | inl e ↦ often-without_same p g (parties_at m.receivers t) e
-        | inr n ↦
-            often-without_other p g (parties_at m.receivers t) n
-            ∙ orderly.receivers t p (ap is_parked (sym (numbered-change_other m.statuses g p.g (λ _. RunStatus.Queued) n)) ∙ not_parked)
-      ]);
+      receivers = parked-left m (unparked m g) g m.receivers orderly.receivers (λ h n. numbered-change_other m.statuses g h (λ _. RunStatus.Queued) n);
+      senders = parked-left m (unparked m g) g m.senders orderly.senders (λ h n. numbered-change_other m.statuses g h (λ _. RunStatus.Queued) n);
     }
 
 orderly-gone_on : (m : Schedule) (g : ℕ) (waits : Bool) → is_parked (status_of m g) ≡ waits → IsOrderly m → IsOrderly (gone_on m g waits)
@@ -59,6 +56,7 @@ pub orderly-turned : (m : Schedule) (g : ℕ) (move : Move) → IsOrderly m → 
 orderly-turned m g (Move.GoesOn case_no) orderly may = orderly-gone_on m g (is_parked (status_of m g)) refl orderly
 orderly-turned m g (Move.FallsAsleep until) orderly may = orderly-leaves_hand m _ g (RunStatus.Parked m.parks) orderly may refl
 orderly-turned m g Move.Ends orderly may = orderly-leaves_hand m m.parks g RunStatus.Ended orderly may refl
+orderly-turned m g Move.Panics orderly may = orderly
 
 pub orderly-moved : (m : Schedule) (o : Option (ℕ × Move)) → IsOrderly m → ServedBy m o → IsOrderly (moved_by m o)
 orderly-moved m None orderly served = orderly
@@ -73,10 +71,45 @@ pub as_many-turned : (m : Schedule) (g : ℕ) (move : Move) → length (turned m
 as_many-turned m g (Move.GoesOn case_no) = as_many-gone_on m g (is_parked (status_of m g))
 as_many-turned m g (Move.FallsAsleep until) = length-change_numbered m.statuses g (λ _. RunStatus.Parked m.parks)
 as_many-turned m g Move.Ends = length-change_numbered m.statuses g (λ _. RunStatus.Ended)
+as_many-turned m g Move.Panics = refl
 
 pub as_many-moved : (m : Schedule) (o : Option (ℕ × Move)) → length (moved_by m o).statuses ≡ length m.statuses
 as_many-moved m None = refl
 as_many-moved m (Some x) = as_many-turned m x.0 x.1
+
+-- ---- a scheduler after a move
+
+pub record HasMoved (m n : Scheduler) (o : Option (ℕ × Move)) : Type 0 where
+  pub schedule : schedule_of n ≡ moved_by (schedule_of m) o
+  pub room : capacity n ≡ capacity m
+
+-- where one moves, and where nobody does
+pub moved-some : (m n turn : Scheduler) (o found : Option (ℕ × Move)) (g : ℕ) (move : Move) → found ≡ o → found ≡ Some (g, move) → n ≡ turn
+    → schedule_of turn ≡ turned (schedule_of m) g move → capacity turn ≡ capacity m → HasMoved m n o
+moved-some m n turn o found g move is some same schedule room = record {
+  schedule = ap schedule_of same ∙ (schedule ∙ ap (moved_by (schedule_of m)) (sym some ∙ is));
+  room = ap capacity same ∙ room;
+}
+
+pub moved-none : (m n : Scheduler) (o found : Option (ℕ × Move)) → found ≡ o → found ≡ None → n ≡ m → HasMoved m n o
+moved-none m n o found is none same = record { schedule = ap schedule_of same ∙ ap (moved_by (schedule_of m)) (sym none ∙ is); room = ap capacity same }
+
+-- a scheduler after two moves is orderly, and as much room is left as before
+pub orderly-both : (m mid n : Scheduler) (c : Change) → HasMoved m mid c.mover → HasMoved mid n c.partner → IsOrderly (schedule_of m) → ServedIn (schedule_of m) c → IsOrderly (schedule_of n)
+orderly-both m mid n c first second orderly served =
+    subst IsOrderly (sym (second.schedule ∙ ap (λ (x : Schedule). moved_by x c.partner) first.schedule))
+    (orderly-moved (moved_by (schedule_of m) c.mover) c.partner (orderly-moved (schedule_of m) c.mover orderly served.0) served.1)
+
+as_many-after : (m n : Scheduler) (o : Option (ℕ × Move)) → HasMoved m n o → length n.statuses.items ≡ length m.statuses.items
+as_many-after m n o moved = ap (λ (x : Schedule). length x.statuses) moved.schedule ∙ as_many-moved (schedule_of m) o
+
+pub spare-both : (m mid n : Scheduler) (c : Change) → HasMoved m mid c.mover → HasMoved mid n c.partner → length m.statuses.items < capacity m → length n.statuses.items < capacity n
+spare-both m mid n c first second spare =
+    let once : length mid.statuses.items ≡ length m.statuses.items = as_many-after m mid c.mover first in
+    let twice : length n.statuses.items ≡ length mid.statuses.items = as_many-after mid n c.partner second in
+    let room : capacity mid ≡ capacity m = first.room in
+    let more_room : capacity n ≡ capacity mid = second.room in
+    omega arith
 
 -- ---- the run queue
 

@@ -3,7 +3,6 @@ use Rattle.std.specs.Prelude.{ℕ, ◌+◌, ◌-◌, ◌^◌, ◌<◌, ◌≤◌
 use Rattle.std.specs.declared.option.Option.{Option}
 use Rattle.std.specs.declared.option.Option.TheVariants.{None, Some}
 use Rattle.gt_model.specs.declared.entry.Entry.{Entry}
-use Rattle.gt_model.specs.declared.entry.Party.{Party}
 use Rattle.gt_model.specs.declared.script.CaseKind.{CaseKind}
 use Rattle.gt_queue.specs.Contents.{waiting_in}
 use Rattle.gt_schedule.specs.declared.scheduler.Scheduler.{Scheduler}

@@ -80,7 +80,9 @@ impl Scheduler {
         let mut marks = Room::with_room(alloc, most).map_err(|_| NoMemory)?;
         marks.put(None);
         let declared = script.decls.as_slice().len();
-        let mut queues = Queues::with_room(alloc, declared + declared + 1, most + 1).map_err(|_| NoMemory)?;
+        let mut queues = Queues::with_room(alloc, declared + declared + 1, most + 1).map_err(
+            |_| NoMemory,
+        )?;
         queues.enqueue(RUN_QUEUE, 1);
         Ok(Scheduler {
             statuses,

@@ -1,35 +1,50 @@
-use Rattle.std.proofs.Common.{◌≡◌, ◌<◌, Some, length, sym, ap, subst, ◌∙◌, arith}
+use Rattle.std.proofs.Common.{sym, subst}
 use Rattle.gt_rules.specs.Change.{change_of}
-use Rattle.gt_schedule.specs.Schedule.{Schedule, ServedBy, moved_by}
-use Rattle.gt_schedule.specs.Scheduler.{schedule_of, capacity, IsOrderly}
-use Rattle.gt_schedule.proofs.Moving.{orderly-moved, as_many-moved}
+use Rattle.gt_schedule.specs.Schedule.{RunsQueued}
+use Rattle.gt_schedule.specs.Scheduler.{schedule_of}
+use Rattle.gt_schedule.proofs.Moving.{HasMoved, moved-some, moved-none, orderly-moved, orderly-both, spare-both}
 use Rattle.gt_schedule.proofs.scheduler.Scheduler.apply.Goals as goal
-use Rattle.gt_schedule.proofs.scheduler.Scheduler.apply.Goals.{in-Some, in_default}
+use Rattle.gt_schedule.proofs.scheduler.Scheduler.apply.Goals.{in-Some, in_default, in-Some-partner_of, in_default-partner_of}
+
+pub turn-requires-in-Some-partner_of-clause-queued : goal.turn-requires-in-Some-partner_of-clause-queued
+turn-requires-in-Some-partner_of-clause-queued c =
+    let m = c.args.self.now in
+    let mid = c.match-mover_of.self in
+    let mover = (change_of c.args.entry.now).mover in
+    let first : HasMoved m mid mover = elim c.match-mover_of.branch [
+      | in-Some w ↦ moved-some m mid w.turn.new.self mover c.mover_of.result w.in-Some.g w.in-Some.step c.mover_of.ensures w.in-Some.is w.self-is w.turn.ensures.schedule w.turn.ensures.room
+      | in_default w ↦ moved-none m mid mover c.mover_of.result c.mover_of.ensures w.in_default.is w.self-is
+    ] in
+    subst RunsQueued (sym first.schedule) (orderly-moved (schedule_of m) mover c.requires.orderly c.requires.served.0).queued
+
+-- what the mover has done, and what the partner
+first-is : (c : goal.After-start-arg-1) → HasMoved c.args.self.now c.match-mover_of.self (change_of c.args.entry.now).mover
+first-is c =
+    let m = c.args.self.now in
+    let mid = c.match-mover_of.self in
+    let mover = (change_of c.args.entry.now).mover in
+    elim c.match-mover_of.branch [
+      | in-Some w ↦ moved-some m mid w.turn.new.self mover c.mover_of.result w.in-Some.g w.in-Some.step c.mover_of.ensures w.in-Some.is w.self-is w.turn.ensures.schedule w.turn.ensures.room
+      | in_default w ↦ moved-none m mid mover c.mover_of.result c.mover_of.ensures w.in_default.is w.self-is
+    ]
+
+second-is : (c : goal.After-start-arg-1) → HasMoved c.match-mover_of.self c.match-partner_of.self (change_of c.args.entry.now).partner
+second-is c =
+    let mid = c.match-mover_of.self in
+    let end = c.match-partner_of.self in
+    let partner = (change_of c.args.entry.now).partner in
+    elim c.match-partner_of.branch [
+      | in-Some-partner_of w ↦
+          let x = w.in-Some-partner_of in
+          let turn = w.turn-in-Some-partner_of in
+          moved-some mid end turn.new.self partner c.partner_of.result x.g x.step c.partner_of.ensures x.is w.self-is turn.ensures.schedule turn.ensures.room
+      | in_default-partner_of w ↦ moved-none mid end partner c.partner_of.result c.partner_of.ensures w.in_default-partner_of.is w.self-is
+    ]
 
 pub start-requires-clause-orderly : goal.start-requires-clause-orderly
 start-requires-clause-orderly c =
-    let m : Schedule = schedule_of c.args.self.now in
-    elim c.match-mover_of.branch [
-      | in-Some w ↦
-          let is : (change_of c.args.entry.now).mover ≡ Some (w.in-Some.g, w.in-Some.step) = sym c.mover_of.ensures ∙ w.in-Some.is in
-          let moved : IsOrderly (moved_by m (Some (w.in-Some.g, w.in-Some.step))) =
-          orderly-moved m (Some (w.in-Some.g, w.in-Some.step)) c.requires.orderly (subst (ServedBy m) is c.requires.served) in
-          subst IsOrderly (sym (ap schedule_of w.self-is ∙ w.turn.ensures.schedule)) moved
-      | in_default w ↦ subst IsOrderly (sym (ap schedule_of w.self-is)) c.requires.orderly
-    ]
+    orderly-both c.args.self.now c.match-mover_of.self c.match-partner_of.self (change_of c.args.entry.now) (first-is c) (second-is c) c.requires.orderly c.requires.served
 
 pub start-requires-clause-spare : goal.start-requires-clause-spare
 start-requires-clause-spare c =
-    let m : Schedule = schedule_of c.args.self.now in
-    let room : length m.statuses < capacity c.args.self.now = c.requires.spare in
-    elim c.match-mover_of.branch [
-      | in-Some w ↦
-          let moved : length (schedule_of c.match-mover_of.self).statuses ≡ length m.statuses =
-          ap (λ (m : Schedule). length m.statuses) (ap schedule_of w.self-is ∙ w.turn.ensures.schedule) ∙ as_many-moved m (Some (w.in-Some.g, w.in-Some.step)) in
-          let all : capacity c.match-mover_of.self ≡ capacity c.args.self.now = ap capacity w.self-is ∙ w.turn.ensures.room in
-          omega arith
-      | in_default w ↦
-          let moved : length (schedule_of c.match-mover_of.self).statuses ≡ length m.statuses = ap (λ s. length (schedule_of s).statuses) w.self-is in
-          let all : capacity c.match-mover_of.self ≡ capacity c.args.self.now = ap capacity w.self-is in
-          omega arith
-    ]
+    spare-both c.args.self.now c.match-mover_of.self c.match-partner_of.self (change_of c.args.entry.now) (first-is c) (second-is c) c.requires.spare

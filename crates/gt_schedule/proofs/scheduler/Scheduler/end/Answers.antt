@@ -18,6 +18,7 @@ returns-clause-kept c =
       spare = c.mark.ensures.spare;
       members = refl;
       queues = refl;
+      declared = refl;
       running = omega arith;
       parks = λ h. h;
       marks = refl;

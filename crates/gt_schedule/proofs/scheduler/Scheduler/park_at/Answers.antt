@@ -1,5 +1,6 @@
-use Rattle.std.proofs.Common.{refl, ap}
-use Rattle.gt_schedule.specs.Schedule.{parked, is_parked, is_queued}
+use Rattle.std.proofs.Common.{◌<◌, ◌∷◌, ◌++◌, [], length, set, refl, sym, ap, subst, ◌∙◌}
+use Rattle.gt_queue.specs.Contents.{waiting_in}
+use Rattle.gt_schedule.specs.Schedule.{Schedule, parked, object_of, is_parked, is_queued}
 use Rattle.gt_schedule.specs.Scheduler.{schedule_of}
 use Rattle.gt_schedule.proofs.Keeping.{free-orderly, joined-is}
 use Rattle.gt_schedule.proofs.scheduler.Scheduler.park_at.Goals as goal
@@ -11,4 +12,7 @@ enqueue-requires-clause-free c =
 
 pub returns-clause-schedule : goal.returns-clause-schedule
 returns-clause-schedule c =
-    joined-is c.park.new.self (record c.park.new.self { queues = c.enqueue.new.self }) (parked (schedule_of c.args.self.now) c.args.g) c.args.g c.args.t c.park.ensures.schedule refl refl refl c.enqueue.ensures.queues
+    let now : Schedule = parked (schedule_of c.args.self.now) c.args.g in
+    joined-is c.park.new.self (record c.park.new.self { queues = c.enqueue.new.self }) now c.args.g c.args.kind c.park.ensures.schedule
+    (subst (λ (s : Schedule). object_of c.args.kind < length s.receivers) (sym c.park.ensures.schedule) c.requires.declared) refl refl refl refl
+    (c.enqueue.ensures.queues ∙ ap (λ q. set c.park.new.self.queues.queues q (waiting_in c.park.new.self.queues.queues q ++ c.args.g ∷ [])) c.queue_of-queue.ensures.side)

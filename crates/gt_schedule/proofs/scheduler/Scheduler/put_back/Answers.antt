@@ -36,6 +36,7 @@ returns-then-is_in_hand-clause-kept c =
       spare = c.mark.ensures.spare;
       members = c.enqueue.ensures.members;
       queues = ap length c.enqueue.ensures.queues ∙ length-set m.queues.queues 0 _;
+      declared = refl;
       running = omega arith;
       parks = λ h. h;
       marks = refl;

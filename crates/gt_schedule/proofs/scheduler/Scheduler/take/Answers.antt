@@ -1,4 +1,4 @@
-use Rattle.std.proofs.Common.{◌≡◌, Some, ap, sym, length, ◌∙◌, arith}
+use Rattle.std.proofs.Common.{◌≡◌, Some, refl, ap, sym, length, ◌∙◌, arith}
 use Rattle.std.proofs.lemmas.List.{length-set}
 use Rattle.gt_schedule.specs.declared.status.RunStatus.{RunStatus}
 use Rattle.gt_schedule.specs.Schedule.{status_of}
@@ -21,6 +21,7 @@ returns-clause-kept c =
       spare = c.mark.ensures.spare;
       members = c.dequeue.ensures.members;
       queues = ap length c.dequeue.ensures.queues ∙ length-set m.queues.queues 0 _;
+      declared = refl;
       running = omega arith;
       parks = λ h. h;
       marks = λ i. m.marks;

@@ -13,7 +13,7 @@ enqueue-requires-clause-free c = rw c.withdraw.ensures.queues (free-without c.ar
 
 pub returns-clause-schedule : goal.returns-clause-schedule
 returns-clause-schedule c =
-    unparked-is c.args.self.now (record c.args.self.now { statuses = c.mark.new.statuses; queues = c.enqueue.new.self }) c.args.g c.requires.kept c.requires.queued c.requires.parked c.mark.ensures.items refl refl
+    unparked-is c.args.self.now (record c.args.self.now { statuses = c.mark.new.statuses; queues = c.enqueue.new.self }) c.args.g c.requires.kept c.requires.queued c.requires.parked c.mark.ensures.items refl refl refl
     (c.enqueue.ensures.queues ∙ ap (λ q. set q 0 (waiting_in q 0 ++ c.args.g ∷ [])) c.withdraw.ensures.queues)
 
 pub returns-clause-room : goal.returns-clause-room
@@ -28,6 +28,7 @@ returns-clause-kept c =
       spare = c.mark.ensures.spare;
       members = c.enqueue.ensures.members ∙ c.withdraw.ensures.members;
       queues = ap length c.enqueue.ensures.queues ∙ (length-set c.withdraw.new.self.queues 0 _ ∙ (ap length c.withdraw.ensures.queues ∙ length-without c.args.g c.args.self.now.queues.queues));
+      declared = refl;
       running = refl;
       parks = λ h. h;
       marks = refl;
