@@ -145,6 +145,7 @@ pub functions_are : (names : Names) (deeds : List Deed) (inside : Bool) (open_lo
 functions_are names [] inside open_loops n f k r p = refl
 functions_are names (declares name What.Timer ∷ rest) inside open_loops n f k r p = functions_are names rest false open_loops (n + 1) f k r.4 p.1
 functions_are names (declares name (What.AfterFunc g) ∷ rest) inside open_loops n f k r p = functions_are names rest false open_loops (n + 1) f k r.4 p.1
+functions_are names (declares name (What.Chan cap) ∷ rest) inside open_loops n f k r p = functions_are names rest false open_loops (n + 1) f k r.4 p.1
 functions_are names (declares name What.Function ∷ rest) inside open_loops n f k r p = absurd r.3
 functions_are names (opens name decl ∷ rest) inside open_loops n f k r p =
     ap (λ x. x ∷ map (λ (g : Func). g.decl) (funcs_in rest)) p.1 ∙ ap (λ xs. n ∷ xs) (functions_are names rest true [] (n + 1) (f + 1) k r.6 p.2)
@@ -176,6 +177,7 @@ pub record Found (decls : List Decl) (funcs : List Func) (n f : ℕ) (q : List �
 starts-no_function : (names : Names) (what : What) → Starts names what → is_kind_function (kind_in what) ≡ true → ⊥
 starts-no_function names What.Timer s h = cc
 starts-no_function names (What.AfterFunc f) s h = cc
+starts-no_function names (What.Chan cap) s h = cc
 starts-no_function names What.Function s h = s
 
 further-func : (g : Func) (funcs : List Func) (f : ℕ) (d : Declared) → HasFunc funcs (f + 1) d → HasFunc (g ∷ funcs) f d

@@ -11,17 +11,17 @@ use Rattle.gt_model.specs.declared.script.Func.{Func}
 use Rattle.gt_model.specs.declared.script.Decl.{Decl}
 use Rattle.gt_model.specs.declared.script.What.{What}
 use Rattle.gt_model.specs.declared.script.Instr.{Instr}
-use Rattle.gt_model.specs.Script.{what_at, names_timer, names_func, is_timer as model_is_timer}
-use Rattle.gt_model.specs.Good.{is_setting as model_is_setting, is_finish, is_line, NamesRightly, StartsRightly, IsGoodInstr, IsGoodCode, IsGood, function_name}
+use Rattle.gt_model.specs.Script.{what_at, names_timer, names_func, names_chan, is_chan as model_is_chan}
+use Rattle.gt_model.specs.Good.{is_setting as model_is_setting, gives_values as model_gives_values, is_finish, is_line, NamesRightly, DeclaresRightly, IsGoodInstr, IsGoodCode, IsGood, function_name}
 use Rattle.gt_table.specs.declared.form.Kind.{Kind}
-use Rattle.gt_table.specs.Forms.{is_kind_function, is_kind_timer}
+use Rattle.gt_table.specs.Forms.{is_kind_function, is_kind_setting, is_kind_chan, is_kind_source}
 use Rattle.gt_names.specs.declared.names.Declared.{Declared}
 use Rattle.gt_names.specs.Names.{Names, find}
 use Rattle.gt_grammar.specs.declared.progress.OpenLoop.{OpenLoop}
 use Rattle.gt_grammar.specs.declared.progress.Held.{Held}
 use Rattle.gt_grammar.specs.Faults.{holding, loop_ended}
 use Rattle.gt_grammar.specs.Deeds.{Deed, declares, opens, does, loops, closes, decl_of, func_of, decls_in, code_from, code_in, funcs_in, script_in}
-use Rattle.gt_grammar.proofs.Rightly.{kind_in, names_in, Ref, Refers, Starts, Right, opened}
+use Rattle.gt_grammar.proofs.Rightly.{kind_in, names_in, IsPlace, Refers, Starts, Right, opened}
 use Rattle.gt_grammar.proofs.DeedNames.{Placed, placed, has_names, functions_are, HasFunc, Found, found}
 use Rattle.gt_grammar.proofs.LoopsGood.{HasGoodLoops, loops-good}
 
@@ -58,43 +58,61 @@ func-name script q d k t =
     ap (option_and_then (λ (g : Func). option_map (λ (x : Decl). x.name) (slice_get script.decls g.decl))) (ap (slice_get script.funcs) at ∙ w.there)
     ∙ ap (λ i. option_map (λ (x : Decl). x.name) (slice_get script.decls i)) w.decl ∙ k.name
 
-is_setting-by : (o : Option What) (k : Kind) → option_map kind_in o ≡ Some k → is_kind_function k ≡ false → (names_timer o || names_func o) ≡ true
+-- a declaration of a kind is of that kind
+kind-is : (what : What) (k : Kind) → Some (kind_in what) ≡ Some k → kind_in what ≡ k
+kind-is what k h = cc
+
+is_setting-by : (o : Option What) (k : Kind) → option_map kind_in o ≡ Some k → is_kind_setting k ≡ true → (names_timer o || names_func o) ≡ true
 is_setting-by None k h e = cc
 is_setting-by (Some What.Timer) k h e = refl
 is_setting-by (Some (What.AfterFunc f)) k h e = refl
-is_setting-by (Some What.Function) Kind.Timer h e = cc
-is_setting-by (Some What.Function) Kind.AfterFunc h e = cc
-is_setting-by (Some What.Function) Kind.Function h e = cc
+is_setting-by (Some (What.Chan cap)) k h e = ap is_kind_setting (kind-is (What.Chan cap) k h) ∙ e
+is_setting-by (Some What.Function) k h e = ap is_kind_setting (kind-is What.Function k h) ∙ e
 
-is_timer-by : (o : Option What) (k : Kind) → option_map kind_in o ≡ Some k → is_kind_timer k ≡ true → names_timer o ≡ true
-is_timer-by None k h e = cc
-is_timer-by (Some What.Timer) k h e = refl
-is_timer-by (Some (What.AfterFunc f)) Kind.Timer h e = cc
-is_timer-by (Some (What.AfterFunc f)) Kind.AfterFunc h e = cc
-is_timer-by (Some (What.AfterFunc f)) Kind.Function h e = cc
-is_timer-by (Some What.Function) Kind.Timer h e = cc
-is_timer-by (Some What.Function) Kind.AfterFunc h e = cc
-is_timer-by (Some What.Function) Kind.Function h e = cc
+is_chan-by : (o : Option What) (k : Kind) → option_map kind_in o ≡ Some k → is_kind_chan k ≡ true → names_chan o ≡ true
+is_chan-by None k h e = cc
+is_chan-by (Some What.Timer) k h e = ap is_kind_chan (kind-is What.Timer k h) ∙ e
+is_chan-by (Some (What.AfterFunc f)) k h e = ap is_kind_chan (kind-is (What.AfterFunc f) k h) ∙ e
+is_chan-by (Some (What.Chan cap)) k h e = refl
+is_chan-by (Some What.Function) k h e = ap is_kind_chan (kind-is What.Function k h) ∙ e
 
--- what refers to a timer of either kind names one
-names-setting : (names : Names) (script : Script) → AllKnown names script → (t : ℕ) (r : Ref names) → is_kind_function r.declared.kind ≡ false → t ≡ r.declared.place → model_is_setting script t ≡ true
-names-setting names script known t r kind is =
-    let P : ℕ → Type 0 = λ x. model_is_setting script x ≡ true in
-    subst P (sym is) (is_setting-by (what_at script r.declared.place) r.declared.kind (known r.name r.declared r.known).kind kind)
+is_source-by : (o : Option What) (k : Kind) → option_map kind_in o ≡ Some k → is_kind_source k ≡ true → (names_timer o || names_chan o) ≡ true
+is_source-by None k h e = cc
+is_source-by (Some What.Timer) k h e = refl
+is_source-by (Some (What.AfterFunc f)) k h e = ap is_kind_source (kind-is (What.AfterFunc f) k h) ∙ e
+is_source-by (Some (What.Chan cap)) k h e = refl
+is_source-by (Some What.Function) k h e = ap is_kind_source (kind-is What.Function k h) ∙ e
+
+-- what refers to an object of a kind names one: what is declared at its place passes the test of that kind
+names-object : (names : Names) (script : Script) → AllKnown names script → (holds : Kind → Bool) (test : Option What → Bool)
+    → ((o : Option What) (k : Kind) → option_map kind_in o ≡ Some k → holds k ≡ true → test o ≡ true) → (x : ℕ) → IsPlace names holds x → test (what_at script x) ≡ true
+names-object names script known holds test by x p =
+    let P : ℕ → Type 0 = λ y. test (what_at script y) ≡ true in
+    subst P (sym p.is) (by (what_at script p.ref.declared.place) p.ref.declared.kind (known p.ref.name p.ref.declared p.ref.known).kind p.kind)
+
+names-setting : (names : Names) (script : Script) → AllKnown names script → (t : ℕ) → IsPlace names is_kind_setting t → model_is_setting script t ≡ true
+names-setting names script known t p = names-object names script known is_kind_setting (λ o. names_timer o || names_func o) is_setting-by t p
+
+names-chan : (names : Names) (script : Script) → AllKnown names script → (c : ℕ) → IsPlace names is_kind_chan c → model_is_chan script c ≡ true
+names-chan names script known c p = names-object names script known is_kind_chan names_chan is_chan-by c p
+
+names-source : (names : Names) (script : Script) → AllKnown names script → (o : ℕ) → IsPlace names is_kind_source o → model_gives_values script o ≡ true
+names-source names script known o p = names-object names script known is_kind_source (λ w. names_timer w || names_chan w) is_source-by o p
 
 -- what stands last is of each instruction that sets a timer
 names_rightly-by : (names : Names) (script : Script) → AllKnown names script → (i : Instr) → Refers names i → NamesRightly script i
 names_rightly-by names script known (Instr.Sleep d) r = r
 names_rightly-by names script known (Instr.Go f) r = omega (arith, r.2, func-within script r.0.name r.0.declared (known r.0.name r.0.declared r.0.known) r.1)
-names_rightly-by names script known (Instr.Stop t) r = names-setting names script known t r.0 r.1 r.2
-names_rightly-by names script known (Instr.Recv o) r =
-    let P : ℕ → Type 0 = λ x. model_is_timer script x ≡ true in
-    subst P (sym r.2) (is_timer-by (what_at script r.0.declared.place) r.0.declared.kind (known r.0.name r.0.declared r.0.known).kind r.1)
+names_rightly-by names script known (Instr.Stop t) r = names-setting names script known t r
+names_rightly-by names script known (Instr.Recv o) r = names-source names script known o r
+names_rightly-by names script known (Instr.Make c) r = names-chan names script known c r
+names_rightly-by names script known (Instr.Send c v) r = names-chan names script known c r
+names_rightly-by names script known (Instr.Close c) r = names-chan names script known c r
 names_rightly-by names script known (Instr.LoopTop depth count past) r = absurd r
 names_rightly-by names script known (Instr.LoopEnd depth top) r = absurd r
 names_rightly-by names script known Instr.Finish r = absurd r
-names_rightly-by names script known (Instr.New t d) r = (names-setting names script known t r.0 r.1 r.2, r.3)
-names_rightly-by names script known (Instr.Reset t d) r = (names-setting names script known t r.0 r.1 r.2, r.3)
+names_rightly-by names script known (Instr.New t d) r = (names-setting names script known t r.0, r.1)
+names_rightly-by names script known (Instr.Reset t d) r = (names-setting names script known t r.0, r.1)
 names_rightly-by names script known _ r = tt
 
 no_finish : (names : Names) (i : Instr) → Refers names i → is_finish i ≡ false
@@ -182,19 +200,20 @@ funcs-good names script known (loops count ∷ rest) inside open_loops n f k r =
 funcs-good names script known (closes ∷ rest) inside [] n f k r = funcs-good names script known rest false [] n f k r.1
 funcs-good names script known (closes ∷ rest) inside (inner ∷ outer) n f k r = funcs-good names script known rest true (loop_ended (inner ∷ outer)) n f k r.2
 
-starts-by : (names : Names) (script : Script) → AllKnown names script → (what : What) → Starts names what → StartsRightly script what
-starts-by names script known What.Timer s = tt
-starts-by names script known (What.AfterFunc f) s = omega (arith, s.2, func-within script s.0.name s.0.declared (known s.0.name s.0.declared s.0.known) s.1)
-starts-by names script known What.Function s = absurd s
+declares-by : (names : Names) (script : Script) → AllKnown names script → (what : What) → Starts names what → DeclaresRightly script what
+declares-by names script known What.Timer s = tt
+declares-by names script known (What.AfterFunc f) s = omega (arith, s.2, func-within script s.0.name s.0.declared (known s.0.name s.0.declared s.0.known) s.1)
+declares-by names script known (What.Chan cap) s = s
+declares-by names script known What.Function s = absurd s
 
-starts-good : (names : Names) (script : Script) → AllKnown names script → (deeds : List Deed) (inside : Bool) (open_loops : List OpenLoop) (n f k : ℕ) → Right names inside open_loops n f k deeds → All (λ (d : Decl). StartsRightly script d.what) (decls_in deeds)
-starts-good names script known [] inside open_loops n f k r = All-none (λ (d : Decl). StartsRightly script d.what)
-starts-good names script known (declares name what ∷ rest) inside open_loops n f k r = All-cons (λ (d : Decl). StartsRightly script d.what) (decl_of name what) (decls_in rest) (starts-by names script known what r.3) (starts-good names script known rest false open_loops (n + 1) f k r.4)
-starts-good names script known (opens name decl ∷ rest) inside open_loops n f k r = All-cons (λ (d : Decl). StartsRightly script d.what) (decl_of name What.Function) (decls_in rest) tt (starts-good names script known rest true [] (n + 1) (f + 1) k r.6)
-starts-good names script known (does i ∷ rest) inside open_loops n f k r = starts-good names script known rest true (holding Held.Entered open_loops) n f (k + 1) r.3
-starts-good names script known (loops count ∷ rest) inside open_loops n f k r = starts-good names script known rest true (opened count open_loops) n f k r.3
-starts-good names script known (closes ∷ rest) inside [] n f k r = starts-good names script known rest false [] n f k r.1
-starts-good names script known (closes ∷ rest) inside (inner ∷ outer) n f k r = starts-good names script known rest true (loop_ended (inner ∷ outer)) n f k r.2
+declares-good : (names : Names) (script : Script) → AllKnown names script → (deeds : List Deed) (inside : Bool) (open_loops : List OpenLoop) (n f k : ℕ) → Right names inside open_loops n f k deeds → All (λ (d : Decl). DeclaresRightly script d.what) (decls_in deeds)
+declares-good names script known [] inside open_loops n f k r = All-none (λ (d : Decl). DeclaresRightly script d.what)
+declares-good names script known (declares name what ∷ rest) inside open_loops n f k r = All-cons (λ (d : Decl). DeclaresRightly script d.what) (decl_of name what) (decls_in rest) (declares-by names script known what r.3) (declares-good names script known rest false open_loops (n + 1) f k r.4)
+declares-good names script known (opens name decl ∷ rest) inside open_loops n f k r = All-cons (λ (d : Decl). DeclaresRightly script d.what) (decl_of name What.Function) (decls_in rest) tt (declares-good names script known rest true [] (n + 1) (f + 1) k r.6)
+declares-good names script known (does i ∷ rest) inside open_loops n f k r = declares-good names script known rest true (holding Held.Entered open_loops) n f (k + 1) r.3
+declares-good names script known (loops count ∷ rest) inside open_loops n f k r = declares-good names script known rest true (opened count open_loops) n f k r.3
+declares-good names script known (closes ∷ rest) inside [] n f k r = declares-good names script known rest false [] n f k r.1
+declares-good names script known (closes ∷ rest) inside (inner ∷ outer) n f k r = declares-good names script known rest true (loop_ended (inner ∷ outer)) n f k r.2
 
 few-names : (names : Names) (deeds : List Deed) (inside : Bool) (open_loops : List OpenLoop) (n f k : ℕ) → Right names inside open_loops n f k deeds → n ≤ 4096 → n + length (decls_in deeds) ≤ 4096
 few-names names [] inside open_loops n f k r h = omega arith
@@ -264,7 +283,7 @@ deeds-good names deeds main are r is function =
     record {
       main = func-name script (codes "main") main (known (codes "main") main is) function;
       names = has_names names deeds r places;
-      starts = starts-good names script known deeds false [] 0 0 0 r;
+      declares = declares-good names script known deeds false [] 0 0 0 r;
       functions = functions_are names deeds false [] 0 0 0 r places;
       code = funcs-good names script known deeds false [] 0 0 0 r;
       few_names = omega (arith, few-names names deeds false [] 0 0 0 r (omega arith));

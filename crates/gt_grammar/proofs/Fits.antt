@@ -4,6 +4,7 @@ use Rattle.std.specs.Option.{option_map, option_and_then}
 use Rattle.std.specs.Result.{result_ok}
 use Rattle.std.specs.Str.{bytes_eq, is_utf8}
 use Rattle.std.proofs.lemmas.Bool.{leb-true, cond_both}
+use Rattle.gt_model.specs.Good.{most_capacity}
 use Rattle.gt_model.specs.Times.{greatest_time}
 use Rattle.gt_lines.specs.Number.{number_of}
 use Rattle.gt_dur.specs.declared.fault.DurFault.{DurFault}
@@ -13,13 +14,13 @@ use Rattle.gt_table.specs.declared.form.Kind.{Kind}
 use Rattle.gt_table.specs.declared.form.Role.{Role}
 use Rattle.gt_table.specs.declared.form.Step.{Step}
 use Rattle.gt_table.specs.declared.table.Keyword.{Keyword}
-use Rattle.gt_table.specs.Forms.{is_kind_function, is_kind_timer}
+use Rattle.gt_table.specs.Forms.{is_kind_function, is_kind_setting, is_kind_chan, is_kind_source}
 use Rattle.gt_table.specs.Table.{form_of, step_of}
 use Rattle.gt_names.specs.declared.names.Declared.{Declared}
 use Rattle.gt_names.specs.Names.{Names, is_free_name}
 use Rattle.gt_grammar.specs.Duration.{duration_of}
-use Rattle.gt_grammar.specs.Statements.{timer_place, setting_place, function_place, passes_of, value_of}
-use Rattle.gt_grammar.proofs.Rightly.{kind_in, Ref, Refers, Starts}
+use Rattle.gt_grammar.specs.Statements.{function_place, number_to, value_of}
+use Rattle.gt_grammar.proofs.Rightly.{kind_in, Ref, IsPlace, Refers, Starts}
 
 -- ---- a duration is at most the greatest time
 
@@ -56,32 +57,35 @@ if-Some : (b : Bool) (x v : ℕ) → cond b (Some x) None ≡ Some v → (b ≡ 
 if-Some true x v h = let e : v ≡ x = cc in (refl, e)
 if-Some false x v h = cc
 
-if-None : (b : Bool) (x v : ℕ) → cond b None (Some x) ≡ Some v → (b ≡ false) × (v ≡ x)
-if-None false x v h = let e : v ≡ x = cc in (refl, e)
-if-None true x v h = cc
-
 abbrev ref : (names : Names) (q : List ℕ) (d : Declared) → names q ≡ Some d → Ref names
 ref names q d h = record { name = q; declared = d; known = h }
 
-timer-by : (names : Names) (q : List ℕ) (v : ℕ) (o : Option Declared) → names q ≡ o → option_and_then timer_place o ≡ Some v → (r : Ref names) × (is_kind_timer r.declared.kind ≡ true) × (v ≡ r.declared.place)
-timer-by names q v None e h = cc
-timer-by names q v (Some d) e h = let both = if-Some (is_kind_timer d.kind) d.place v h in (ref names q d e, both.0, both.1)
+-- an object of the kind that is wanted
+place-by : (names : Names) (holds : Kind → Bool) (q : List ℕ) (v : ℕ) (o : Option Declared) → names q ≡ o
+    → option_and_then (λ (d : Declared). cond (holds d.kind) (Some d.place) None) o ≡ Some v → IsPlace names holds v
+place-by names holds q v None e h = cc
+place-by names holds q v (Some d) e h = let both = if-Some (holds d.kind) d.place v h in record { ref = ref names q d e; kind = both.0; is = both.1 }
 
-setting-by : (names : Names) (q : List ℕ) (v : ℕ) (o : Option Declared) → names q ≡ o → option_and_then setting_place o ≡ Some v → (r : Ref names) × (is_kind_function r.declared.kind ≡ false) × (v ≡ r.declared.place)
-setting-by names q v None e h = cc
-setting-by names q v (Some d) e h = let both = if-None (is_kind_function d.kind) d.place v h in (ref names q d e, both.0, both.1)
+setting-at : (names : Names) (q : List ℕ) (v : ℕ) → value_of names Arg.Setting q ≡ Some v → IsPlace names is_kind_setting v
+setting-at names q v h = place-by names is_kind_setting q v (names q) refl h
+
+channel-at : (names : Names) (q : List ℕ) (v : ℕ) → value_of names Arg.Channel q ≡ Some v → IsPlace names is_kind_chan v
+channel-at names q v h = place-by names is_kind_chan q v (names q) refl h
+
+source-at : (names : Names) (q : List ℕ) (v : ℕ) → value_of names Arg.Source q ≡ Some v → IsPlace names is_kind_source v
+source-at names q v h = place-by names is_kind_source q v (names q) refl h
 
 function-by : (names : Names) (q : List ℕ) (v : ℕ) (o : Option Declared) → names q ≡ o → option_and_then function_place o ≡ Some v → (r : Ref names) × (is_kind_function r.declared.kind ≡ true) × (v ≡ r.declared.func)
 function-by names q v None e h = cc
 function-by names q v (Some d) e h = let both = if-Some (is_kind_function d.kind) d.func v h in (ref names q d e, both.0, both.1)
 
--- a loop has at most 1,000,000 passes
-passes-by : (o : Option ℕ) (v : ℕ) → elim o [ None ↦ None | Some n ↦ cond (leb n 1000000) (Some n) None ] ≡ Some v → v ≤ 1000000
-passes-by None v h = cc
-passes-by (Some n) v h = let both = if-Some (leb n 1000000) n v h in omega (arith, both.1, leb-true n 1000000 both.0)
+-- a number in a range is at most the greatest of it
+number-by : (most : ℕ) (o : Option ℕ) (v : ℕ) → elim o [ None ↦ None | Some n ↦ cond (leb n most) (Some n) None ] ≡ Some v → v ≤ most
+number-by most None v h = cc
+number-by most (Some n) v h = let both = if-Some (leb n most) n v h in omega (arith, both.1, leb-true n most both.0)
 
-passes-most : (word : List ℕ) (v : ℕ) → passes_of word ≡ Some v → v ≤ 1000000
-passes-most word v h = passes-by (number_of word) v h
+number-most : (most : ℕ) (word : List ℕ) (v : ℕ) → number_to most word ≡ Some v → v ≤ most
+number-most most word v h = number-by most (number_of word) v h
 
 -- a new name is spelled rightly, and declared
 pub record IsFree (names : Names) (q : List ℕ) (v : ℕ) : Type 0 where
@@ -114,12 +118,16 @@ pub fits : (names : Names) (k : Keyword) (w u : List ℕ) (a b : ℕ) → value_
     → FitsRole names (form_of k).role (form_of k).first a (step_of k a b)
 fits names Keyword.Timer w u a b first second = (refl, refl, tt)
 fits names Keyword.AfterFunc w u a b first second = (refl, refl, function-by names u b (names u) refl second)
+fits names Keyword.Chan w u a b first second = (refl, refl, number-most most_capacity u b second)
 fits names Keyword.Func w u a b first second = (refl, refl, refl)
-fits names Keyword.Loop w u a b first second = (refl, refl, passes-most w a first)
+fits names Keyword.Loop w u a b first second = (refl, refl, number-most 1000000 w a first)
 fits names Keyword.Sleep w u a b first second = duration-value w a first
 fits names Keyword.Go w u a b first second = function-by names w a (names w) refl first
-fits names Keyword.Stop w u a b first second = setting-by names w a (names w) refl first
-fits names Keyword.Recv w u a b first second = timer-by names w a (names w) refl first
-fits names Keyword.New w u a b first second = let r = setting-by names w a (names w) refl first in (r.0, r.1, r.2, duration-value u b second)
-fits names Keyword.Reset w u a b first second = let r = setting-by names w a (names w) refl first in (r.0, r.1, r.2, duration-value u b second)
+fits names Keyword.Stop w u a b first second = setting-at names w a first
+fits names Keyword.Recv w u a b first second = source-at names w a first
+fits names Keyword.Make w u a b first second = channel-at names w a first
+fits names Keyword.Send w u a b first second = channel-at names w a first
+fits names Keyword.Close w u a b first second = channel-at names w a first
+fits names Keyword.New w u a b first second = (setting-at names w a first, duration-value u b second)
+fits names Keyword.Reset w u a b first second = (setting-at names w a first, duration-value u b second)
 fits names _ w u a b first second = tt

@@ -152,6 +152,7 @@ by-deed names p line rest deed naming says are right =
 starts-functions : (names : Names) (what : What) (f : ℕ) → Starts names what → functions_with (kind_in what) f ≡ f
 starts-functions names What.Timer f s = refl
 starts-functions names (What.AfterFunc g) f s = refl
+starts-functions names (What.Chan cap) f s = refl
 starts-functions names What.Function f s = absurd s
 
 or-first : (a b : Bool) → (a || b) ≡ false → a ≡ false
@@ -248,6 +249,10 @@ done-role names inside open_loops n f k line rest name (Role.Declares Kind.After
     let free : IsFree names name a = as-new names arg name a fit.0 v in
     done-declares names inside open_loops n f k line rest name (What.AfterFunc g) (says names line name (Some Kind.AfterFunc) (Step.Declare (What.AfterFunc g)) (Some (naming_as name Kind.AfterFunc)) d m (naming-free name Kind.AfterFunc free.free))
     here (leb-false 4096 n (or-first (leb 4096 n) false (or-first (leb 4096 n || false) false room))) (new-name names name n a free late) fit.2 ih
+done-role names inside open_loops n f k line rest name (Role.Declares Kind.Chan) arg a (Step.Declare (What.Chan cap)) d m v here late nested room fit none ih =
+    let free : IsFree names name a = as-new names arg name a fit.0 v in
+    done-declares names inside open_loops n f k line rest name (What.Chan cap) (says names line name (Some Kind.Chan) (Step.Declare (What.Chan cap)) (Some (naming_as name Kind.Chan)) d m (naming-free name Kind.Chan free.free))
+    here (leb-false 4096 n (or-first (leb 4096 n) false (or-first (leb 4096 n || false) false room))) (new-name names name n a free late) fit.2 ih
 done-role names inside open_loops n f k line rest name (Role.Declares Kind.Function) arg a (Step.Open decl) d m v here late nested room fit none ih =
     let free : IsFree names name a = as-new names arg name a fit.0 v in
     let full = or-first (leb 4096 n || leb 256 f) false room in
@@ -262,14 +267,21 @@ done-role names inside open_loops n f k line rest name Role.Loops arg a (Step.Lo
     done-loops names inside open_loops n f k line rest count (says names line name None (Step.Loop count) None d m (named-none name))
     here fit.2 (leb-false 4 (length open_loops) nested) (subst P (passes-are names arg name a count fit.0 fit.1 v) ih)
 done-role names inside open_loops n f k line rest name (Role.Declares Kind.Timer) arg a (Step.Declare (What.AfterFunc g)) d m v here late nested room fit none ih = let e = fit.1 in cc
+done-role names inside open_loops n f k line rest name (Role.Declares Kind.Timer) arg a (Step.Declare (What.Chan cap)) d m v here late nested room fit none ih = let e = fit.1 in cc
 done-role names inside open_loops n f k line rest name (Role.Declares Kind.Timer) arg a (Step.Declare What.Function) d m v here late nested room fit none ih = absurd fit.2
 done-role names inside open_loops n f k line rest name (Role.Declares Kind.AfterFunc) arg a (Step.Declare What.Timer) d m v here late nested room fit none ih = let e = fit.1 in cc
+done-role names inside open_loops n f k line rest name (Role.Declares Kind.AfterFunc) arg a (Step.Declare (What.Chan cap)) d m v here late nested room fit none ih = let e = fit.1 in cc
 done-role names inside open_loops n f k line rest name (Role.Declares Kind.AfterFunc) arg a (Step.Declare What.Function) d m v here late nested room fit none ih = absurd fit.2
+done-role names inside open_loops n f k line rest name (Role.Declares Kind.Chan) arg a (Step.Declare What.Timer) d m v here late nested room fit none ih = let e = fit.1 in cc
+done-role names inside open_loops n f k line rest name (Role.Declares Kind.Chan) arg a (Step.Declare (What.AfterFunc g)) d m v here late nested room fit none ih = let e = fit.1 in cc
+done-role names inside open_loops n f k line rest name (Role.Declares Kind.Chan) arg a (Step.Declare What.Function) d m v here late nested room fit none ih = absurd fit.2
 done-role names inside open_loops n f k line rest name (Role.Declares Kind.Function) arg a (Step.Declare What.Timer) d m v here late nested room fit none ih = let e = fit.1 in cc
 done-role names inside open_loops n f k line rest name (Role.Declares Kind.Function) arg a (Step.Declare (What.AfterFunc g)) d m v here late nested room fit none ih = let e = fit.1 in cc
+done-role names inside open_loops n f k line rest name (Role.Declares Kind.Function) arg a (Step.Declare (What.Chan cap)) d m v here late nested room fit none ih = let e = fit.1 in cc
 done-role names inside open_loops n f k line rest name (Role.Declares Kind.Function) arg a (Step.Declare What.Function) d m v here late nested room fit none ih = absurd fit.2
 done-role names inside open_loops n f k line rest name (Role.Declares Kind.Timer) arg a (Step.Open decl) d m v here late nested room fit none ih = let e = fit.1 in cc
 done-role names inside open_loops n f k line rest name (Role.Declares Kind.AfterFunc) arg a (Step.Open decl) d m v here late nested room fit none ih = let e = fit.1 in cc
+done-role names inside open_loops n f k line rest name (Role.Declares Kind.Chan) arg a (Step.Open decl) d m v here late nested room fit none ih = let e = fit.1 in cc
 done-role names inside open_loops n f k line rest name role arg a step d m v here late nested room fit none ih = absurd fit
 
 abbrev progress_by : Progress → Option Command → Progress

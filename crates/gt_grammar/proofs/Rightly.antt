@@ -2,9 +2,10 @@
 use Rattle.std.proofs.Common.{◌≡◌, ℕ, ◌+◌, ◌<◌, ◌≤◌, Bool, true, false, List, [], ◌∷◌, Option, None, Some, ltb as nat_lt, length}
 use Rattle.gt_model.specs.declared.script.What.{What}
 use Rattle.gt_model.specs.declared.script.Instr.{Instr}
+use Rattle.gt_model.specs.Good.{most_capacity}
 use Rattle.gt_model.specs.Times.{greatest_time}
 use Rattle.gt_table.specs.declared.form.Kind.{Kind}
-use Rattle.gt_table.specs.Forms.{is_kind_function, is_kind_timer}
+use Rattle.gt_table.specs.Forms.{is_kind_function, is_kind_setting, is_kind_chan, is_kind_source}
 use Rattle.gt_names.specs.declared.names.Declared.{Declared}
 use Rattle.gt_names.specs.Names.{Names, Naming, is_free_name, Declaration, declaration}
 use Rattle.gt_grammar.specs.declared.progress.OpenLoop.{OpenLoop}
@@ -15,6 +16,7 @@ use Rattle.gt_grammar.specs.Deeds.{Deed, declares, opens, does, loops, closes}
 abbrev pub kind_in : What → Kind
 kind_in What.Timer = Kind.Timer
 kind_in (What.AfterFunc func) = Kind.AfterFunc
+kind_in (What.Chan cap) = Kind.Chan
 kind_in What.Function = Kind.Function
 
 -- the place of a declared name, and whether it is among the first ones
@@ -43,22 +45,33 @@ pub record Ref (names : Names) : Type 0 where
   pub declared : Declared
   pub known : names name ≡ Some declared
 
+-- the place of a name that is declared as a kind for which this holds
+pub record IsPlace (names : Names) (holds : Kind → Bool) (place : ℕ) : Type 0 where
+  pub ref : Ref names
+  pub kind : holds ref.declared.kind ≡ true
+  pub is : place ≡ ref.declared.place
+
 -- what an instruction names is declared as such
 abbrev pub Refers : Names → Instr → Type 0
 Refers names (Instr.Sleep d) = d ≤ greatest_time
 Refers names (Instr.Go f) = (r : Ref names) × (is_kind_function r.declared.kind ≡ true) × (f ≡ r.declared.func)
-Refers names (Instr.New t d) = (r : Ref names) × (is_kind_function r.declared.kind ≡ false) × (t ≡ r.declared.place) × (d ≤ greatest_time)
-Refers names (Instr.Stop t) = (r : Ref names) × (is_kind_function r.declared.kind ≡ false) × (t ≡ r.declared.place)
-Refers names (Instr.Reset t d) = (r : Ref names) × (is_kind_function r.declared.kind ≡ false) × (t ≡ r.declared.place) × (d ≤ greatest_time)
-Refers names (Instr.Recv o) = (r : Ref names) × (is_kind_timer r.declared.kind ≡ true) × (o ≡ r.declared.place)
+Refers names (Instr.New t d) = IsPlace names is_kind_setting t × (d ≤ greatest_time)
+Refers names (Instr.Stop t) = IsPlace names is_kind_setting t
+Refers names (Instr.Reset t d) = IsPlace names is_kind_setting t × (d ≤ greatest_time)
+Refers names (Instr.Recv o) = IsPlace names is_kind_source o
+Refers names (Instr.Make c) = IsPlace names is_kind_chan c
+Refers names (Instr.Send c v) = IsPlace names is_kind_chan c
+Refers names (Instr.Close c) = IsPlace names is_kind_chan c
 Refers names (Instr.LoopTop depth count past) = ⊥
 Refers names (Instr.LoopEnd depth top) = ⊥
 Refers names Instr.Finish = ⊥
 Refers names _ = Unit {0}
 
+-- what a declaration starts is declared as such, and its capacity is in range
 abbrev pub Starts : Names → What → Type 0
 Starts names What.Timer = Unit {0}
 Starts names (What.AfterFunc f) = (r : Ref names) × (is_kind_function r.declared.kind ≡ true) × (f ≡ r.declared.func)
+Starts names (What.Chan cap) = cap ≤ most_capacity
 Starts names What.Function = ⊥
 
 -- a name that is spelled rightly and declared by none of the first n declarations

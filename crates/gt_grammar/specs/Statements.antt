@@ -4,13 +4,13 @@ use Rattle.std.specs.Option.{option_map, option_and_then}
 use Rattle.std.specs.Str.{bytes_eq}
 use Rattle.std.specs.declared.option.Option.{Option}
 use Rattle.std.specs.declared.option.Option.TheVariants.{None, Some}
-use Rattle.gt_model.specs.Good.{most_passes}
+use Rattle.gt_model.specs.Good.{most_passes, most_capacity}
 use Rattle.gt_lines.specs.Words.{Words}
 use Rattle.gt_lines.specs.Number.{number_of}
 use Rattle.gt_table.specs.declared.form.Arg.{Arg}
 use Rattle.gt_table.specs.declared.form.Step.{Step}
 use Rattle.gt_table.specs.declared.table.Keyword.{Keyword}
-use Rattle.gt_table.specs.Forms.{is_wanted, is_kind_function, is_kind_timer}
+use Rattle.gt_table.specs.Forms.{is_wanted, is_kind_function, is_kind_setting, is_kind_chan, is_kind_source}
 use Rattle.gt_table.specs.Table.{keyword_of, form_of, step_of}
 use Rattle.gt_names.specs.declared.names.Declared.{Declared}
 use Rattle.gt_names.specs.Names.{Names, is_free_name}
@@ -64,29 +64,38 @@ command_of [] = None
 command_of (word ∷ words) = option_and_then (λ (k : Keyword). command_with k words) (keyword_of word)
 
 -- the place of what a name is declared as
-abbrev pub timer_place : Declared → Option ℕ
-timer_place d = if is_kind_timer d.kind then Some d.place else None
-
 abbrev pub setting_place : Declared → Option ℕ
-setting_place d = if is_kind_function d.kind then None else Some d.place
+setting_place d = if is_kind_setting d.kind then Some d.place else None
+
+abbrev pub channel_place : Declared → Option ℕ
+channel_place d = if is_kind_chan d.kind then Some d.place else None
+
+abbrev pub source_place : Declared → Option ℕ
+source_place d = if is_kind_source d.kind then Some d.place else None
 
 abbrev pub function_place : Declared → Option ℕ
 function_place d = if is_kind_function d.kind then Some d.func else None
 
+-- the number that a word spells, if it is at most this
+abbrev pub number_to : ℕ → List ℕ → Option ℕ
+number_to most word = elim (number_of word) [ None ↦ None | Some n ↦ if nat_le n most then Some n else None ]
+
 -- how many passes of a loop a word spells: at most 1,000,000
 abbrev pub passes_of : List ℕ → Option ℕ
-passes_of word = elim (number_of word) [ None ↦ None | Some n ↦ if nat_le n most_passes then Some n else None ]
+passes_of word = number_to most_passes word
 
 -- The value of a word: for a name the place at which it is declared first, for an amount the amount. None where the word is wrong
 abbrev pub value_of : Names → Arg → List ℕ → Option ℕ
 value_of names Arg.Nothing word = Some 0
 value_of names Arg.NewName word = if is_free_name word then option_map (λ (d : Declared). d.place) (names word) else None
-value_of names Arg.Timer word = option_and_then timer_place (names word)
 value_of names Arg.Setting word = option_and_then setting_place (names word)
+value_of names Arg.Channel word = option_and_then channel_place (names word)
+value_of names Arg.Source word = option_and_then source_place (names word)
 value_of names Arg.Function word = option_and_then function_place (names word)
 value_of names Arg.Duration word = duration_of word
 value_of names Arg.Number word = number_of word
 value_of names Arg.Passes word = passes_of word
+value_of names Arg.Capacity word = number_to most_capacity word
 
 -- a command, with its names looked up and its amounts read
 abbrev pub statement_of : Names → Command → Statement

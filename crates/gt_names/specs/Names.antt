@@ -40,6 +40,7 @@ abbrev pub functions_with : Kind → ℕ → ℕ
 functions_with Kind.Function functions = next functions
 functions_with Kind.Timer functions = functions
 functions_with Kind.AfterFunc functions = functions
+functions_with Kind.Chan functions = functions
 
 -- a declared name
 pub record Declaration : Type 0 where

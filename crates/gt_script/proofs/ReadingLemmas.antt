@@ -133,6 +133,7 @@ not-true false h = refl
 started : (names : Names) (what : What) → Starts names what → is_kind_function (kind_in what) ≡ false
 started names What.Timer s = refl
 started names (What.AfterFunc f) s = refl
+started names (What.Chan cap) s = refl
 started names What.Function s = absurd s
 
 moves-closes : (inside : Bool) (tops : List ℕ) (open_loops : List OpenLoop) → length tops ≡ length open_loops → (inside ≡ false → tops ≡ []) → ends_wrongly inside open_loops ≡ false → Moves closes tops inside (not (are_none_open open_loops))

@@ -2,13 +2,13 @@
 
 ghost use Rattle.std.specs.Prelude.{◌≡◌, ◌≤◌, IfSome, if◌then◌else◌, None};
 ghost use Rattle.std.specs.Option.{option_map};
-ghost use Rattle.gt_model.specs.Good.{most_passes};
+ghost use Rattle.gt_model.specs.Good.{most_passes, most_capacity};
 ghost use Rattle.gt_model.specs.Times.{greatest_time};
 ghost use Rattle.gt_table.specs.Forms.{most_of};
 ghost use Rattle.gt_names.specs.Known.{known};
 ghost use Rattle.gt_names.specs.Names.{is_free_name};
 ghost use Rattle.gt_grammar.specs.Duration.{duration_of};
-ghost use Rattle.gt_grammar.specs.Statements.{timer_place, setting_place, function_place, passes_of, value_of};
+ghost use Rattle.gt_grammar.specs.Statements.{setting_place, channel_place, source_place, function_place, number_to, value_of};
 
 use gt_dur::read_dur;
 use gt_lines::read_number;
@@ -17,6 +17,9 @@ use gt_table::{Arg, Kind};
 
 /// The greatest number of passes of a loop.
 const MOST_PASSES: u32 = 1_000_000;
+
+/// The greatest capacity of a channel, in values.
+const MOST_CAPACITY: u32 = 1024;
 
 // The duration that a word spells, in nanoseconds. `None` for any other word, or a duration above [`gt_model::CAP`].
 fn read_duration(word: &[u8]) -> Option<u64>
@@ -29,25 +32,16 @@ fn read_duration(word: &[u8]) -> Option<u64>
     }
 }
 
-// How many passes of a loop a word spells.
-fn read_passes(word: &[u8]) -> Option<u32>
-    ensures value { result ≡ passes_of word.now }
-    ensures most { IfSome result (λ n. n ≤ most_passes) }
+// The number that a word spells, if it is at most this.
+fn read_number_to(most: u32, word: &[u8]) -> Option<u32>
+    ensures value { result ≡ number_to most word.now }
+    ensures most { IfSome result (λ n. n ≤ most) }
 {
-    let passes = read_number(word)?;
-    if passes > MOST_PASSES {
+    let number = read_number(word)?;
+    if number > most {
         return None;
     }
-    Some(passes)
-}
-
-fn timer_place(d: Declared) -> Option<u32>
-    ensures { result ≡ timer_place d }
-{
-    match d.kind {
-        Kind::Timer => Some(d.place),
-        Kind::AfterFunc | Kind::Function => None,
-    }
+    Some(number)
 }
 
 fn setting_place(d: Declared) -> Option<u32>
@@ -55,7 +49,25 @@ fn setting_place(d: Declared) -> Option<u32>
 {
     match d.kind {
         Kind::Timer | Kind::AfterFunc => Some(d.place),
-        Kind::Function => None,
+        Kind::Chan | Kind::Function => None,
+    }
+}
+
+fn channel_place(d: Declared) -> Option<u32>
+    ensures { result ≡ channel_place d }
+{
+    match d.kind {
+        Kind::Chan => Some(d.place),
+        Kind::Timer | Kind::AfterFunc | Kind::Function => None,
+    }
+}
+
+fn source_place(d: Declared) -> Option<u32>
+    ensures { result ≡ source_place d }
+{
+    match d.kind {
+        Kind::Timer | Kind::Chan => Some(d.place),
+        Kind::AfterFunc | Kind::Function => None,
     }
 }
 
@@ -64,7 +76,7 @@ fn function_place(d: Declared) -> Option<u32>
 {
     match d.kind {
         Kind::Function => Some(d.func),
-        Kind::Timer | Kind::AfterFunc => None,
+        Kind::Timer | Kind::AfterFunc | Kind::Chan => None,
     }
 }
 
@@ -87,11 +99,13 @@ pub(crate) fn read_value<'a>(names: &NameTable<'a>, arg: Arg, word: &'a [u8]) ->
     match arg {
         Arg::Nothing => Some(0),
         Arg::NewName => Some(u64::from(new_place(names, word)?)),
-        Arg::Timer => Some(u64::from(timer_place(names.find(word)?)?)),
         Arg::Setting => Some(u64::from(setting_place(names.find(word)?)?)),
+        Arg::Channel => Some(u64::from(channel_place(names.find(word)?)?)),
+        Arg::Source => Some(u64::from(source_place(names.find(word)?)?)),
         Arg::Function => Some(u64::from(function_place(names.find(word)?)?)),
         Arg::Duration => read_duration(word),
         Arg::Number => Some(u64::from(read_number(word)?)),
-        Arg::Passes => Some(u64::from(read_passes(word)?)),
+        Arg::Passes => Some(u64::from(read_number_to(MOST_PASSES, word)?)),
+        Arg::Capacity => Some(u64::from(read_number_to(MOST_CAPACITY, word)?)),
     }
 }

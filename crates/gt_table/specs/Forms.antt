@@ -2,7 +2,7 @@
 use Rattle.std.specs.Prelude.{ℕ, Bool, true, false}
 use Rattle.std.specs.declared.option.Option.{Option}
 use Rattle.std.specs.declared.option.Option.TheVariants.{None, Some}
-use Rattle.gt_model.specs.Good.{most_passes}
+use Rattle.gt_model.specs.Good.{most_passes, most_capacity}
 use Rattle.gt_model.specs.Times.{greatest_time}
 use Rattle.gt_table.specs.declared.form.Arg.{Arg}
 use Rattle.gt_table.specs.declared.form.Kind.{Kind}
@@ -24,12 +24,28 @@ is_declaration Role.Loops = false
 abbrev pub is_kind_function : Kind → Bool
 is_kind_function Kind.Timer = false
 is_kind_function Kind.AfterFunc = false
+is_kind_function Kind.Chan = false
 is_kind_function Kind.Function = true
 
-abbrev pub is_kind_timer : Kind → Bool
-is_kind_timer Kind.Timer = true
-is_kind_timer Kind.AfterFunc = false
-is_kind_timer Kind.Function = false
+-- a timer that is set and stopped
+abbrev pub is_kind_setting : Kind → Bool
+is_kind_setting Kind.Timer = true
+is_kind_setting Kind.AfterFunc = true
+is_kind_setting Kind.Chan = false
+is_kind_setting Kind.Function = false
+
+abbrev pub is_kind_chan : Kind → Bool
+is_kind_chan Kind.Timer = false
+is_kind_chan Kind.AfterFunc = false
+is_kind_chan Kind.Chan = true
+is_kind_chan Kind.Function = false
+
+-- what is received from
+abbrev pub is_kind_source : Kind → Bool
+is_kind_source Kind.Timer = true
+is_kind_source Kind.AfterFunc = false
+is_kind_source Kind.Chan = true
+is_kind_source Kind.Function = false
 
 -- the declaration of a function opens it
 abbrev pub opens : Role → Bool
@@ -62,31 +78,37 @@ loops Role.Loops = true
 abbrev pub is_wanted : Arg → Bool
 is_wanted Arg.Nothing = false
 is_wanted Arg.NewName = true
-is_wanted Arg.Timer = true
 is_wanted Arg.Setting = true
+is_wanted Arg.Channel = true
+is_wanted Arg.Source = true
 is_wanted Arg.Function = true
 is_wanted Arg.Duration = true
 is_wanted Arg.Number = true
 is_wanted Arg.Passes = true
+is_wanted Arg.Capacity = true
 
 -- whether a word of this kind spells an amount; the others are names
 abbrev pub is_amount : Arg → Bool
 is_amount Arg.Nothing = false
 is_amount Arg.NewName = false
-is_amount Arg.Timer = false
 is_amount Arg.Setting = false
+is_amount Arg.Channel = false
+is_amount Arg.Source = false
 is_amount Arg.Function = false
 is_amount Arg.Duration = true
 is_amount Arg.Number = true
 is_amount Arg.Passes = true
+is_amount Arg.Capacity = true
 
 -- the greatest value of a word of this kind: a place and a number have 32 bits, a duration is a time
 abbrev pub most_of : Arg → ℕ
 most_of Arg.Nothing = 0
 most_of Arg.NewName = 4294967295
-most_of Arg.Timer = 4294967295
 most_of Arg.Setting = 4294967295
+most_of Arg.Channel = 4294967295
+most_of Arg.Source = 4294967295
 most_of Arg.Function = 4294967295
 most_of Arg.Duration = greatest_time
 most_of Arg.Number = 4294967295
 most_of Arg.Passes = most_passes
+most_of Arg.Capacity = most_capacity

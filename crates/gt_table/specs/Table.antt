@@ -21,10 +21,11 @@ pub record Row : Type 0 where
 abbrev row : List ℕ → Role → Arg → Arg → (ℕ → ℕ → Step) → Row
 row word role first second step = record { word = word; form = record { role = role; first = first; second = second }; step = step }
 
--- A timer's value is its place among the names, and a function's its place among the functions. A new name's is its own place
+-- An object's value is its place among the names, and a function's its place among the functions. A new name's is its own place
 abbrev pub row_of : Keyword → Row
 row_of Keyword.Timer = row (codes "timer") (Role.Declares Kind.Timer) Arg.NewName Arg.Nothing (λ a b. Step.Declare What.Timer)
 row_of Keyword.AfterFunc = row (codes "afterfunc") (Role.Declares Kind.AfterFunc) Arg.NewName Arg.Function (λ a f. Step.Declare (What.AfterFunc f))
+row_of Keyword.Chan = row (codes "chan") (Role.Declares Kind.Chan) Arg.NewName Arg.Capacity (λ a cap. Step.Declare (What.Chan cap))
 row_of Keyword.Func = row (codes "func") (Role.Declares Kind.Function) Arg.NewName Arg.Nothing (λ decl b. Step.Open decl)
 row_of Keyword.End = row (codes "end") Role.Closes Arg.Nothing Arg.Nothing (λ a b. Step.Close)
 row_of Keyword.Loop = row (codes "loop") Role.Loops Arg.Passes Arg.Nothing (λ n b. Step.Loop n)
@@ -35,12 +36,15 @@ row_of Keyword.Go = row (codes "go") Role.Acts Arg.Function Arg.Nothing (λ f b.
 row_of Keyword.New = row (codes "new") Role.Acts Arg.Setting Arg.Duration (λ t d. Step.Do (Instr.New t d))
 row_of Keyword.Stop = row (codes "stop") Role.Acts Arg.Setting Arg.Nothing (λ t b. Step.Do (Instr.Stop t))
 row_of Keyword.Reset = row (codes "reset") Role.Acts Arg.Setting Arg.Duration (λ t d. Step.Do (Instr.Reset t d))
-row_of Keyword.Recv = row (codes "recv") Role.Acts Arg.Timer Arg.Nothing (λ o b. Step.Do (Instr.Recv o))
+row_of Keyword.Recv = row (codes "recv") Role.Acts Arg.Source Arg.Nothing (λ o b. Step.Do (Instr.Recv o))
+row_of Keyword.Make = row (codes "make") Role.Acts Arg.Channel Arg.Nothing (λ c b. Step.Do (Instr.Make c))
+row_of Keyword.Send = row (codes "send") Role.Acts Arg.Channel Arg.Number (λ c v. Step.Do (Instr.Send c v))
+row_of Keyword.Close = row (codes "close") Role.Acts Arg.Channel Arg.Nothing (λ c b. Step.Do (Instr.Close c))
 
 abbrev pub keywords : List Keyword
 keywords =
-    Keyword.Timer ∷ Keyword.AfterFunc ∷ Keyword.Func ∷ Keyword.End ∷ Keyword.Loop ∷ Keyword.Say ∷ Keyword.Now ∷ Keyword.Sleep ∷ Keyword.Go ∷ Keyword.New
-    ∷ Keyword.Stop ∷ Keyword.Reset ∷ Keyword.Recv ∷ []
+    Keyword.Timer ∷ Keyword.AfterFunc ∷ Keyword.Chan ∷ Keyword.Func ∷ Keyword.End ∷ Keyword.Loop ∷ Keyword.Say ∷ Keyword.Now ∷ Keyword.Sleep ∷ Keyword.Go ∷ Keyword.New
+    ∷ Keyword.Stop ∷ Keyword.Reset ∷ Keyword.Recv ∷ Keyword.Make ∷ Keyword.Send ∷ Keyword.Close ∷ []
 
 abbrev pub keyword_in : List Keyword → List ℕ → Option Keyword
 keyword_in [] word = None

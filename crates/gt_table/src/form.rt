@@ -9,6 +9,7 @@ use gt_model::{Instr, What};
 pub enum Kind {
     Timer,
     AfterFunc,
+    Chan,
     Function,
 }
 
@@ -19,10 +20,12 @@ pub enum Arg {
     Nothing,
     /// The name that the line declares.
     NewName,
-    /// The name of a channel timer.
-    Timer,
     /// The name of a channel timer or of an AfterFunc timer.
     Setting,
+    /// The name of a channel.
+    Channel,
+    /// The name of a channel timer or of a channel.
+    Source,
     /// The name of a function.
     Function,
     /// A duration.
@@ -31,6 +34,8 @@ pub enum Arg {
     Number,
     /// A number of passes of a loop: 0 to 1,000,000.
     Passes,
+    /// How many values a channel keeps at most: 0 to 1,024.
+    Capacity,
 }
 
 /// Where a line stands, and what it is there.
@@ -84,7 +89,7 @@ impl Arg {
     pub fn is_amount(self) -> bool
         ensures { result ≡ is_amount self }
     {
-        matches!(self, Arg::Duration | Arg::Number | Arg::Passes)
+        matches!(self, Arg::Duration | Arg::Number | Arg::Passes | Arg::Capacity)
     }
 }
 

@@ -11,6 +11,7 @@ use gt_model::{Instr, What};
 pub enum Keyword {
     Timer,
     AfterFunc,
+    Chan,
     Func,
     End,
     Loop,
@@ -22,6 +23,9 @@ pub enum Keyword {
     Stop,
     Reset,
     Recv,
+    Make,
+    Send,
+    Close,
 }
 
 /// The keyword that a word is, if it is one.
@@ -31,6 +35,7 @@ pub fn read_keyword(word: &[u8]) -> Option<Keyword>
     match word {
         b"timer" => Some(Keyword::Timer),
         b"afterfunc" => Some(Keyword::AfterFunc),
+        b"chan" => Some(Keyword::Chan),
         b"func" => Some(Keyword::Func),
         b"end" => Some(Keyword::End),
         b"loop" => Some(Keyword::Loop),
@@ -42,6 +47,9 @@ pub fn read_keyword(word: &[u8]) -> Option<Keyword>
         b"stop" => Some(Keyword::Stop),
         b"reset" => Some(Keyword::Reset),
         b"recv" => Some(Keyword::Recv),
+        b"make" => Some(Keyword::Make),
+        b"send" => Some(Keyword::Send),
+        b"close" => Some(Keyword::Close),
         _ => None,
     }
 }
@@ -59,12 +67,14 @@ impl Keyword {
         let timer = Role::Declares {
             kind: Kind::AfterFunc,
         };
+        let channel = Role::Declares { kind: Kind::Chan };
         let function = Role::Declares {
             kind: Kind::Function,
         };
         match self {
             Keyword::Timer => Form::new(object, Arg::NewName, Arg::Nothing),
             Keyword::AfterFunc => Form::new(timer, Arg::NewName, Arg::Function),
+            Keyword::Chan => Form::new(channel, Arg::NewName, Arg::Capacity),
             Keyword::Func => Form::new(function, Arg::NewName, Arg::Nothing),
             Keyword::End => Form::new(Role::Closes, Arg::Nothing, Arg::Nothing),
             Keyword::Loop => Form::new(Role::Loops, Arg::Passes, Arg::Nothing),
@@ -74,7 +84,9 @@ impl Keyword {
             Keyword::Go => Form::new(Role::Acts, Arg::Function, Arg::Nothing),
             Keyword::New | Keyword::Reset => Form::new(Role::Acts, Arg::Setting, Arg::Duration),
             Keyword::Stop => Form::new(Role::Acts, Arg::Setting, Arg::Nothing),
-            Keyword::Recv => Form::new(Role::Acts, Arg::Timer, Arg::Nothing),
+            Keyword::Recv => Form::new(Role::Acts, Arg::Source, Arg::Nothing),
+            Keyword::Send => Form::new(Role::Acts, Arg::Channel, Arg::Number),
+            Keyword::Make | Keyword::Close => Form::new(Role::Acts, Arg::Channel, Arg::Nothing),
         }
     }
 
@@ -90,6 +102,9 @@ impl Keyword {
                 what: What::AfterFunc {
                     func: second as u32,
                 },
+            },
+            Keyword::Chan => Step::Declare {
+                what: What::Chan { cap: second as u32 },
             },
             Keyword::Func => Step::Open { decl: first as u32 },
             Keyword::End => Step::Close,
@@ -110,6 +125,12 @@ impl Keyword {
                 d: second,
             }),
             Keyword::Recv => act(Instr::Recv { o: first as u32 }),
+            Keyword::Make => act(Instr::Make { c: first as u32 }),
+            Keyword::Send => act(Instr::Send {
+                c: first as u32,
+                v: second as u32,
+            }),
+            Keyword::Close => act(Instr::Close { c: first as u32 }),
         }
     }
 }

@@ -8,7 +8,7 @@ use Rattle.gt_model.specs.declared.entry.Entry.{Entry}
 use Rattle.gt_model.specs.declared.entry.Outcome.{Outcome}
 use Rattle.gt_model.specs.declared.entry.Party.{Party}
 use Rattle.gt_model.specs.declared.entry.Reason.{Reason}
-use Rattle.gt_model.specs.Parts.{Part, keyword, goroutine, party, number, time, timer, after_func, setting, function, flag, reason, outcome, parts_of}
+use Rattle.gt_model.specs.Parts.{Part, keyword, goroutine, party, number, maybe_number, timer, after_func, setting, channel, function, flag, reason, outcome, parts_of}
 
 -- the byte between two words
 abbrev pub space : ℕ
@@ -34,10 +34,10 @@ case_suffix case_no = if case_no == 0 then [] else codes "/" ++ decimal case_no
 abbrev pub party_word : Party → List ℕ
 party_word p = goroutine_word p.g ++ case_suffix p.case_no
 
--- a time, where there is one
-abbrev pub time_word : Option ℕ → List ℕ
-time_word None = codes "-"
-time_word (Some t) = decimal t
+-- a number, a time or a value, where there is one
+abbrev pub maybe_word : Option ℕ → List ℕ
+maybe_word None = codes "-"
+maybe_word (Some n) = decimal n
 
 -- whether a timer was set, where that is told
 abbrev pub flag_word : Option Bool → List ℕ
@@ -49,6 +49,7 @@ flag_word (Some false) = codes "false"
 abbrev pub reason_word : Reason → List ℕ
 reason_word Reason.Unmade = codes "unmade"
 reason_word Reason.Twice = codes "twice"
+reason_word Reason.Closed = codes "closed"
 
 -- how a run ended
 abbrev pub outcome_word : Outcome → List ℕ
@@ -63,10 +64,11 @@ word_of script (keyword word) = word
 word_of script (goroutine g) = goroutine_word g
 word_of script (party p) = party_word p
 word_of script (number n) = decimal n
-word_of script (time t) = time_word t
+word_of script (maybe_number n) = maybe_word n
 word_of script (timer t) = name_of script t
 word_of script (after_func t) = name_of script t
 word_of script (setting t) = name_of script t
+word_of script (channel c) = name_of script c
 word_of script (function f) = function_name script f
 word_of script (flag b) = flag_word b
 word_of script (reason why) = reason_word why

@@ -4,10 +4,11 @@ ghost use Rattle.std.specs.List.{join_with_byte};
 ghost use Rattle.arrayvec.specs.ArrayVec.{array_vec_len};
 ghost use Rattle.gt_model.specs.Good.{IsGood};
 ghost use Rattle.gt_model.specs.Named.{IsNamed};
-ghost use Rattle.gt_trace.specs.Text.{space, goroutine_word, party_word, time_word, reason_word, outcome_word, words_of, line_of};
+ghost use Rattle.gt_trace.specs.Text.{space, goroutine_word, party_word, maybe_word, reason_word, outcome_word, words_of, line_of};
 
+use crate::channels::{fill_channel, fill_pair, fill_recv, fill_send};
 use crate::line::{
-    LINE_ROOM, Line, push_bytes, push_flag, push_goroutine, push_number, push_party, push_time,
+    LINE_ROOM, Line, push_bytes, push_flag, push_goroutine, push_maybe_number, push_number, push_party,
     push_word,
 };
 use crate::names::name_of_function;
@@ -45,6 +46,11 @@ fn fill_words(line: &mut Line, script: &Script, entry: &Entry)
         Entry::Reset { g, t, was, due } => fill_reset(line, script, g, t, was, due),
         Entry::TRecv { p, t, due, next } => fill_tick(line, script, p, t, due, next),
         Entry::FireFunc { t, child } => fill_fire(line, script, t, child),
+        Entry::Make { g, c } => fill_channel(line, b"make", script, g, c),
+        Entry::Send { p, c, v } => fill_send(line, script, p, c, v),
+        Entry::Recv { p, c, v } => fill_recv(line, script, p, c, v),
+        Entry::Pair { from, to, c, v } => fill_pair(line, script, from, to, c, v),
+        Entry::Close { g, c } => fill_channel(line, b"close", script, g, c),
         Entry::Clock { world, at } => fill_clock(line, world, at),
         Entry::Panic { p, reason } => fill_panic(line, p, reason),
         Entry::Finish { outcome } => fill_outcome(line, outcome),
@@ -92,11 +98,11 @@ fn fill_go(line: &mut Line, script: &Script, g: u32, child: u32, f: u32)
 fn fill_sleep(line: &mut Line, g: u32, until: Option<u64>)
     requires { line.old.items ≡ [] }
     ensures words { line.new.items
-        ≡ join_with_byte space (codes "sleep" ∷ goroutine_word g ∷ time_word until ∷ []) }
+        ≡ join_with_byte space (codes "sleep" ∷ goroutine_word g ∷ maybe_word until ∷ []) }
     ensures room { array_vec_len line.new < LINE_ROOM }
 {
     fill_goroutine(line, b"sleep", g);
-    push_time(line, until);
+    push_maybe_number(line, until);
 }
 
 // A goroutine made a timer.
@@ -163,6 +169,7 @@ fn fill_panic(line: &mut Line, p: Party, reason: Reason)
     match reason {
         Reason::Unmade => push_word(line, b"unmade"),
         Reason::Twice => push_word(line, b"twice"),
+        Reason::Closed => push_word(line, b"closed"),
     }
 }
 

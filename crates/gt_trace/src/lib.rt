@@ -1,6 +1,7 @@
 //! Prints a history: a line of text for each entry.
 #![tactic(auto)]
 
+mod channels;
 mod entries;
 mod line;
 mod names;

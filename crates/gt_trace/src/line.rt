@@ -1,7 +1,7 @@
 // A line as it is built, a word after another.
 ghost use Rattle.std.specs.Prelude.{◌≡◌, ◌+◌, ◌≤◌, ◌∷◌, ◌++◌, length, decimal};
 ghost use Rattle.arrayvec.specs.ArrayVec.{array_vec_len};
-ghost use Rattle.gt_trace.specs.Text.{space, goroutine_word, party_word, time_word, flag_word};
+ghost use Rattle.gt_trace.specs.Text.{space, goroutine_word, party_word, maybe_word, flag_word};
 
 use arrayvec::ArrayVec;
 use gt_model::Party;
@@ -78,14 +78,14 @@ pub fn push_party(line: &mut Line, p: Party)
     }
 }
 
-/// Appends a space and a time, or `-` where there is none.
-pub fn push_time(line: &mut Line, time: Option<u64>)
+/// Appends a space and a number, a time or a value, or `-` where there is none.
+pub fn push_maybe_number(line: &mut Line, number: Option<u64>)
     requires { array_vec_len line.old + 21 ≤ LINE_ROOM }
-    ensures appended { line.new.items ≡ line.old.items ++ space ∷ time_word time }
+    ensures appended { line.new.items ≡ line.old.items ++ space ∷ maybe_word number }
     ensures short { array_vec_len line.new ≤ array_vec_len line.old + 21 }
 {
-    match time {
-        Some(time) => push_number(line, time),
+    match number {
+        Some(number) => push_number(line, number),
         None => push_word(line, b"-"),
     }
 }

@@ -7,7 +7,7 @@ ghost use Rattle.gt_model.specs.Named.{IsNamed};
 ghost use Rattle.gt_trace.specs.Text.{space, goroutine_word, name_of, words_of};
 
 use crate::line::{
-    LINE_ROOM, Line, push_bytes, push_goroutine, push_number, push_party, push_time, push_word,
+    LINE_ROOM, Line, push_bytes, push_goroutine, push_maybe_number, push_number, push_party, push_word,
 };
 use crate::names::declared_name;
 use gt_model::{Entry, Party, Script};
@@ -53,7 +53,7 @@ pub fn fill_tick(line: &mut Line, script: &Script, p: Party, t: u32, due: u64, n
     push_party(line, p);
     push_timer(line, script, t);
     push_number(line, due);
-    push_time(line, next);
+    push_maybe_number(line, next);
 }
 
 /// An AfterFunc timer started its function.

@@ -7,3 +7,15 @@ returns-in-afterfunc c =
     let word : List ℕ = c.args.word.now in
     let is : word ≡ codes "afterfunc" = text_from_reads word (codes "afterfunc") (omega arith) (search rules) in
     rw is
+
+pub returns-in-reset : goal.returns-in-reset
+returns-in-reset c =
+    let word : List ℕ = c.args.word.now in
+    let is : word ≡ codes "reset" = text_from_reads word (codes "reset") (omega arith) (search rules) in
+    rw is
+
+pub returns-in-close : goal.returns-in-close
+returns-in-close c =
+    let word : List ℕ = c.args.word.now in
+    let is : word ≡ codes "close" = text_from_reads word (codes "close") (omega arith) (search rules) in
+    rw is
