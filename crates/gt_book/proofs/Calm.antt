@@ -1,113 +1,41 @@
--- A change by an entry leaves nobody parked who is firmly ready.
-use Rattle.std.proofs.Common.{◌≡◌, ◌≢◌, ℕ, zero, suc, ◌+◌, List, [], ◌∷◌, ◌++◌, length, set, refl, sym, ap, subst, ◌∙◌, Option, None, Some, Bool, true, false, not, ◌||◌, is_some, is_none, inl, inr}
-use Rattle.std.specs.List.{list_all}
-use Rattle.std.proofs.lemmas.Bool.{cases_eq}
+-- A change by an entry leaves nobody parked who is firmly ready, but at the channel that it changes.
+use Rattle.std.proofs.Common.{◌≡◌, ◌≢◌, ℕ, zero, suc, ◌+◌, List, [], ◌∷◌, ◌++◌, length, eqb, ◌==◌, refl, sym, ap, subst, ◌∙◌, arith, Option, None, Some, Bool, true, false, not, ◌||◌, ◌&&◌, is_some, is_none, IsTrue, inl, inr}
+use Rattle.std.specs.List.{list_all, enumerate_from}
+use Rattle.std.proofs.lemmas.Bool.{cases_eq, eq-eqb, eqb-true, and_parts, and_from}
 use Rattle.std.proofs.Math.ListN.{length-append}
 use Rattle.gt_model.specs.declared.script.Script.{Script}
 use Rattle.gt_model.specs.declared.script.Instr.{Instr}
-use Rattle.gt_model.specs.declared.entry.Reason.{Reason}
+use Rattle.gt_model.specs.declared.script.CaseKind.{CaseKind}
+use Rattle.gt_model.specs.declared.entry.Entry.{Entry}
 use Rattle.gt_model.specs.declared.state.Goroutine.{Goroutine}
-use Rattle.gt_model.specs.declared.state.Timer.{Timer}
 use Rattle.gt_model.specs.declared.state.Mode.{Mode}
-use Rattle.gt_model.specs.Tables.{numbered, at, change, change_numbered}
-use Rattle.gt_model.specs.Script.{instr_at}
+use Rattle.gt_model.specs.Good.{IsGood}
+use Rattle.gt_model.specs.Script.{is_chan, capacity_of}
+use Rattle.gt_model.specs.Tables.{numbered, change_numbered}
 use Rattle.gt_model.proofs.Items.{numbered-change_same, numbered-change_other, numbered-push_same, numbered-push_other, HasNumber}
-use Rattle.gt_rules.specs.State.{State, goroutine_at, timer_at, stands_at}
-use Rattle.gt_rules.specs.After.{changed, moved, in_mode, set_due, set_again, with_mover, with_starts, started_by, with_retimed}
-use Rattle.gt_rules.specs.Change.{Change}
-use Rattle.gt_rules.specs.Panics.{fault, when}
-use Rattle.gt_rules.specs.Ready.{is_firm, goes_on}
+use Rattle.gt_rules.specs.State.{State, goroutine_at, channel_at, stands, stands_at}
+use Rattle.gt_rules.specs.Operations.{operation, offers, receives_from, sends_to}
+use Rattle.gt_rules.specs.After.{after, changed, moved, in_mode, with_mover, with_starts, started_by}
+use Rattle.gt_rules.specs.Change.{Change, change_of}
+use Rattle.gt_rules.specs.Legal.{May}
+use Rattle.gt_rules.specs.Panics.{fault, panic_at}
+use Rattle.gt_rules.specs.Ready.{is_firm, is_ready_case, is_ready_alone, has_partner, partner_waits, no_timer, everyone}
 use Rattle.gt_rules.specs.declared.change.Move.{Move}
-use Rattle.gt_rules.specs.declared.change.Setting.{Setting}
 use Rattle.gt_rules.specs.declared.change.Start.{Start}
+use Rattle.gt_rules.specs.declared.change.Trade.{Trade}
+use Rattle.gt_facts.specs.Formed.{IsFormed}
 use Rattle.gt_facts.specs.Quiet.{none_firm}
-use Rattle.gt_facts.proofs.Lookups.{Standing, standing}
+use Rattle.gt_facts.proofs.Lookups.{Standing, standing, AtOperation, at_operation, is_recv, is_send, SendsTo, sends-send, receives-recv, names-Does}
+use Rattle.gt_facts.proofs.Partners.{Partner, partner, partner-waits}
 use Rattle.gt_schedule.specs.declared.status.RunStatus.{RunStatus}
-use Rattle.gt_schedule.specs.Schedule.{Schedule, plainly, status_of, is_parked, taken, parked_at, with_new, gone_on, turned, moved_by, begun_by, rescheduled, MayMove, ServedBy}
+use Rattle.gt_schedule.specs.Schedule.{Schedule, plainly, status_of, is_parked, taken, parked_at, with_new, gone_on, turned, moved_by, begun_by, rescheduled, scheduled, MayMove, ServedBy, ServedIn, Served}
 use Rattle.gt_schedule.proofs.Counting.{Parking, status-parked}
-use Rattle.gt_book.specs.View.{Agrees, is_firm_at, Fits}
-use Rattle.gt_book.proofs.Fitting.{Known, known, has_status, fits-moved}
-
--- nobody parked is firmly ready
-abbrev pub IsCalm : Script → State → Schedule → Type 0
-IsCalm script s m = (g : ℕ) → is_parked (status_of m g) ≡ true → is_firm_at script s g ≡ false
-
--- ---- timers that were made stay made
-
-abbrev pub StayMade : State → State → Type 0
-StayMade s next = (t : ℕ) → is_some (timer_at s t) ≡ true → is_some (timer_at next t) ≡ true
-
-made-set : (ts : List (Option Timer)) (t u : ℕ) (r : Timer) → is_some (at ts u) ≡ true → is_some (at (set ts t (Some r)) u) ≡ true
-made-set [] t u r h = h
-made-set (o ∷ ts) zero zero r h = refl
-made-set (o ∷ ts) zero (suc u) r h = h
-made-set (o ∷ ts) (suc t) zero r h = h
-made-set (o ∷ ts) (suc t) (suc u) r h = made-set ts t u r h
-
-made-change : (ts : List (Option Timer)) (t u : ℕ) (f : Option Timer → Option Timer) → ((o : Option Timer) → is_some o ≡ true → is_some (f o) ≡ true)
-    → is_some (at ts u) ≡ true → is_some (at (change ts t f) u) ≡ true
-made-change [] t u f keeps h = h
-made-change (o ∷ ts) zero zero f keeps h = keeps o h
-made-change (o ∷ ts) zero (suc u) f keeps h = h
-made-change (o ∷ ts) (suc t) zero f keeps h = h
-made-change (o ∷ ts) (suc t) (suc u) f keeps h = made-change ts t u f keeps h
-
-due-keeps : (due : Option ℕ) (o : Option Timer) → is_some o ≡ true → is_some (set_due due o) ≡ true
-due-keeps due None h = cc
-due-keeps due (Some r) h = refl
-
-again-keeps : (due period : ℕ) (o : Option Timer) → is_some o ≡ true → is_some (set_again due period o) ≡ true
-again-keeps due period None h = cc
-again-keeps due period (Some r) h = refl
-
-made-retimed : (script : Script) (s : State) (mover : Option (ℕ × Move)) (c : Option (ℕ × Setting)) (u : ℕ) → is_some (at s.timers u) ≡ true
-    → is_some (at (with_retimed script s mover s.timers c) u) ≡ true
-made-retimed script s mover None u h = h
-made-retimed script s mover (Some (t, Setting.Made due)) u h = made-set s.timers t u _ h
-made-retimed script s mover (Some (t, Setting.SetAnew due)) u h = made-change s.timers t u (set_again due _) (again-keeps due _) h
-made-retimed script s mover (Some (t, Setting.Ended due)) u h = made-change s.timers t u (set_due due) (due-keeps due) h
-
-pub stay-changed : (script : Script) (s : State) (c : Change) → StayMade s (changed script s c)
-stay-changed script s c u h = made-retimed script s c.mover c.timer u h
-
--- ---- who is not firmly ready stays so
-
-or-true : (b : Bool) → (b || true) ≡ false → ⊥
-or-true true e = cc
-or-true false e = cc
-
-unmade-calm : (o : Option Timer) → is_some o ≡ true → (is_some (when (is_none o) Reason.Unmade) || false) ≡ false
-unmade-calm None h = cc
-unmade-calm (Some r) h = refl
-
-calm-unmade : (o : Option Timer) → (is_some (when (is_none o) Reason.Unmade) || false) ≡ false → is_some o ≡ true
-calm-unmade None h = cc
-calm-unmade (Some r) h = refl
-
-calm-instr : (script : Script) (s next : State) (i : Instr) → StayMade s next → (is_some (fault script s i) || goes_on i) ≡ false → (is_some (fault script next i) || goes_on i) ≡ false
-calm-instr script s next (Instr.Recv o) made h = unmade-calm (timer_at next o) (made o (calm-unmade (timer_at s o) h))
-calm-instr script s next (Instr.LoopTop depth count past) made h = refl
-calm-instr script s next (Instr.LoopEnd depth top) made h = refl
-calm-instr script s next i made h = absurd (or-true (is_some (fault script s i)) h)
-
-calm-placed : (script : Script) (s next : State) (o : Option Instr) → StayMade s next
-    → (elim o [ None ↦ false | Some i ↦ is_some (fault script s i) || goes_on i ]) ≡ false → (elim o [ None ↦ false | Some i ↦ is_some (fault script next i) || goes_on i ]) ≡ false
-calm-placed script s next None made h = refl
-calm-placed script s next (Some i) made h = calm-instr script s next i made h
-
-calm-mode : (script : Script) (s next : State) (r : Goroutine) (mode : Mode) → StayMade s next
-    → (elim mode [ Mode.At ↦ elim (instr_at script r.place) [ None ↦ false | Some i ↦ is_some (fault script s i) || goes_on i ] | _ ↦ false ]) ≡ false
-    → (elim mode [ Mode.At ↦ elim (instr_at script r.place) [ None ↦ false | Some i ↦ is_some (fault script next i) || goes_on i ] | _ ↦ false ]) ≡ false
-calm-mode script s next r Mode.At made h = calm-placed script s next (instr_at script r.place) made h
-calm-mode script s next r (Mode.Sleeping until) made h = refl
-calm-mode script s next r Mode.Ended made h = refl
-
-abbrev firm_in : Script → State → Option Goroutine → Bool
-firm_in script s o = elim o [ None ↦ false | Some r ↦ is_firm script s r ]
-
-calm-stays : (script : Script) (s next : State) (o : Option Goroutine) → StayMade s next → firm_in script s o ≡ false → firm_in script next o ≡ false
-calm-stays script s next None made h = refl
-calm-stays script s next (Some r) made h = calm-mode script s next r r.mode made h
+use Rattle.gt_schedule.proofs.Parties.{parked_at-status_other}
+use Rattle.gt_book.specs.View.{Agrees, is_waiting, is_firm_at, Fits}
+use Rattle.gt_book.specs.Calm.{IsCalm, IsCalmBut}
+use Rattle.gt_book.proofs.Fitting.{Known, known, has_status, unchanged, fits-moved, fits-both, Waiter}
+use Rattle.gt_book.proofs.Firm.{WasThere, waited, sleeps, AllWere, Stays, firm_of, firm_on, stood, operation_of, has_fault, firm-stood, firm-fault, firm-partner, firm-next, never-both, both-false, unless-true, no-reason, calm-standing, nowhere, calm-nowhere, calm_but-next, calm-next}
+use Rattle.gt_book.proofs.Stays.{trades_at, stays-May, stays-wider, stays-same, traded-made-May}
 
 -- ---- who is parked after a move
 
@@ -167,6 +95,8 @@ each-turned Q script s m g (Move.FallsAsleep until) fits may asleep each =
     each-parked Q m (turned m g (Move.FallsAsleep until)) s.goroutines g (RunStatus.Parked m.parks) (moved script (Move.FallsAsleep until)) k.who each refl k.there (asleep g until k.who)
 each-turned Q script s m g Move.Ends fits may asleep each = each-other Q m (turned m g Move.Ends) s.goroutines g RunStatus.Ended (moved script Move.Ends) RunStatus.InHand each may refl refl
 
+each-turned Q script s m g Move.Panics fits may asleep each = λ h waiting. subst (λ gs. Q h (numbered gs h)) (sym (unchanged s.goroutines g)) (each h waiting)
+
 each-moved : (Q : ℕ → Option Goroutine → Type 0) (script : Script) (s : State) (m : Schedule) (o : Option (ℕ × Move)) → Fits script s m → ServedBy m o
     → ((h until : ℕ) (r : Goroutine) → Q h (Some (in_mode (Mode.Sleeping until) r))) → EachParked Q m s.goroutines
     → EachParked Q (moved_by m o) (with_mover script s.goroutines o)
@@ -189,71 +119,261 @@ each-begun Q script s m gs (x ∷ xs) as_many each =
 
 -- ---- every change
 
-pub calm-changed : (script : Script) (s : State) (m : Schedule) (c : Change) → Fits script s m → ServedBy m c.mover → IsCalm script s m → IsCalm script (changed script s c) (rescheduled m c)
-calm-changed script s m c fits served calm =
-    let next : State = changed script s c in
-    let mid : Fits script (record s { goroutines = with_mover script s.goroutines c.mover }) (moved_by m c.mover) = fits-moved script s m c.mover fits served in
-    each-begun (λ g o. firm_in script next o ≡ false) script s (moved_by m c.mover) (with_mover script s.goroutines c.mover) c.starts mid.as_many
-    (each-moved (λ g o. firm_in script next o ≡ false) script s m c.mover fits served (λ h until r. refl)
-    (λ g waiting. calm-stays script s next (goroutine_at s g) (stay-changed script s c) (calm g waiting)))
+pub were-changed : (script : Script) (s : State) (m : Schedule) (c : Change) → Fits script s m → ServedIn m c → AllWere s m (changed script s c) (rescheduled m c)
+were-changed script s m c fits served =
+    let movers : List Goroutine = with_mover script s.goroutines c.mover in
+    let both : Fits script (record s { goroutines = with_mover script movers c.partner }) (moved_by (moved_by m c.mover) c.partner) = fits-both script s m c fits served in
+    each-begun (WasThere s m) script s (moved_by (moved_by m c.mover) c.partner) (with_mover script movers c.partner) c.starts both.as_many
+    (each-moved (WasThere s m) script (record s { goroutines = movers }) (moved_by m c.mover) c.partner (fits-moved script s m c.mover fits served.0) served.1 (λ h until r. sleeps until r)
+    (each-moved (WasThere s m) script s m c.mover fits served.0 (λ h until r. sleeps until r) (λ g waiting. waited waiting (goroutine_at s g) refl)))
+
+-- an entry that changes no channel leaves nobody firmly ready
+calm-unchanged : (script : Script) (s : State) (m : Schedule) (e : Entry) → IsGood script → May script s e → Fits script s m → Served m e → (change_of e).channel ≡ None
+    → IsCalm script s m → IsCalm script (after script s e) (scheduled m e)
+calm-unchanged script s m e good may fits served none calm =
+    calm-next script s (after script s e) m (scheduled m e)
+    (stays-wider s (after script s e) (trades_at (change_of e).channel) nowhere (λ o h. ap (λ x. trades_at x o) none) (stays-May script s e good may))
+    (were-changed script s m (change_of e) fits served) calm
+
+-- one that changes a channel leaves none but there
+pub calm-but : (script : Script) (s : State) (m : Schedule) (e : Entry) (c : ℕ) (x : Trade) → IsGood script → IsFormed script s → May script s e → Fits script s m → Served m e
+    → (change_of e).channel ≡ Some (c, x) → IsCalm script s m → IsCalmBut script (after script s e) (scheduled m e) (λ o. eqb o c)
+calm-but script s m e c x good formed may fits served is calm =
+    calm_but-next script s (after script s e) m (scheduled m e) nowhere (λ o. eqb o c)
+    (stays-wider s (after script s e) (trades_at (change_of e).channel) (λ o. eqb o c) (λ o h. ap (λ x. trades_at x o) is ∙ h) (stays-May script s e good may))
+    (were-changed script s m (change_of e) fits served) (λ o h. refl) (calm-nowhere script s m calm)
+    (λ d h. subst (λ d. is_some (channel_at (after script s e) d) ≡ true) (sym (eqb-true d c h)) (traded-made-May script s e c x good formed may is))
+
+pub calm-entered : (script : Script) (s : State) (m : Schedule) (e : Entry) → IsGood script → May script s e → Fits script s m → Served m e → (change_of e).channel ≡ None
+    → IsCalm script s m → IsCalm script (after script s e) (scheduled m e)
+calm-entered = calm-unchanged
+
+-- one that changes that channel, or none, leaves none but there
+pub calm_but-again : (script : Script) (s : State) (m : Schedule) (e : Entry) (c : ℕ) → IsGood script → May script s e → Fits script s m → Served m e
+    → ((o : ℕ) → eqb o c ≡ false → trades_at (change_of e).channel o ≡ false) → IsCalmBut script s m (λ o. eqb o c) → IsCalmBut script (after script s e) (scheduled m e) (λ o. eqb o c)
+calm_but-again script s m e c good may fits served here but =
+    let stays : Stays s (after script s e) (λ o. eqb o c) =
+    stays-wider s (after script s e) (trades_at (change_of e).channel) (λ o. eqb o c) here (stays-May script s e good may) in
+    calm_but-next script s (after script s e) m (scheduled m e) (λ o. eqb o c) (λ o. eqb o c) stays (were-changed script s m (change_of e) fits served) (λ o h. h) but
+    (λ d h. stays.made d (but.made d h))
 
 -- ---- changes of the schedule alone
 
+-- where nobody comes to be parked
+pub calm-scheduled : (script : Script) (s : State) (m n : Schedule) → ((g : ℕ) → is_waiting n g ≡ true → is_waiting m g ≡ true) → IsCalm script s m → IsCalm script s n
+calm-scheduled script s m n less calm = calm-next script s s m n (stays-same s nowhere) (λ g waits. waited (less g waits) (goroutine_at s g) refl) calm
+
 pub calm-taken : (script : Script) (s : State) (m : Schedule) (g : ℕ) → status_of m g ≡ Some RunStatus.Queued → IsCalm script s m → IsCalm script s (taken m g)
-calm-taken script s m g e calm h waiting =
-    elim (cases_eq h g) [
+calm-taken script s m g e calm =
+    calm-scheduled script s m (taken m g) (λ h waiting. elim (cases_eq h g) [
       | inl is ↦
           absurd (unparked-now (status_of (taken m g) h) RunStatus.InHand
           (ap (status_of (taken m g)) is ∙ numbered-change_same m.statuses g (λ _. RunStatus.InHand) RunStatus.Queued e) refl waiting)
-      | inr other ↦ calm h (sym (ap is_parked (numbered-change_other m.statuses g h (λ _. RunStatus.InHand) other)) ∙ waiting)
-    ]
+      | inr other ↦ sym (ap is_parked (numbered-change_other m.statuses g h (λ _. RunStatus.InHand) other)) ∙ waiting
+    ]) calm
 
--- who waits at a receive from a timer that was made is not firmly ready
-pub calm-parked_at : (script : Script) (s : State) (m : Schedule) (g t : ℕ) → stands_at script s g ≡ Some (Instr.Recv t) → is_some (timer_at s t) ≡ true → IsCalm script s m
-    → IsCalm script s (parked_at m (plainly g) t)
-calm-parked_at script s m g t stands made calm h waiting =
+-- one that is to wait at an operation which is ready neither alone nor by a partner that is parked
+pub record CanPark (script : Script) (s : State) (m : Schedule) (g : ℕ) (kind : CaseKind) : Type 0 where
+  pub waiter : Waiter script s m g kind
+  pub faultless : fault script s waiter.instr ≡ None
+  pub alone : is_ready_alone script s no_timer kind ≡ false
+  pub partner : has_partner script s (is_waiting m) g kind ≡ false
+
+plain-firm : (script : Script) (s : State) (counts : ℕ → Bool) (g : ℕ) (i : Instr) (kind : CaseKind) → operation i 0 ≡ Some kind → fault script s i ≡ None
+    → is_ready_alone script s no_timer kind ≡ false → has_partner script s counts g kind ≡ false → firm_on script s counts g (Some i) ≡ false
+plain-firm script s counts g (Instr.Recv o) kind has none alone partner =
+    let is : CaseKind.Recv o ≡ kind = cc in
+    both-false (is_some (fault script s (Instr.Recv o))) _ (ap is_some none)
+    (subst (λ k. is_ready_case script s no_timer counts g k ≡ false) (sym is) (both-false (is_ready_alone script s no_timer kind) _ alone partner))
+plain-firm script s counts g (Instr.Send c v) kind has none alone partner =
+    let is : CaseKind.Send c v ≡ kind = cc in
+    both-false (is_some (fault script s (Instr.Send c v))) _ (ap is_some none)
+    (subst (λ k. is_ready_case script s no_timer counts g k ≡ false) (sym is) (both-false (is_ready_alone script s no_timer kind) _ alone partner))
+plain-firm script s counts g i kind has none alone partner = cc
+
+-- who waits at such an operation leaves nobody firmly ready
+module _ (script : Script) (s : State) (m : Schedule) (g : ℕ) (kind : CaseKind) (good : IsGood script) (can : CanPark script s m g kind) (calm : IsCalm script s m) where
+  abbrev then : Schedule
+  then = parked_at m (plainly g) kind
+
+  abbrev instr : Instr
+  instr = can.waiter.instr
+
+  -- who is parked then, but g, was parked before
+  waited-before : (h : ℕ) → h ≢ g → is_waiting then h ≡ true → is_waiting m h ≡ true
+  waited-before h other waits = sym (ap is_parked (parked_at-status_other m (plainly g) kind h other)) ∙ waits
+
+  partner-other : (h : ℕ) (test : CaseKind → Bool) (p : Partner script s (is_waiting then) h test) → p.number ≢ g → Partner script s (is_waiting m) h test
+  partner-other h test p other =
+      record { number = p.number; instr = p.instr; other = p.other; counted = waited-before p.number other p.counted; does = p.does; passes = p.passes }
+
+  own-calm : panic_at script s g ≡ None
+  own-calm = calm-standing script s g instr can.waiter.stands can.faultless
+
+  -- g itself meets nobody
+  alone-partner : (test : CaseKind → Bool) → partner_waits script s (is_waiting then) g test ≡ true → partner_waits script s (is_waiting m) g test ≡ true
+  alone-partner test h =
+      let p : Partner script s (is_waiting then) g test = partner script s (is_waiting then) g test h in
+      partner-waits script s (is_waiting m) g test (partner-other g test p p.other)
+
+  has-back : (k : CaseKind) → has_partner script s (is_waiting then) g k ≡ true → has_partner script s (is_waiting m) g k ≡ true
+  has-back (CaseKind.Recv o) h =
+      let parts = and_parts (is_chan script o && capacity_of script o == 0) (partner_waits script s (is_waiting then) g (sends_to o)) h in
+      and_from (is_chan script o && capacity_of script o == 0) (partner_waits script s (is_waiting m) g (sends_to o)) parts.0 (alone-partner (sends_to o) parts.1)
+  has-back (CaseKind.Send c v) h =
+      let parts = and_parts (capacity_of script c == 0) (partner_waits script s (is_waiting then) g (receives_from c)) h in
+      and_from (capacity_of script c == 0) (partner_waits script s (is_waiting m) g (receives_from c)) parts.0 (alone-partner (receives_from c) parts.1)
+
+  own-firm : is_firm_at script s then g ≡ false
+  own-firm =
+      let none : has_partner script s (is_waiting then) g kind ≡ false =
+      unless-true (has_partner script s (is_waiting then) g kind) (λ h. never-both (has_partner script s (is_waiting m) g kind) (has-back kind h) can.partner) in
+      firm-stood script s (is_waiting then) g (goroutine_at s g)
+      ∙ (ap (firm_on script s (is_waiting then) g) can.waiter.stands ∙ plain-firm script s (is_waiting then) g instr kind can.waiter.has can.faultless can.alone none)
+
+  -- another one whom g would meet would be met by g: it is parked, and makes no misuse
+  meets-back : (h : ℕ) (i : Instr) (test : CaseKind → Bool) → h ≢ g → is_waiting m h ≡ true → stands_at script s h ≡ Some i → fault script s i ≡ None → offers test i ≡ true
+      → partner_waits script s (is_waiting m) g test ≡ true
+  meets-back h i test other waits on none passes =
+      partner-waits script s (is_waiting m) g test (record {
+        number = h;
+        instr = i;
+        other = other;
+        counted = waits;
+        does = record { stands = on; calm = calm-standing script s h i on none };
+        passes = passes;
+      })
+
+  -- where g stands, its operation is this one
+  same-kind : (n : ℕ) (i : Instr) (k : CaseKind) → n ≡ g → stands_at script s n ≡ Some i → operation i 0 ≡ Some k → kind ≡ k
+  same-kind n i k is on has =
+      let same : Some instr ≡ Some i = sym can.waiter.stands ∙ (ap (stands_at script s) (sym is) ∙ on) in
+      let both : Some kind ≡ Some k = sym can.waiter.has ∙ (ap operation_of same ∙ has) in
+      cc
+
+  declared : (h : ℕ) (i : Instr) (c v : ℕ) → i ≡ Instr.Send c v → stands_at script s h ≡ Some i → fault script s i ≡ None → IsTrue (is_chan script c)
+  declared h i c v is on none =
+      names-Does script s h (Instr.Send c v) good (record {
+        stands = on ∙ ap Some is;
+        calm = calm-standing script s h i on none;
+      })
+
+  -- a partner of another one is not g
+  not-met : (h : ℕ) (i : Instr) (k : CaseKind) → h ≢ g → is_waiting m h ≡ true → stands_at script s h ≡ Some i → fault script s i ≡ None → operation i 0 ≡ Some k
+      → has_partner script s (is_waiting then) h k ≡ true → has_partner script s (is_waiting m) h k ≡ true
+  not-met h i (CaseKind.Recv o) other waits on none has full =
+      let parts = and_parts (is_chan script o && capacity_of script o == 0) (partner_waits script s (is_waiting then) h (sends_to o)) full in
+      let room = and_parts (is_chan script o) (capacity_of script o == 0) parts.0 in
+      let p : Partner script s (is_waiting then) h (sends_to o) = partner script s (is_waiting then) h (sends_to o) parts.1 in
+      elim (cases_eq p.number g) [
+        | inl is ↦
+            let sends : SendsTo p.instr o = sends-send p.instr o p.passes in
+            let at : kind ≡ CaseKind.Send o sends.value = same-kind p.number p.instr (CaseKind.Send o sends.value) is p.does.stands (ap (λ i. operation i 0) sends.is) in
+            let is_recv_here : i ≡ Instr.Recv o = is_recv i 0 o has in
+            let met : partner_waits script s (is_waiting m) g (receives_from o) ≡ true =
+            meets-back h i (receives_from o) other waits on none (ap (offers (receives_from o)) is_recv_here ∙ eq-eqb o o refl) in
+            absurd (never-both (has_partner script s (is_waiting m) g kind)
+            (ap (has_partner script s (is_waiting m) g) at ∙ and_from (capacity_of script o == 0) (partner_waits script s (is_waiting m) g (receives_from o)) room.1 met) can.partner)
+        | inr apart ↦
+            and_from (is_chan script o && capacity_of script o == 0) (partner_waits script s (is_waiting m) h (sends_to o)) parts.0
+            (partner-waits script s (is_waiting m) h (sends_to o) (partner-other h (sends_to o) p apart))
+      ]
+  not-met h i (CaseKind.Send c v) other waits on none has full =
+      let parts = and_parts (capacity_of script c == 0) (partner_waits script s (is_waiting then) h (receives_from c)) full in
+      let p : Partner script s (is_waiting then) h (receives_from c) = partner script s (is_waiting then) h (receives_from c) parts.1 in
+      elim (cases_eq p.number g) [
+        | inl is ↦
+            let receives : p.instr ≡ Instr.Recv c = receives-recv p.instr c p.passes in
+            let at : kind ≡ CaseKind.Recv c = same-kind p.number p.instr (CaseKind.Recv c) is p.does.stands (ap (λ i. operation i 0) receives) in
+            let is_send_here : i ≡ Instr.Send c v = is_send i 0 c v has in
+            let met : partner_waits script s (is_waiting m) g (sends_to c) ≡ true =
+            meets-back h i (sends_to c) other waits on none (ap (offers (sends_to c)) is_send_here ∙ eq-eqb c c refl) in
+            absurd (never-both (has_partner script s (is_waiting m) g kind)
+            (ap (has_partner script s (is_waiting m) g) at
+            ∙ and_from (is_chan script c && capacity_of script c == 0) (partner_waits script s (is_waiting m) g (sends_to c))
+            (and_from (is_chan script c) (capacity_of script c == 0) (declared h i c v is_send_here on none) parts.0) met) can.partner)
+        | inr apart ↦
+            and_from (capacity_of script c == 0) (partner_waits script s (is_waiting m) h (receives_from c)) parts.0
+            (partner-waits script s (is_waiting m) h (receives_from c) (partner-other h (receives_from c) p apart))
+      ]
+  other-firm : (h : ℕ) → h ≢ g → is_waiting then h ≡ true → is_firm_at script s then h ≡ false
+  other-firm h other waits =
+      let before : is_waiting m h ≡ true = waited-before h other waits in
+      let on : Option Instr = stood script (goroutine_at s h) in
+      let firm : firm_on script s (is_waiting m) h on ≡ false = sym (firm-stood script s (is_waiting m) h (goroutine_at s h)) ∙ calm h before in
+      firm-stood script s (is_waiting then) h (goroutine_at s h)
+      ∙ firm-next script s s (is_waiting m) (is_waiting then) h nowhere on (stays-same s nowhere) (λ k e. refl)
+      (λ k e.
+        let at : AtOperation script s (plainly h) k = at_operation script s (plainly h) k e in
+        let none : fault script s at.instr ≡ None = no-reason (fault script s at.instr) (sym (ap (has_fault script s) at.stands) ∙ firm-fault script s (is_waiting m) h on firm) in
+        unless-true (has_partner script s (is_waiting then) h k)
+        (λ full. never-both (has_partner script s (is_waiting m) h k) (not-met h at.instr k other before at.stands none at.has full) (firm-partner script s (is_waiting m) h on k firm e)))
+      firm
+
+pub calm-parked_at : (script : Script) (s : State) (m : Schedule) (g : ℕ) (kind : CaseKind) → IsGood script → CanPark script s m g kind → IsCalm script s m → IsCalm script s (parked_at m (plainly g) kind)
+calm-parked_at script s m g kind good can calm h waits =
     elim (cases_eq h g) [
-      | inl is ↦ subst (λ h. is_firm_at script s h ≡ false) (sym is) own
-      | inr other ↦ calm h (sym (ap is_parked (numbered-change_other m.statuses g h (λ _. RunStatus.Parked m.parks) other)) ∙ waiting)
+      | inl is ↦ subst (λ h. is_firm_at script s (parked_at m (plainly g) kind) h ≡ false) (sym is) (own-firm script s m g kind good can calm)
+      | inr other ↦ other-firm script s m g kind good can calm h other waits
     ]
-  where
-    own : is_firm_at script s g ≡ false
-    own =
-        let st : Standing script s g (Instr.Recv t) = standing script s g (Instr.Recv t) stands in
-        ap (firm_in script s) st.there
-        ∙ (ap (λ (mode : Mode). elim mode [ Mode.At ↦ elim (instr_at script st.who.place) [ None ↦ false | Some i ↦ is_some (fault script s i) || goes_on i ] | _ ↦ false ]) st.at
-        ∙ (ap (λ (o : Option Instr). elim o [ None ↦ false | Some i ↦ is_some (fault script s i) || goes_on i ]) st.on ∙ unmade-calm (timer_at s t) made))
 
 -- ---- the idle point
 
--- what each numbered item passes, all pass
-list_all-from_numbered : {X : Type 0} (p : X → Bool) (xs : List X) → ((g : ℕ) (x : X) → numbered xs g ≡ Some x → p x ≡ true) → list_all p xs ≡ true
-list_all-from_numbered p [] h = refl
-list_all-from_numbered {X} p (x ∷ xs) h =
-    let here : p x ≡ true = h 1 x refl in
-    let later : (g : ℕ) (y : X) → numbered xs g ≡ Some y → p y ≡ true = λ g y e. later_of p x xs h g y e in
-    rw here (list_all-from_numbered p xs later)
-  where
-    later_of : {X : Type 0} (p : X → Bool) (x : X) (xs : List X) → ((g : ℕ) (y : X) → numbered (x ∷ xs) g ≡ Some y → p y ≡ true) → (g : ℕ) (y : X) → numbered xs g ≡ Some y → p y ≡ true
-    later_of p x xs h zero y e = cc
-    later_of p x xs h (suc i) y e = h (suc (suc i)) y e
+-- what each numbered item passes with its number, all pass
+all_from : {X : Type 0} (p : ℕ × X → Bool) (n : ℕ) (xs : List X) → ((i : ℕ) (x : X) → slice_get xs i ≡ Some x → p (n + i, x) ≡ true) → list_all p (enumerate_from n xs) ≡ true
+all_from p n [] h = refl
+all_from p n (x ∷ xs) h =
+    let zero_more : n + 0 ≡ n = omega arith in
+    and_from (p (n, x)) (list_all p (enumerate_from (n + 1) xs)) (subst (λ k. p (k, x) ≡ true) zero_more (h 0 x refl))
+    (all_from p (n + 1) xs (λ i y e. let one_more : n + suc i ≡ (n + 1) + i = omega arith in subst (λ k. p (k, y) ≡ true) one_more (h (suc i) y e)))
 
--- who is neither queued nor in hand is parked, or has ended
-calm-at_rest : (script : Script) (s : State) (r : Goroutine) (mode : Mode) (x : RunStatus) → r.mode ≡ mode → Some x ≢ Some RunStatus.Queued → Some x ≢ Some RunStatus.InHand → Agrees mode x
-    → (is_parked (Some x) ≡ true → is_firm script s r ≡ false) → is_firm script s r ≡ false
-calm-at_rest script s r mode RunStatus.Queued is q w h calm = absurd (q refl)
-calm-at_rest script s r mode RunStatus.InHand is q w h calm = absurd (w refl)
-calm-at_rest script s r mode (RunStatus.Parked since) is q w h calm = calm refl
-calm-at_rest script s r Mode.At RunStatus.Ended is q w h calm = absurd h
-calm-at_rest script s r (Mode.Sleeping until) RunStatus.Ended is q w h calm = absurd h
-calm-at_rest script s r Mode.Ended RunStatus.Ended is q w h calm =
-    ap (λ (mode : Mode). elim mode [ Mode.At ↦ elim (instr_at script r.place) [ None ↦ false | Some i ↦ is_some (fault script s i) || goes_on i ] | _ ↦ false ]) is
+all-numbered : {X : Type 0} (p : ℕ × X → Bool) (xs : List X) → ((g : ℕ) (x : X) → numbered xs g ≡ Some x → p (g, x) ≡ true) → list_all p (enumerate_from 1 xs) ≡ true
+all-numbered p xs h = all_from p 1 xs (λ i x e. let is : suc i ≡ 1 + i = omega arith in subst (λ k. p (k, x) ≡ true) is (h (suc i) x e))
 
-pub quiet-calm : (script : Script) (s : State) (m : Schedule) → Fits script s m → IsCalm script s m
-    → ((g : ℕ) → status_of m g ≢ Some RunStatus.Queued) → ((g : ℕ) → status_of m g ≢ Some RunStatus.InHand) → none_firm script s ≡ true
-quiet-calm script s m fits calm none_queued none_in_hand =
-    list_all-from_numbered (λ (r : Goroutine). not (is_firm script s r)) s.goroutines (λ g r e.
-    let x : HasNumber m.statuses g = has_status script s m g r fits e in
-    ap not
-    (calm-at_rest script s r r.mode x.item refl (λ k. none_queued g (x.there ∙ k)) (λ k. none_in_hand g (x.there ∙ k)) (fits.agree g r x.item e x.there)
-    (λ waiting. sym (ap (firm_in script s) e) ∙ calm g (ap is_parked x.there ∙ waiting))))
+-- who is neither queued nor in hand, and stands somewhere, is parked
+at_rest-parked : (mode : Mode) (x : RunStatus) → mode ≡ Mode.At → Some x ≢ Some RunStatus.Queued → Some x ≢ Some RunStatus.InHand → Agrees mode x → is_parked (Some x) ≡ true
+at_rest-parked mode RunStatus.Queued at q w h = absurd (q refl)
+at_rest-parked mode RunStatus.InHand at q w h = absurd (w refl)
+at_rest-parked mode (RunStatus.Parked since) at q w h = refl
+at_rest-parked Mode.At RunStatus.Ended at q w h = absurd h
+at_rest-parked (Mode.Sleeping until) RunStatus.Ended at q w h = cc
+at_rest-parked Mode.Ended RunStatus.Ended at q w h = cc
+
+module _ (script : Script) (s : State) (m : Schedule) (fits : Fits script s m) (calm : IsCalm script s m) (none_queued : (g : ℕ) → status_of m g ≢ Some RunStatus.Queued)
+    (none_in_hand : (g : ℕ) → status_of m g ≢ Some RunStatus.InHand) where
+  standing-waits : (g : ℕ) (i : Instr) → stands_at script s g ≡ Some i → is_waiting m g ≡ true
+  standing-waits g i e =
+      let st : Standing script s g i = standing script s g i e in
+      let x : HasNumber m.statuses g = has_status script s m g st.who fits st.there in
+      ap is_parked x.there
+      ∙ at_rest-parked st.who.mode x.item st.at (λ k. none_queued g (x.there ∙ k)) (λ k. none_in_hand g (x.there ∙ k)) (fits.agree g st.who x.item st.there x.there)
+
+  everyone-back : (g : ℕ) (test : CaseKind → Bool) → partner_waits script s everyone g test ≡ true → partner_waits script s (is_waiting m) g test ≡ true
+  everyone-back g test h =
+      let p : Partner script s everyone g test = partner script s everyone g test h in
+      partner-waits script s (is_waiting m) g test
+      (record { number = p.number; instr = p.instr; other = p.other; counted = standing-waits p.number p.instr p.does.stands; does = p.does; passes = p.passes })
+
+  everyone-partner : (g : ℕ) (k : CaseKind) → has_partner script s everyone g k ≡ true → has_partner script s (is_waiting m) g k ≡ true
+  everyone-partner g (CaseKind.Recv o) h =
+      let parts = and_parts (is_chan script o && capacity_of script o == 0) (partner_waits script s everyone g (sends_to o)) h in
+      and_from (is_chan script o && capacity_of script o == 0) (partner_waits script s (is_waiting m) g (sends_to o)) parts.0 (everyone-back g (sends_to o) parts.1)
+  everyone-partner g (CaseKind.Send c v) h =
+      let parts = and_parts (capacity_of script c == 0) (partner_waits script s everyone g (receives_from c)) h in
+      and_from (capacity_of script c == 0) (partner_waits script s (is_waiting m) g (receives_from c)) parts.0 (everyone-back g (receives_from c) parts.1)
+
+  quiet-one : (g : ℕ) (o : Option Instr) → stood script (goroutine_at s g) ≡ o → firm_on script s everyone g o ≡ false
+  quiet-one g None e = refl
+  quiet-one g (Some i) e =
+      let waits : is_waiting m g ≡ true = standing-waits g i e in
+      let firm : firm_on script s (is_waiting m) g (Some i) ≡ false =
+      sym (ap (firm_on script s (is_waiting m) g) e) ∙ (sym (firm-stood script s (is_waiting m) g (goroutine_at s g)) ∙ calm g waits) in
+      firm-next script s s (is_waiting m) everyone g nowhere (Some i) (stays-same s nowhere) (λ k q. refl)
+      (λ k q. unless-true (has_partner script s everyone g k)
+      (λ h. never-both (has_partner script s (is_waiting m) g k) (everyone-partner g k h) (firm-partner script s (is_waiting m) g (Some i) k firm q)))
+      firm
+
+  pub quiet-calm : none_firm script s ≡ true
+  quiet-calm =
+      all-numbered (λ (e : ℕ × Goroutine). not (is_firm script s everyone e.0 e.1)) s.goroutines (λ g r e.
+      ap not (ap (firm_of script s everyone g) (sym e) ∙ (firm-stood script s everyone g (goroutine_at s g) ∙ quiet-one g (stood script (goroutine_at s g)) refl)))

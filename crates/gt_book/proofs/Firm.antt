@@ -44,15 +44,15 @@ and-false : (a b : Bool) → (b ≡ true → ⊥) → (a && b) ≡ false
 and-false true b h = unless-true b h
 and-false false b h = refl
 
-no-reason : (o : Option Reason) → is_some o ≡ false → o ≡ None
+pub no-reason : (o : Option Reason) → is_some o ≡ false → o ≡ None
 no-reason None h = refl
 no-reason (Some reason) h = cc
 
 -- the values of a channel, and whether it is closed
-abbrev kept_in : Option Channel → List ℕ
+abbrev pub kept_in : Option Channel → List ℕ
 kept_in o = elim o [ None ↦ [] | Some r ↦ r.items ]
 
-abbrev shut_in : Option Channel → Bool
+abbrev pub shut_in : Option Channel → Bool
 shut_in o = elim o [ None ↦ false | Some r ↦ r.closed ]
 
 -- ---- what is known of a goroutine by where it stands
@@ -278,7 +278,7 @@ or-true : (b : Bool) → (b || true) ≡ false → ⊥
 or-true true e = cc
 or-true false e = cc
 
-firm-next : (script : Script) (s next : State) (counts counts' : ℕ → Bool) (g : ℕ) (y : ℕ → Bool) (o : Option Instr) → Stays s next y
+pub firm-next : (script : Script) (s next : State) (counts counts' : ℕ → Bool) (g : ℕ) (y : ℕ → Bool) (o : Option Instr) → Stays s next y
     → ((kind : CaseKind) → operation_of o ≡ Some kind → y (object_of kind) ≡ false)
     → ((kind : CaseKind) → operation_of o ≡ Some kind → has_partner script next counts' g kind ≡ false)
     → firm_on script s counts g o ≡ false → firm_on script next counts' g o ≡ false
