@@ -1,23 +1,29 @@
--- What an entry that may come next changes is there to be changed: its goroutine lives, its timer was made or is not yet, its clock ticks.
-use Rattle.std.proofs.Common.{◌≡◌, ℕ, ◌<◌, List, length, sym, subst, ◌∙◌, arith, Option, None, Some, true, false, is_some, IfSome, IsSomeAnd}
+-- What an entry that may come next changes is there to be changed: its goroutines live, its timer or its channel was made or is not yet, its clock ticks.
+use Rattle.std.proofs.Common.{◌≡◌, ℕ, ◌<◌, List, length, sym, subst, ◌∙◌, arith, Option, None, Some, true, false, is_some, IsTrue, refl, IfSome, IsSomeAnd}
 use Rattle.gt_model.specs.declared.script.Script.{Script}
 use Rattle.gt_model.specs.declared.script.Instr.{Instr}
 use Rattle.gt_model.specs.declared.entry.Entry.{Entry}
 use Rattle.gt_model.specs.declared.entry.Limits.{Limits}
 use Rattle.gt_model.specs.declared.entry.Party.{Party}
+use Rattle.gt_model.specs.declared.entry.Reason.{Reason}
+use Rattle.gt_model.specs.declared.script.CaseKind.{CaseKind}
+use Rattle.gt_model.specs.Script.{is_chan}
 use Rattle.gt_model.specs.declared.state.Goroutine.{Goroutine}
 use Rattle.gt_model.specs.declared.state.Mode.{Mode}
 use Rattle.gt_model.specs.Good.{IsGood}
 use Rattle.gt_rules.specs.State.{State, goroutine_at, stands_at, timer_at, sleeps_until}
 use Rattle.gt_rules.specs.declared.change.Move.{Move}
 use Rattle.gt_rules.specs.declared.change.Setting.{Setting}
+use Rattle.gt_rules.specs.declared.change.Trade.{Trade}
 use Rattle.gt_rules.specs.Change.{Change, change_of}
-use Rattle.gt_rules.specs.Legal.{May, Receives}
+use Rattle.gt_rules.specs.Legal.{May, Operates}
+use Rattle.gt_rules.specs.Panics.{panic_at, fault_at}
 use Rattle.gt_rules.specs.Finish.{Legal}
 use Rattle.gt_facts.specs.Formed.{IsFormed}
 use Rattle.gt_facts.proofs.Lookups.{Standing, standing, Asleep, sleeper, AtOperation, at_operation}
-use Rattle.gt_facts.proofs.Makers.{Maker, calls, receives, wakes, ticks, maker, Sets, sets}
-use Rattle.gt_facts.proofs.Within.{setting_within}
+use Rattle.gt_facts.proofs.Makers.{Maker, calls, receives, trades, pairs, wakes, ticks, panics, maker, Sets, sets, HasTrade, Trades, trades-May}
+use Rattle.gt_facts.proofs.Still.{panic_stands}
+use Rattle.gt_facts.proofs.Within.{setting_within, chan_within}
 
 -- a goroutine that has not ended
 pub record IsLive (s : State) (g : ℕ) : Type 0 where
@@ -31,9 +37,17 @@ FitsTimer s t (Setting.Made due) = (t < length s.timers) × (is_some (timer_at s
 FitsTimer s t (Setting.SetAnew due) = is_some (timer_at s t) ≡ true
 FitsTimer s t (Setting.Ended due) = is_some (timer_at s t) ≡ true
 
-pub record Fits (s : State) (c : Change) : Type 0 where
+-- a channel that changes has its place, is declared as one, and may change so
+pub record FitsChannel (script : Script) (s : State) (c : ℕ) (x : Trade) : Type 0 where
+  pub within : c < length s.channels
+  pub named : IsTrue (is_chan script c)
+  pub has : HasTrade script s c x
+
+pub record Fits (script : Script) (s : State) (c : Change) : Type 0 where
   pub mover : IfSome c.mover (λ (m : ℕ × Move). IsLive s m.0)
+  pub partner : IfSome c.partner (λ (m : ℕ × Move). IsLive s m.0)
   pub timer : IfSome c.timer (λ (x : ℕ × Setting). FitsTimer s x.0 x.1)
+  pub channel : IfSome c.channel (λ (x : ℕ × Trade). FitsChannel script s x.0 x.1)
   pub clock : IfSome c.clock (λ (x : ℕ × ℕ). x.0 < length s.clocks)
 
 -- ---- who makes an entry lives
@@ -49,24 +63,43 @@ stands-live script s g i e =
     let st : Standing script s g i = standing script s g i e in
     record { who = st.who; there = st.there; live = awake-live st.who.mode st.at }
 
-receives-live : (script : Script) (s : State) (p : Party) (t : ℕ) → Receives script s p t → IsLive s p.g
-receives-live script s p t call =
-    let at : AtOperation script s p t = at_operation script s p t call.stands in
+operates-live : (script : Script) (s : State) (p : Party) (kind : CaseKind) → Operates script s p kind → IsLive s p.g
+operates-live script s p kind call =
+    let at : AtOperation script s p kind = at_operation script s p kind call.stands in
     stands-live script s p.g at.instr at.stands
+
+panics-live : (script : Script) (s : State) (g n : ℕ) (reason : Reason) → panic_at script s g ≡ Some (n, reason) → IsLive s g
+panics-live script s g n reason h =
+    elim (stands_at script s g)
+    as (λ o. stands_at script s g ≡ o → (elim o as (λ x. Option (ℕ × Reason)) [ None ↦ None | Some i ↦ fault_at script s i ]) ≡ Some (n, reason) → IsLive s g) [
+      | None ↦ λ e k. cc
+      | Some i ↦ λ e k. stands-live script s g i e
+    ] refl (panic_stands script s g ∙ h)
 
 sleeps-live : (s : State) (g : ℕ) (P : ℕ → Type 0) → IsSomeAnd (sleeps_until s g) P → IsLive s g
 sleeps-live s g P h =
     let a : Asleep s g = sleeper s g P h in
     record { who = a.who; there = a.there; live = asleep-live a.who.mode a.until a.sleeps }
 
-live-Maker : (script : Script) (s : State) (m : Option (ℕ × Move)) (k : Option (ℕ × ℕ)) → Maker script s m k → IfSome m (λ (m : ℕ × Move). IsLive s m.0)
-live-Maker script s m k (calls g i n does goes leaves) = stands-live script s g i does.stands
-live-Maker script s m k (receives p t due call is come) = receives-live script s p t call
-live-Maker script s m k (wakes g h) = sleeps-live s g _ h
-live-Maker script s m k _ = tt
+live-Maker : (script : Script) (s : State) (m p : Option (ℕ × Move)) (k : Option (ℕ × ℕ)) → Maker script s m p k → IfSome m (λ (m : ℕ × Move). IsLive s m.0)
+live-Maker script s m q k (calls g i n does goes leaves) = stands-live script s g i does.stands
+live-Maker script s m q k (receives p t due call timer is come) = operates-live script s p (CaseKind.Recv t) call
+live-Maker script s m q k (trades p kind call ready) = operates-live script s p kind call
+live-Maker script s m q k (pairs from to c v sends gets chan none other) = operates-live script s from (CaseKind.Send c v) sends
+live-Maker script s m q k (wakes g h) = sleeps-live s g _ h
+live-Maker script s m q k (panics p reason h) = panics-live script s p.g p.case_no reason h
+live-Maker script s m q k _ = tt
 
 pub mover-fits : (script : Script) (s : State) (e : Entry) → May script s e → IfSome (change_of e).mover (λ (m : ℕ × Move). IsLive s m.0)
-mover-fits script s e may = live-Maker script s (change_of e).mover (change_of e).clock (maker script s e may)
+mover-fits script s e may = live-Maker script s (change_of e).mover (change_of e).partner (change_of e).clock (maker script s e may)
+
+-- and so does its partner
+live-partner : (script : Script) (s : State) (m p : Option (ℕ × Move)) (k : Option (ℕ × ℕ)) → Maker script s m p k → IfSome p (λ (m : ℕ × Move). IsLive s m.0)
+live-partner script s m q k (pairs from to c v sends gets chan none other) = operates-live script s to (CaseKind.Recv c) gets
+live-partner script s m q k _ = tt
+
+pub partner-fits : (script : Script) (s : State) (e : Entry) → May script s e → IfSome (change_of e).partner (λ (m : ℕ × Move). IsLive s m.0)
+partner-fits script s e may = live-partner script s (change_of e).mover (change_of e).partner (change_of e).clock (maker script s e may)
 
 -- ---- the timer that is set fits
 
@@ -84,26 +117,41 @@ pub timer-fits : (script : Script) (s : State) (e : Entry) → IsGood script →
     → IfSome (change_of e).timer (λ (x : ℕ × Setting). FitsTimer s x.0 x.1)
 timer-fits script s e good formed may = timer-sets script s (change_of e).timer formed (sets script s e good may)
 
+-- ---- the channel that changes fits
+
+channel-trades : (script : Script) (s : State) (o : Option (ℕ × Trade)) → IsFormed script s → IfSome o (λ (x : ℕ × Trade). Trades script s x.0 x.1)
+    → IfSome o (λ (x : ℕ × Trade). FitsChannel script s x.0 x.1)
+channel-trades script s None formed h = tt
+channel-trades script s (Some x) formed h =
+    let fits : Trades script s x.0 x.1 = h in
+    record { within = chan_within script s x.0 formed fits.named; named = fits.named; has = fits.has }
+
+pub channel-fits : (script : Script) (s : State) (e : Entry) → IsGood script → IsFormed script s → May script s e
+    → IfSome (change_of e).channel (λ (x : ℕ × Trade). FitsChannel script s x.0 x.1)
+channel-fits script s e good formed may = channel-trades script s (change_of e).channel formed (trades-May script s e good may)
+
 -- ---- a clock that moves is one of those that tick
 
 clock-there : (script : Script) (s : State) → IsFormed script s → 0 < length s.clocks
 clock-there script s formed = subst (λ (cs : List ℕ). 0 < length cs) (sym formed.one_clock) (omega arith)
 
-ticks-there : (script : Script) (s : State) (m : Option (ℕ × Move)) (k : Option (ℕ × ℕ)) → IsFormed script s → Maker script s m k
+ticks-there : (script : Script) (s : State) (m p : Option (ℕ × Move)) (k : Option (ℕ × ℕ)) → IsFormed script s → Maker script s m p k
     → IfSome k (λ (x : ℕ × ℕ). x.0 < length s.clocks)
-ticks-there script s m k formed (ticks to up most) = clock-there script s formed
-ticks-there script s m k formed _ = tt
+ticks-there script s m p k formed (ticks to up most) = clock-there script s formed
+ticks-there script s m p k formed _ = tt
 
 pub clock-fits : (script : Script) (s : State) (e : Entry) → IsFormed script s → May script s e → IfSome (change_of e).clock (λ (x : ℕ × ℕ). x.0 < length s.clocks)
-clock-fits script s e formed may = ticks-there script s (change_of e).mover (change_of e).clock formed (maker script s e may)
+clock-fits script s e formed may = ticks-there script s (change_of e).mover (change_of e).partner (change_of e).clock formed (maker script s e may)
 
-pub fits-May : (script : Script) (s : State) (e : Entry) → IsGood script → IsFormed script s → May script s e → Fits s (change_of e)
+pub fits-May : (script : Script) (s : State) (e : Entry) → IsGood script → IsFormed script s → May script s e → Fits script s (change_of e)
 fits-May script s e good formed may = record {
   mover = mover-fits script s e may;
+  partner = partner-fits script s e may;
   timer = timer-fits script s e good formed may;
+  channel = channel-fits script s e good formed may;
   clock = clock-fits script s e formed may;
 }
 
-pub fits-Legal : (script : Script) (limits : Limits) (s : State) (e : Entry) → IsGood script → IsFormed script s → Legal script limits s e → Fits s (change_of e)
-fits-Legal script limits s (Entry.Finish outcome) good formed legal = record { mover = tt; timer = tt; clock = tt }
+pub fits-Legal : (script : Script) (limits : Limits) (s : State) (e : Entry) → IsGood script → IsFormed script s → Legal script limits s e → Fits script s (change_of e)
+fits-Legal script limits s (Entry.Finish outcome) good formed legal = record { mover = tt; partner = tt; timer = tt; channel = tt; clock = tt }
 fits-Legal script limits s e good formed legal = fits-May script s e good formed legal.1

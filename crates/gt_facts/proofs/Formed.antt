@@ -1,5 +1,6 @@
 -- The states that a run reaches are formed, and the program's clock never falls.
-use Rattle.std.proofs.Common.{◌≡◌, ℕ, zero, suc, ◌+◌, ◌<◌, ◌≤◌, List, [], ◌∷◌, ◌++◌, map, set, length, refl, sym, ap, subst, ◌∙◌, arith, slice_get, slice_index, Option, None, Some, true, false, IsSomeAnd, IfSome, option_map}
+use Rattle.std.proofs.Common.{◌≡◌, ℕ, zero, suc, ◌+◌, ◌<◌, ◌≤◌, List, [], ◌∷◌, ◌++◌, map, set, length, refl, sym, ap, subst, ◌∙◌, arith, slice_get, slice_index, Option, None, Some, Bool, true, false, IsSomeAnd, IfSome, option_map, drop, eqb}
+use Rattle.std.proofs.lemmas.Bool.{eqb-true, eqb-false}
 use Rattle.std.proofs.lemmas.List.{length-map, length-set}
 use Rattle.std.proofs.lemmas.Option.{slice_get_within}
 use Rattle.std.proofs.Math.ListN.{length-append}
@@ -12,29 +13,34 @@ use Rattle.gt_model.specs.declared.script.Place.{Place}
 use Rattle.gt_model.specs.declared.entry.Entry.{Entry}
 use Rattle.gt_model.specs.declared.entry.Limits.{Limits}
 use Rattle.gt_model.specs.declared.entry.Outcome.{Outcome}
+use Rattle.gt_model.specs.declared.entry.Party.{Party}
+use Rattle.gt_model.specs.declared.script.CaseKind.{CaseKind}
 use Rattle.gt_model.specs.declared.state.Goroutine.{Goroutine}
 use Rattle.gt_model.specs.declared.state.Timer.{Timer}
 use Rattle.gt_model.specs.declared.state.Mode.{Mode}
 use Rattle.gt_model.specs.Times.{greatest_time}
-use Rattle.gt_model.specs.Tables.{change, change_numbered, flatten}
-use Rattle.gt_rules.specs.State.{State, goroutine_at, stands_at, until_of, sleeps_until, clock, clock_of, world_of, timer_at}
-use Rattle.gt_model.specs.Script.{code_of, instr_at, is_func, names_func, func_of}
-use Rattle.gt_model.specs.Good.{IsGood, IsGoodCode, StartsRightly, is_finish}
+use Rattle.gt_model.specs.Tables.{at, change, change_numbered, flatten}
+use Rattle.gt_rules.specs.State.{State, Channel, goroutine_at, stands_at, until_of, sleeps_until, clock, clock_of, world_of, timer_at, channel_at, item_count}
+use Rattle.gt_model.specs.Script.{code_of, instr_at, is_func, names_func, func_of, capacity_of}
+use Rattle.gt_model.specs.Good.{IsGood, IsGoodCode, DeclaresRightly, is_finish}
 use Rattle.gt_rules.specs.declared.change.Move.{Move}
 use Rattle.gt_rules.specs.declared.change.Setting.{Setting}
 use Rattle.gt_rules.specs.declared.change.Start.{Start}
+use Rattle.gt_rules.specs.declared.change.Trade.{Trade}
 use Rattle.gt_rules.specs.Change.{Change, change_of}
-use Rattle.gt_rules.specs.After.{after, first_state, moved_on, moved, in_mode, begun, set_due, set_again, timer_world, number_of, new_period, retimed, with_mover, with_starts, started_by, with_retimed, with_clock}
-use Rattle.gt_rules.specs.Legal.{May, operation}
+use Rattle.gt_rules.specs.After.{after, first_state, moved_on, moved, in_mode, begun, set_due, set_again, timer_world, number_of, new_period, retimed, with_mover, with_starts, started_by, with_retimed, with_clock, with_items, shut, traded, with_traded}
+use Rattle.gt_rules.specs.Legal.{May, Operates}
+use Rattle.gt_rules.specs.Operations.{operation}
 use Rattle.gt_rules.specs.Finish.{Legal}
 use Rattle.gt_rules.specs.History.{AllLegal, state_after}
 use Rattle.gt_rules.specs.Places.{silent, silent_at, settled}
-use Rattle.gt_facts.specs.Formed.{IsFormed, IsOnWay, IsPlaced, IsPlacedIn}
+use Rattle.gt_facts.specs.Formed.{IsFormed, IsFormedChannel, IsOnWay, IsPlaced, IsPlacedIn}
 use Rattle.gt_model.proofs.GoodCode.{HasItem, has_item, all_at, main_within}
 use Rattle.gt_facts.proofs.Landing.{way-forward, passes, Landed, landed}
 use Rattle.gt_facts.proofs.Lookups.{Standing, standing, AtOperation, at_operation}
-use Rattle.gt_facts.proofs.Makers.{Maker, calls, receives, wakes, ticks, maker, Leaves, Sets, sets, Begins, AllBegin, starts, starts-few}
-use Rattle.gt_model.proofs.Items.{at-is}
+use Rattle.gt_facts.proofs.Makers.{Maker, calls, receives, trades, pairs, wakes, ticks, panics, maker, Leaves, Sets, sets, Trades, trades-May, Begins, AllBegin, starts, starts-few}
+use Rattle.gt_facts.proofs.Within.{chan_within}
+use Rattle.gt_model.proofs.Items.{at-is, at-change_other, numbered-change_other}
 use Rattle.gt_model.proofs.Changes.{AllAt, AllNumbered, all-change, all-set, all_numbered-change, all_numbered-append, length-change, length-change_numbered}
 
 -- ---- the facts of a state, part by part
@@ -59,8 +65,13 @@ pub record AreTimers (script : Script) (ts : List (Option Timer)) : Type 0 where
   pub count : length ts ≡ length script.decls
   pub each : AllAt (λ (o : Option Timer). IfSome o IsFormedTimer) ts
 
-formed-parts : (script : Script) (s : State) → AreClocks s.clocks → AreGoroutines script s.goroutines → length s.goroutines ≤ s.entries + 1 → AreTimers script s.timers → IsFormed script s
-formed-parts script s clocks gs few ts =
+pub record AreChannels (script : Script) (cs : List (Option Channel)) : Type 0 where
+  pub count : length cs ≡ length script.decls
+  pub each : (c : ℕ) (r : Channel) → at cs c ≡ Some r → IsFormedChannel script c r
+
+formed-parts : (script : Script) (s : State) → AreClocks s.clocks → AreGoroutines script s.goroutines → length s.goroutines ≤ s.entries + 1 → AreTimers script s.timers
+    → AreChannels script s.channels → IsFormed script s
+formed-parts script s clocks gs few ts cs =
     let timer : (t : ℕ) (r : Timer) → timer_at s t ≡ Some r → IsFormedTimer r = λ t r e. ts.each t (Some r) (at-is s.timers t r e) in
     record {
       world = record { goroutines = λ g r e. (gs.each g r e).world; timers = λ t r e. (timer t r e).world };
@@ -71,6 +82,8 @@ formed-parts script s clocks gs few ts =
       few = few;
       timers = ts.count;
       dues = λ t r e. (timer t r e).due;
+      channels = cs.count;
+      chans = cs.each;
     }
 
 clocks-of : (script : Script) (s : State) → IsFormed script s → AreClocks s.clocks
@@ -89,6 +102,9 @@ timers-of script s formed = record {
     | Some r ↦ λ e. let is : timer_at s t ≡ Some r = ap flatten e in record { world = formed.world.timers t r is; due = formed.dues t r is }
   ];
 }
+
+channels-of : (script : Script) (s : State) → IsFormed script s → AreChannels script s.channels
+channels-of script s formed = record { count = formed.channels; each = formed.chans }
 
 -- ---- places
 
@@ -156,6 +172,12 @@ all-none [] t o e = cc
 all-none (d ∷ ds) zero o e = let is : None ≡ o = cc in subst (λ (o : Option Timer). IfSome o IsFormedTimer) is tt
 all-none (d ∷ ds) (suc t) o e = all-none ds t o e
 
+-- no channel is made at first
+none_channel : (script : Script) (ds : List Decl) (c k : ℕ) (r : Channel) → at (map (λ (d : Decl). None) ds) c ≡ Some r → IsFormedChannel script k r
+none_channel script [] c k r e = cc
+none_channel script (d ∷ ds) zero k r e = cc
+none_channel script (d ∷ ds) (suc c) k r e = none_channel script ds c k r e
+
 none_numbered : (script : Script) → AllNumbered (IsFormedGoroutine script) []
 none_numbered script zero r e = cc
 none_numbered script (suc g) r e = cc
@@ -166,6 +188,7 @@ formed-first script good =
     (record { each = all_numbered-append (IsFormedGoroutine script) [] (begun script 0 script.main) (none_numbered script) (begun-formed script 0 script.main good refl (main_within script good)) })
     (omega arith)
     (record { count = length-map script.decls (λ (d : Decl). None); each = all-none script.decls })
+    (record { count = length-map script.decls (λ (d : Decl). None); each = λ c r e. none_channel script script.decls c c r e })
 
 -- ---- goroutines
 
@@ -216,6 +239,7 @@ leaves-formed script s g i (Move.FallsAsleep until) r good formed h leaves e =
       until = leaves.1;
     }
 leaves-formed script s g i Move.Ends r good formed h leaves e = ended-formed script s g r formed e
+leaves-formed script s g i Move.Panics r good formed h leaves e = (goroutines-of script s formed).each g r e
 
 changed_goroutines : (script : Script) (s : State) (g : ℕ) (f : Goroutine → Goroutine) → IsFormed script s → ((r : Goroutine) → goroutine_at s g ≡ Some r → IsFormedGoroutine script (f r))
     → AreGoroutines script (change_numbered s.goroutines g f)
@@ -262,9 +286,10 @@ timer_world-zero script s t formed = elim (timer_at s t) as (λ o. timer_at s t 
   | Some r ↦ λ e. formed.world.timers t r e
 ] refl
 
-starts_what : (script : Script) (what : What) → StartsRightly script what → names_func (Some what) ≡ true → (elim what [ What.AfterFunc f ↦ f | _ ↦ 0 ]) < length script.funcs
+starts_what : (script : Script) (what : What) → DeclaresRightly script what → names_func (Some what) ≡ true → (elim what [ What.AfterFunc f ↦ f | _ ↦ 0 ]) < length script.funcs
 starts_what script What.Timer h k = cc
 starts_what script (What.AfterFunc f) h k = h
+starts_what script (What.Chan cap) h k = cc
 starts_what script What.Function h k = cc
 
 func_of-within : (script : Script) (t : ℕ) → IsGood script → is_func script t ≡ true → func_of script t < length script.funcs
@@ -273,18 +298,22 @@ func_of-within script t good h =
     as (λ o. slice_get script.decls t ≡ o → names_func (option_map (λ (d : Decl). d.what) o) ≡ true
     → (elim (option_map (λ (d : Decl). d.what) o) [ None ↦ 0 | Some what ↦ elim what [ What.AfterFunc f ↦ f | _ ↦ 0 ] ]) < length script.funcs) [
       | None ↦ λ e k. cc
-      | Some d ↦ λ e k. starts_what script d.what (all_at (λ (d : Decl). StartsRightly script d.what) script.decls t d good.starts e) k
+      | Some d ↦ λ e k. starts_what script d.what (all_at (λ (d : Decl). DeclaresRightly script d.what) script.decls t d good.declares e) k
     ] refl h
 
-operation-next : (i : Instr) (n t : ℕ) → operation i n ≡ Some t → is_finish i ≡ false
-operation-next Instr.Finish n t e = cc
-operation-next _ n t e = refl
+operation-next : (i : Instr) (n : ℕ) (kind : CaseKind) → operation i n ≡ Some kind → is_finish i ≡ false
+operation-next Instr.Finish n kind e = cc
+operation-next _ n kind e = refl
 
 -- ---- the state after a change
 
 pub length-mover : (script : Script) (gs : List Goroutine) (m : Option (ℕ × Move)) → length (with_mover script gs m) ≡ length gs
 length-mover script gs None = refl
 length-mover script gs (Some m) = length-change_numbered gs m.0 (moved script m.1)
+
+-- two who make an entry add nobody
+pub length-movers : (script : Script) (gs : List Goroutine) (m p : Option (ℕ × Move)) → length (with_mover script (with_mover script gs m) p) ≡ length gs
+length-movers script gs m p = length-mover script (with_mover script gs m) p ∙ length-mover script gs m
 
 pub length-starts : (script : Script) (s : State) (gs : List Goroutine) (xs : List Start) → length (with_starts script s gs xs) ≡ length gs + length xs
 length-starts script s gs [] = omega arith
@@ -294,17 +323,39 @@ length-starts script s gs (x ∷ xs) =
     let one : length (gs ++ started_by script s x ∷ []) ≡ length gs + 1 = length-append gs (started_by script s x ∷ []) in
     omega arith
 
-mover-formed : (script : Script) (s : State) (m : Option (ℕ × Move)) (k : Option (ℕ × ℕ)) → IsGood script → IsFormed script s → Maker script s m k
+-- who goes on after its operation
+operates-formed : (script : Script) (s : State) (p : Party) (kind : CaseKind) (r : Goroutine) → IsGood script → IsFormed script s → Operates script s p kind → goroutine_at s p.g ≡ Some r
+    → IsFormedGoroutine script (moved_on script r)
+operates-formed script s p kind r good formed call e =
+    let at : AtOperation script s p kind = at_operation script s p kind call.stands in
+    moved-formed script s p.g at.instr r good formed at.stands (operation-next at.instr p.case_no kind at.has) e
+
+mover-formed : (script : Script) (s : State) (m p : Option (ℕ × Move)) (k : Option (ℕ × ℕ)) → IsGood script → IsFormed script s → Maker script s m p k
     → AreGoroutines script (with_mover script s.goroutines m)
-mover-formed script s m k good formed (calls g i n does goes leaves) =
+mover-formed script s m q k good formed (calls g i n does goes leaves) =
     changed_goroutines script s g (moved script n) formed (λ r e. leaves-formed script s g i n r good formed does.stands leaves e)
-mover-formed script s m k good formed (receives p t due call is come) =
-    let at : AtOperation script s p t = at_operation script s p t call.stands in
-    changed_goroutines script s p.g (moved_on script) formed
-    (λ r e. moved-formed script s p.g at.instr r good formed at.stands (operation-next at.instr p.case_no t at.has) e)
-mover-formed script s m k good formed (wakes g h) =
+mover-formed script s m q k good formed (receives p t due call timer is come) =
+    changed_goroutines script s p.g (moved_on script) formed (λ r e. operates-formed script s p (CaseKind.Recv t) r good formed call e)
+mover-formed script s m q k good formed (trades p kind call ready) =
+    changed_goroutines script s p.g (moved_on script) formed (λ r e. operates-formed script s p kind r good formed call e)
+mover-formed script s m q k good formed (pairs from to c v sends gets chan none other) =
+    changed_goroutines script s from.g (moved_on script) formed (λ r e. operates-formed script s from (CaseKind.Send c v) r good formed sends e)
+mover-formed script s m q k good formed (wakes g h) =
     changed_goroutines script s g (moved_on script) formed (λ r e. woken-formed script s g (clock_of s g) r good formed h e)
-mover-formed script s m k good formed _ = goroutines-of script s formed
+mover-formed script s m q k good formed (panics p reason h) =
+    changed_goroutines script s p.g (moved script Move.Panics) formed (λ r e. (goroutines-of script s formed).each p.g r e)
+mover-formed script s m q k good formed _ = goroutines-of script s formed
+
+-- the partner is another goroutine than the mover, and stands where it stood
+partner-formed : (script : Script) (s : State) (m p : Option (ℕ × Move)) (k : Option (ℕ × ℕ)) → IsGood script → IsFormed script s → Maker script s m p k
+    → AreGoroutines script (with_mover script s.goroutines m) → AreGoroutines script (with_mover script (with_mover script s.goroutines m) p)
+partner-formed script s m q k good formed (pairs from to c v sends gets chan none other) all = record {
+  each = all_numbered-change (IsFormedGoroutine script) (with_mover script s.goroutines m) to.g (moved_on script) all.each
+      (λ r e.
+      operates-formed script s to (CaseKind.Recv c) r good formed gets
+      (sym (numbered-change_other s.goroutines from.g to.g (moved_on script) (λ same. other (sym same))) ∙ e));
+}
+partner-formed script s m q k good formed _ all = all
 
 starter-formed : (script : Script) (s : State) (x : Start) → IsGood script → IsFormed script s → Begins script x → IsFormedGoroutine script (started_by script s x)
 starter-formed script s (Start.ByGoroutine g f) good formed h = begun-formed script (world_of s g) f good (world_of-zero script s g formed) h
@@ -332,32 +383,117 @@ timers-formed : (script : Script) (s : State) (m : Option (ℕ × Move)) (o : Op
 timers-formed script s m None formed h = timers-of script s formed
 timers-formed script s m (Some x) formed h = timer-formed script s m x.0 x.1 formed h
 
+-- ---- channels
+
+at-change_within : (cs : List (Option Channel)) (c : ℕ) (f : Option Channel → Option Channel) → c < length cs → at (change cs c f) c ≡ f (at cs c)
+at-change_within [] c f h = absurd (omega arith)
+at-change_within (x ∷ xs) zero f h = refl
+at-change_within (x ∷ xs) (suc c) f h = at-change_within xs c f (omega arith)
+
+drop-fewer : (xs : List ℕ) → length (drop 1 xs) ≤ length xs
+drop-fewer [] = omega arith
+drop-fewer (x ∷ xs) = omega arith
+
+-- a channel that keeps other values, and no more than it may
+kept-formed : (script : Script) (c : ℕ) (q r : Channel) (items : List ℕ) (closed : Bool) → IsFormedChannel script c q → length items ≤ capacity_of script c
+    → record { world = q.world; items = items; closed = closed } ≡ r → IsFormedChannel script c r
+kept-formed script c q r items closed was few is = subst (IsFormedChannel script c) is (record { named = was.named; world = was.world; few = few })
+
+puts-formed : (script : Script) (s : State) (c v : ℕ) (r : Channel) → IsFormed script s → item_count s c < capacity_of script c
+    → with_items (λ items. items ++ v ∷ []) (channel_at s c) ≡ Some r → IsFormedChannel script c r
+puts-formed script s c v r formed room e =
+    elim (channel_at s c) as (λ o. channel_at s c ≡ o → with_items (λ items. items ++ v ∷ []) o ≡ Some r → IsFormedChannel script c r) [
+      | None ↦ λ is k. cc
+      | Some q ↦ λ is k.
+          let count : item_count s c ≡ length q.items = ap (λ (o : Option Channel). length (elim o as (λ o. List ℕ) [ None ↦ [] | Some r ↦ r.items ])) is in
+          let more : length (q.items ++ v ∷ []) ≡ length q.items + 1 = length-append q.items (v ∷ []) in
+          let new : record { world = q.world; items = q.items ++ v ∷ []; closed = q.closed } ≡ r = cc in
+          kept-formed script c q r (q.items ++ v ∷ []) q.closed (formed.chans c q is) (omega arith) new
+    ] refl e
+
+takes-formed : (script : Script) (s : State) (c : ℕ) (r : Channel) → IsFormed script s → with_items (drop 1) (channel_at s c) ≡ Some r → IsFormedChannel script c r
+takes-formed script s c r formed e =
+    elim (channel_at s c) as (λ o. channel_at s c ≡ o → with_items (drop 1) o ≡ Some r → IsFormedChannel script c r) [
+      | None ↦ λ is k. cc
+      | Some q ↦ λ is k.
+          let was : IsFormedChannel script c q = formed.chans c q is in
+          let fewer : length (drop 1 q.items) ≤ length q.items = drop-fewer q.items in
+          let few : length q.items ≤ capacity_of script c = was.few in
+          let new : record { world = q.world; items = drop 1 q.items; closed = q.closed } ≡ r = cc in
+          kept-formed script c q r (drop 1 q.items) q.closed was (omega arith) new
+    ] refl e
+
+shut-formed : (script : Script) (s : State) (c : ℕ) (r : Channel) → IsFormed script s → shut (channel_at s c) ≡ Some r → IsFormedChannel script c r
+shut-formed script s c r formed e =
+    elim (channel_at s c) as (λ o. channel_at s c ≡ o → shut o ≡ Some r → IsFormedChannel script c r) [
+      | None ↦ λ is k. cc
+      | Some q ↦ λ is k.
+          let was : IsFormedChannel script c q = formed.chans c q is in
+          let new : record { world = q.world; items = q.items; closed = true } ≡ r = cc in
+          kept-formed script c q r q.items true was was.few new
+    ] refl e
+
+-- a channel that changes stays formed: the one that is made keeps no value, and one that gets a value has room for it
+channel-formed : (script : Script) (s : State) (w c : ℕ) (x : Trade) (r : Channel) → IsFormed script s → w ≡ 0 → Trades script s c x → traded w x (channel_at s c) ≡ Some r
+    → IsFormedChannel script c r
+channel-formed script s w c Trade.Opened r formed zero_world h e =
+    let new : record { world = w; items = []; closed = false } ≡ r = cc in
+    subst (IsFormedChannel script c) new (record { named = h.named; world = zero_world; few = omega arith })
+channel-formed script s w c (Trade.Puts v) r formed zero_world h e = puts-formed script s c v r formed h.has.2 e
+channel-formed script s w c Trade.Takes r formed zero_world h e = takes-formed script s c r formed e
+channel-formed script s w c Trade.Shut r formed zero_world h e = shut-formed script s c r formed e
+
+changed_channels : (script : Script) (s : State) (w c : ℕ) (x : Trade) → IsFormed script s → w ≡ 0 → Trades script s c x → AreChannels script (change s.channels c (traded w x))
+changed_channels script s w c x formed zero_world h = record {
+  count = length-change s.channels c (traded w x) ∙ formed.channels;
+  each = λ k r e.
+      elim (eqb k c) as (λ b. eqb k c ≡ b → IsFormedChannel script k r) [
+        | true ↦ λ is.
+            let same : k ≡ c = eqb-true k c is in
+            let there : at (change s.channels c (traded w x)) c ≡ Some r = subst (λ j. at (change s.channels c (traded w x)) j ≡ Some r) same e in
+            let here : traded w x (channel_at s c) ≡ Some r = sym (at-change_within s.channels c (traded w x) (chan_within script s c formed h.named)) ∙ there in
+            subst (λ j. IsFormedChannel script j r) (sym same) (channel-formed script s w c x r formed zero_world h here)
+        | false ↦ λ is.
+            formed.chans k r (sym (at-change_other s.channels c k (traded w x) (eqb-false k c is)) ∙ e)
+      ] refl;
+}
+
+channels-formed : (script : Script) (s : State) (m : Option (ℕ × Move)) (o : Option (ℕ × Trade)) → IsFormed script s → IfSome o (λ (x : ℕ × Trade). Trades script s x.0 x.1)
+    → AreChannels script (with_traded s m s.channels o)
+channels-formed script s m None formed h = channels-of script s formed
+channels-formed script s m (Some x) formed h = changed_channels script s (world_of s (number_of m)) x.0 x.1 formed (world_of-zero script s (number_of m) formed) h
+
+-- ---- clocks
+
 set-clocks : (clocks : List ℕ) (to : ℕ) → clocks ≡ slice_index clocks 0 ∷ [] → to ≤ greatest_time → AreClocks (set clocks 0 to)
 set-clocks clocks to one time = subst (λ (cs : List ℕ). AreClocks (set cs 0 to)) (sym one) (record { one = refl; time = time })
 
-clocks-formed : (script : Script) (s : State) (m : Option (ℕ × Move)) (k : Option (ℕ × ℕ)) → IsFormed script s → Maker script s m k → AreClocks (with_clock s.clocks k)
-clocks-formed script s m k formed (ticks to up most) = set-clocks s.clocks to formed.one_clock most
-clocks-formed script s m k formed _ = clocks-of script s formed
+clocks-formed : (script : Script) (s : State) (m p : Option (ℕ × Move)) (k : Option (ℕ × ℕ)) → IsFormed script s → Maker script s m p k → AreClocks (with_clock s.clocks k)
+clocks-formed script s m p k formed (ticks to up most) = set-clocks s.clocks to formed.one_clock most
+clocks-formed script s m p k formed _ = clocks-of script s formed
 
 pub formed-after : (script : Script) (s : State) (e : Entry) → IsGood script → IsFormed script s → May script s e → IsFormed script (after script s e)
 formed-after script s e good formed may =
     let c : Change = change_of e in
-    let who : Maker script s c.mover c.clock = maker script s e may in
-    let movers : List Goroutine = with_mover script s.goroutines c.mover in
-    let same : length movers ≡ length s.goroutines = length-mover script s.goroutines c.mover in
+    let who : Maker script s c.mover c.partner c.clock = maker script s e may in
+    let movers : List Goroutine = with_mover script (with_mover script s.goroutines c.mover) c.partner in
+    let same : length movers ≡ length s.goroutines = length-movers script s.goroutines c.mover c.partner in
     let more : length (with_starts script s movers c.starts) ≡ length movers + length c.starts = length-starts script s movers c.starts in
     let counts : length c.starts ≤ c.counted = starts-few e in
     let few : length s.goroutines ≤ s.entries + 1 = formed.few in
+    let moved_once : AreGoroutines script (with_mover script s.goroutines c.mover) = mover-formed script s c.mover c.partner c.clock good formed who in
     formed-parts script (after script s e)
-    (clocks-formed script s c.mover c.clock formed who)
-    (starts-formed script s movers c.starts good formed (starts script s e good may) (mover-formed script s c.mover c.clock good formed who))
+    (clocks-formed script s c.mover c.partner c.clock formed who)
+    (starts-formed script s movers c.starts good formed (starts script s e good may) (partner-formed script s c.mover c.partner c.clock good formed who moved_once))
     (omega arith)
     (timers-formed script s c.mover c.timer formed (sets script s e good may))
+    (channels-formed script s c.mover c.channel formed (trades-May script s e good may))
 
 pub formed-finish : (script : Script) (s : State) (outcome : Outcome) → IsFormed script s → IsFormed script (after script s (Entry.Finish outcome))
 formed-finish script s outcome formed =
     let few : length s.goroutines ≤ s.entries + 1 = formed.few in
     formed-parts script (after script s (Entry.Finish outcome)) (clocks-of script s formed) (goroutines-of script s formed) (omega arith) (timers-of script s formed)
+    (channels-of script s formed)
 
 -- ---- legal entries, and histories of them
 

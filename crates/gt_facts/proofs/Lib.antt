@@ -1,5 +1,6 @@
 pub mod Histories
 pub mod Lookups
+pub mod Partners
 pub mod Makers
 pub mod Quiet
 pub mod Still

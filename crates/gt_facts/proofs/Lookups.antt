@@ -1,6 +1,6 @@
 -- What holds of each item of a list holds of one; a goroutine where it stands, and what it names there, and one that sleeps.
-use Rattle.std.proofs.Common.{◌≡◌, ℕ, zero, suc, List, [], ◌∷◌, refl, ap, slice_get, None, Some, option_map, Bool, true, false, eqb-true, ◌||◌, IsSomeAnd, ◌∙◌, Option}
-use Rattle.std.specs.List.{list_any, list_all}
+use Rattle.std.proofs.Common.{◌≡◌, ℕ, zero, suc, ◌+◌, ◌-◌, arith, subst, List, [], ◌∷◌, refl, ap, slice_get, None, Some, option_map, Bool, true, false, eqb-true, ◌||◌, IsSomeAnd, ◌∙◌, Option}
+use Rattle.std.specs.List.{list_any, list_all, enumerate_from}
 use Rattle.std.proofs.lemmas.Bool.{and_parts}
 use Rattle.gt_model.specs.declared.script.Script.{Script}
 use Rattle.gt_model.specs.declared.script.Instr.{Instr}
@@ -13,9 +13,10 @@ use Rattle.gt_model.specs.declared.script.Func.{Func}
 use Rattle.gt_model.specs.declared.script.Place.{Place}
 use Rattle.gt_model.specs.Good.{IsGood, IsGoodCode, NamesRightly}
 use Rattle.gt_model.proofs.GoodCode.{all_at}
-use Rattle.gt_rules.specs.Counted.{receives}
+use Rattle.gt_model.specs.declared.script.CaseKind.{CaseKind}
+use Rattle.gt_rules.specs.Operations.{operation, receives_from, sends_to, offers}
 use Rattle.gt_model.specs.declared.entry.Party.{Party}
-use Rattle.gt_rules.specs.Legal.{Does, operation, operation_at}
+use Rattle.gt_rules.specs.Legal.{Does, Operates, operation_at}
 
 pub all-item : {X : Type 0} (p : X → Bool) (xs : List X) (i : ℕ) (x : X) → slice_get xs i ≡ Some x → list_all p xs ≡ true → p x ≡ true
 all-item p [] i x e h = cc
@@ -35,6 +36,64 @@ any-item p (y ∷ xs) (suc i) x e h =
 pub any-numbered : {X : Type 0} (p : X → Bool) (xs : List X) (g : ℕ) (x : X) → numbered xs g ≡ Some x → p x ≡ true → list_any p xs ≡ true
 any-numbered p xs zero x e h = cc
 any-numbered p xs (suc i) x e h = any-item p xs i x e h
+
+-- what a list has at a place, its numbered list has there beside its number
+pub enumerated_at : {X : Type 0} (n : ℕ) (xs : List X) (i : ℕ) (x : X) → slice_get xs i ≡ Some x → slice_get (enumerate_from n xs) i ≡ Some (n + i, x)
+enumerated_at n [] i x e = cc
+enumerated_at n (y ∷ xs) zero x e =
+    let same : y ≡ x = cc in
+    let here : n ≡ n + 0 = omega arith in
+    rw (same, ← here) refl
+enumerated_at n (y ∷ xs) (suc i) x e =
+    let here : (n + 1) + i ≡ n + suc i = omega arith in
+    rw (← here) (enumerated_at (n + 1) xs i x e)
+
+-- the same by numbers, from 1
+enumerated_numbered : {X : Type 0} (xs : List X) (g : ℕ) (x : X) → numbered xs g ≡ Some x → slice_get (enumerate_from 1 xs) (g - 1) ≡ Some (g, x)
+enumerated_numbered xs zero x e = cc
+enumerated_numbered xs (suc i) x e =
+    let place : suc i - 1 ≡ i = omega arith in
+    let number : 1 + i ≡ suc i = omega arith in
+    rw place (subst (λ (m : ℕ). slice_get (enumerate_from 1 xs) i ≡ Some (m, x)) number (enumerated_at 1 xs i x e))
+
+pub any-enumerated : {X : Type 0} (p : ℕ × X → Bool) (xs : List X) (g : ℕ) (x : X) → numbered xs g ≡ Some x → p (g, x) ≡ true → list_any p (enumerate_from 1 xs) ≡ true
+any-enumerated p xs g x e h = any-item p (enumerate_from 1 xs) (g - 1) (g, x) (enumerated_numbered xs g x e) h
+
+pub all-enumerated : {X : Type 0} (p : ℕ × X → Bool) (xs : List X) (g : ℕ) (x : X) → numbered xs g ≡ Some x → list_all p (enumerate_from 1 xs) ≡ true → p (g, x) ≡ true
+all-enumerated p xs g x e h = all-item p (enumerate_from 1 xs) (g - 1) (g, x) (enumerated_numbered xs g x e) h
+
+-- an item that passes a test with its number, where the first one has the number n
+record Passes {X : Type 0} (p : ℕ × X → Bool) (n : ℕ) (xs : List X) : Type 0 where
+  pub place : ℕ
+  pub item : X
+  pub there : slice_get xs place ≡ Some item
+  pub passes : p (n + place, item) ≡ true
+
+passes : {X : Type 0} (p : ℕ × X → Bool) (n : ℕ) (xs : List X) → list_any p (enumerate_from n xs) ≡ true → Passes p n xs
+passes p n [] h = cc
+passes {X} p n (x ∷ xs) h =
+    elim (p (n, x)) as (λ b. p (n, x) ≡ b → (b || list_any p (enumerate_from (n + 1) xs)) ≡ true → Passes p n (x ∷ xs)) [
+      | true ↦ λ e k.
+          let here : n ≡ n + 0 = omega arith in
+          record { place = 0; item = x; there = refl; passes = subst (λ (m : ℕ). p (m, x) ≡ true) here e }
+      | false ↦ λ e k.
+          let rest : Passes p (n + 1) xs = passes p (n + 1) xs k in
+          let here : (n + 1) + rest.place ≡ n + suc rest.place = omega arith in
+          record { place = suc rest.place; item = rest.item; there = rest.there; passes = subst (λ (m : ℕ). p (m, rest.item) ≡ true) here rest.passes }
+    ] refl h
+
+-- an item that passes a test with its number, from 1
+pub record Found {X : Type 0} (p : ℕ × X → Bool) (xs : List X) : Type 0 where
+  pub number : ℕ
+  pub item : X
+  pub there : numbered xs number ≡ Some item
+  pub passes : p (number, item) ≡ true
+
+pub found : {X : Type 0} (p : ℕ × X → Bool) (xs : List X) → list_any p (enumerate_from 1 xs) ≡ true → Found p xs
+found p xs h =
+    let one : Passes p 1 xs = passes p 1 xs h in
+    let here : 1 + one.place ≡ suc one.place = omega arith in
+    record { number = suc one.place; item = one.item; there = one.there; passes = subst (λ (m : ℕ). p (m, one.item) ≡ true) here one.passes }
 
 -- a goroutine that stands at an instruction
 pub record Standing (script : Script) (s : State) (g : ℕ) (i : Instr) : Type 0 where
@@ -81,9 +140,20 @@ names-Does script s g i good does =
     names-instr_at script stands.who.place i good stands.on
 
 -- what stands at a receive of t is that receive
-pub receives-recv : (i : Instr) (t : ℕ) → receives t i ≡ true → i ≡ Instr.Recv t
+pub receives-recv : (i : Instr) (t : ℕ) → offers (receives_from t) i ≡ true → i ≡ Instr.Recv t
 receives-recv (Instr.Recv o) t h = ap Instr.Recv (eqb-true o t h)
+receives-recv (Instr.Send c v) t h = cc
 receives-recv _ t h = cc
+
+-- what stands at a send to c is the send of some value
+pub record SendsTo (i : Instr) (c : ℕ) : Type 0 where
+  pub value : ℕ
+  pub is : i ≡ Instr.Send c value
+
+pub sends-send : (i : Instr) (c : ℕ) → offers (sends_to c) i ≡ true → SendsTo i c
+sends-send (Instr.Send d v) c h = record { value = v; is = ap (λ x. Instr.Send x v) (eqb-true d c h) }
+sends-send (Instr.Recv o) c h = cc
+sends-send _ c h = cc
 
 -- a goroutine that sleeps
 pub record Asleep (s : State) (g : ℕ) : Type 0 where
@@ -106,31 +176,66 @@ sleeper s g P h =
     ] refl h
 
 -- a party that stands at an operation: its instruction has it under the party's case number
-pub record AtOperation (script : Script) (s : State) (p : Party) (o : ℕ) : Type 0 where
+pub record AtOperation (script : Script) (s : State) (p : Party) (kind : CaseKind) : Type 0 where
   pub instr : Instr
   pub stands : stands_at script s p.g ≡ Some instr
-  pub has : operation instr p.case_no ≡ Some o
+  pub has : operation instr p.case_no ≡ Some kind
 
-pub at_operation : (script : Script) (s : State) (p : Party) (o : ℕ) → operation_at script s p ≡ Some o → AtOperation script s p o
-at_operation script s p o e =
+pub at_operation : (script : Script) (s : State) (p : Party) (kind : CaseKind) → operation_at script s p ≡ Some kind → AtOperation script s p kind
+at_operation script s p kind e =
     elim (stands_at script s p.g)
-    as (λ q. stands_at script s p.g ≡ q → (elim q as (λ q. Option ℕ) [ None ↦ None | Some i ↦ operation i p.case_no ]) ≡ Some o → AtOperation script s p o) [
+    as (λ q. stands_at script s p.g ≡ q → (elim q as (λ q. Option CaseKind) [ None ↦ None | Some i ↦ operation i p.case_no ]) ≡ Some kind → AtOperation script s p kind) [
       | None ↦ λ is h. cc
       | Some i ↦ λ is h. record { instr = i; stands = is; has = h }
     ] refl e
 
--- it is a receive, and a plain one
-pub is_recv : (i : Instr) (case_no o : ℕ) → operation i case_no ≡ Some o → i ≡ Instr.Recv o
+-- it is a receive or a send, and a plain one
+pub is_recv : (i : Instr) (n o : ℕ) → operation i n ≡ Some (CaseKind.Recv o) → i ≡ Instr.Recv o
 is_recv (Instr.Recv t) zero o e = let is : t ≡ o = cc in ap Instr.Recv is
 is_recv (Instr.Recv t) (suc k) o e = cc
-is_recv _ case_no o e = cc
+is_recv (Instr.Send c v) zero o e = cc
+is_recv (Instr.Send c v) (suc k) o e = cc
+is_recv _ n o e = cc
 
-pub is_plain : (i : Instr) (case_no o : ℕ) → operation i case_no ≡ Some o → case_no ≡ 0
-is_plain (Instr.Recv t) zero o e = refl
-is_plain (Instr.Recv t) (suc k) o e = cc
-is_plain _ case_no o e = cc
+pub is_send : (i : Instr) (n c v : ℕ) → operation i n ≡ Some (CaseKind.Send c v) → i ≡ Instr.Send c v
+is_send (Instr.Send d w) zero c v e =
+    let same_channel : d ≡ c = cc in
+    let same_value : w ≡ v = cc in
+    rw (same_channel, same_value) refl
+is_send (Instr.Send d w) (suc k) c v e = cc
+is_send (Instr.Recv o) zero c v e = cc
+is_send (Instr.Recv o) (suc k) c v e = cc
+is_send _ n c v e = cc
 
-pub stands_recv : (script : Script) (s : State) (p : Party) (o : ℕ) → operation_at script s p ≡ Some o → stands_at script s p.g ≡ Some (Instr.Recv o)
+pub is_plain : (i : Instr) (n : ℕ) (kind : CaseKind) → operation i n ≡ Some kind → n ≡ 0
+is_plain (Instr.Recv o) zero kind e = refl
+is_plain (Instr.Recv o) (suc k) kind e = cc
+is_plain (Instr.Send c v) zero kind e = refl
+is_plain (Instr.Send c v) (suc k) kind e = cc
+is_plain _ n kind e = cc
+
+pub stands_recv : (script : Script) (s : State) (p : Party) (o : ℕ) → operation_at script s p ≡ Some (CaseKind.Recv o) → stands_at script s p.g ≡ Some (Instr.Recv o)
 stands_recv script s p o e =
-    let at : AtOperation script s p o = at_operation script s p o e in
+    let at : AtOperation script s p (CaseKind.Recv o) = at_operation script s p (CaseKind.Recv o) e in
     at.stands ∙ ap Some (is_recv at.instr p.case_no o at.has)
+
+pub stands_send : (script : Script) (s : State) (p : Party) (c v : ℕ) → operation_at script s p ≡ Some (CaseKind.Send c v) → stands_at script s p.g ≡ Some (Instr.Send c v)
+stands_send script s p c v e =
+    let at : AtOperation script s p (CaseKind.Send c v) = at_operation script s p (CaseKind.Send c v) e in
+    at.stands ∙ ap Some (is_send at.instr p.case_no c v at.has)
+
+-- who operates does its instruction
+pub recv-Does : (script : Script) (s : State) (p : Party) (o : ℕ) → Operates script s p (CaseKind.Recv o) → Does script s p.g (Instr.Recv o)
+recv-Does script s p o h = record { stands = stands_recv script s p o h.stands; calm = h.calm }
+
+pub send-Does : (script : Script) (s : State) (p : Party) (c v : ℕ) → Operates script s p (CaseKind.Send c v) → Does script s p.g (Instr.Send c v)
+send-Does script s p c v h = record { stands = stands_send script s p c v h.stands; calm = h.calm }
+
+-- and who does a receive or a send operates so, as a plain party
+abbrev pub plain : ℕ → Party
+plain g = record { g = g; case_no = 0 }
+
+pub does-Operates : (script : Script) (s : State) (g : ℕ) (i : Instr) (kind : CaseKind) → operation i 0 ≡ Some kind → Does script s g i → Operates script s (plain g) kind
+does-Operates script s g i kind has does =
+    let there : operation_at script s (plain g) ≡ operation i 0 = ap (λ (o : Option Instr). elim o as (λ o. Option CaseKind) [ None ↦ None | Some i ↦ operation i 0 ]) does.stands in
+    record { stands = there ∙ has; calm = does.calm }

@@ -1,6 +1,7 @@
 -- Who makes an entry that may come next, and what the entry changes: of what is shown here alone each kind of entry, and of instruction, has a clause.
-use Rattle.std.proofs.Common.{◌≡◌, ℕ, zero, suc, ◌<◌, ◌≤◌, List, [], ◌∷◌, length, refl, sym, ap, subst, ◌∙◌, arith, Option, None, Some, Bool, true, false, is_some, is_none, IsTrue, IfSome, IsSomeAnd}
-use Rattle.std.proofs.lemmas.Bool.{leb-true}
+use Rattle.std.proofs.Common.{◌≡◌, ℕ, zero, suc, ◌<◌, ◌≤◌, List, [], ◌∷◌, length, refl, sym, ap, subst, ◌∙◌, arith, Option, None, Some, Bool, true, false, not, ◌&&◌, ◌||◌, ◌==◌, ◌≢◌, nat_lt, slice_get, is_some, is_none, IsTrue, IfSome, IsSomeAnd}
+use Rattle.std.proofs.lemmas.Bool.{and_parts, eqb-true, leb-true, lt-ltb, ltb-true, or_left, or_right}
+use Rattle.std.proofs.lemmas.Option.{slice_get_within}
 use Rattle.gt_model.specs.declared.script.Script.{Script}
 use Rattle.gt_model.specs.declared.script.Instr.{Instr}
 use Rattle.gt_model.specs.declared.entry.Entry.{Entry}
@@ -8,19 +9,24 @@ use Rattle.gt_model.specs.declared.entry.Party.{Party}
 use Rattle.gt_model.specs.declared.entry.Reason.{Reason}
 use Rattle.gt_model.specs.declared.state.Timer.{Timer}
 use Rattle.gt_model.specs.Times.{greatest_time}
-use Rattle.gt_model.specs.Script.{is_func}
+use Rattle.gt_model.specs.declared.script.CaseKind.{CaseKind}
+use Rattle.gt_model.specs.declared.script.What.{What}
+use Rattle.gt_model.specs.Script.{what_at, names_timer, names_chan, is_func, is_timer, is_chan, capacity_of}
 use Rattle.gt_model.specs.Good.{IsGood, is_finish, is_setting}
 use Rattle.gt_model.proofs.Declared.{timer_setting, func_setting}
-use Rattle.gt_rules.specs.State.{State, goroutine_at, stands, clock, clock_of, sleeps_until, next_number, timer_at, due_of}
-use Rattle.gt_rules.specs.Panics.{panic_at, panic_of, fault, fault_at, when}
-use Rattle.gt_rules.specs.Ready.{is_due, is_ready_instr}
+use Rattle.gt_rules.specs.State.{State, Channel, goroutine_at, stands, clock, clock_of, sleeps_until, next_number, timer_at, due_of, channel_at, items_of, item_count, is_closed, is_open}
+use Rattle.gt_rules.specs.Panics.{panic_at, panic_of, fault, fault_at, when, or_else, open_fault}
+use Rattle.gt_rules.specs.Ready.{is_due, is_ready_instr, is_ready_alone, is_ready_recv, has_partner, partner_waits, has_come, everyone}
+use Rattle.gt_rules.specs.Operations.{receives_from, sends_to}
 use Rattle.gt_rules.specs.declared.change.Move.{Move}
+use Rattle.gt_rules.specs.declared.change.Trade.{Trade}
 use Rattle.gt_rules.specs.declared.change.Setting.{Setting}
 use Rattle.gt_rules.specs.declared.change.Start.{Start}
-use Rattle.gt_rules.specs.Change.{change_of, sleeps}
-use Rattle.gt_rules.specs.Legal.{May, Does, Receives, operation, operation_at, due_at, sleep_end, was_set}
+use Rattle.gt_rules.specs.Change.{change_of, sleeps, takes, goes_on}
+use Rattle.gt_rules.specs.Legal.{May, Does, Operates, Gives, due_at, sleep_end, was_set}
 use Rattle.gt_rules.specs.Finish.{IsIdle}
-use Rattle.gt_facts.proofs.Lookups.{names-Does}
+use Rattle.gt_facts.proofs.Lookups.{names-Does, send-Does, plain, does-Operates, receives-recv, SendsTo, sends-send}
+use Rattle.gt_facts.proofs.Partners.{Partner, partner}
 
 -- ---- times
 
@@ -38,38 +44,70 @@ abbrev pub Leaves : Instr → Move → Type 0
 Leaves i (Move.GoesOn case_no) = is_finish i ≡ false
 Leaves i (Move.FallsAsleep until) = (is_finish i ≡ false) × (until ≤ greatest_time)
 Leaves i Move.Ends = Unit {0}
+Leaves i Move.Panics = Unit {0}
 
--- who makes an entry with this mover and this move of a clock
-pub data Maker (script : Script) (s : State) : Option (ℕ × Move) → Option (ℕ × ℕ) → Type 0 where
+-- who makes an entry with this mover, this partner and this move of a clock
+pub data Maker (script : Script) (s : State) : Option (ℕ × Move) → Option (ℕ × Move) → Option (ℕ × ℕ) → Type 0 where
   -- a goroutine at an instruction that is ready wherever it is no misuse
-  calls : (g : ℕ) (i : Instr) (m : Move) → Does script s g i → ((w : ℕ) → is_ready_instr script s w i ≡ true) → Leaves i m → Maker script s (Some (g, m)) None
-  -- a goroutine at the receive of a value that has come
-  receives : (p : Party) (t due : ℕ) → Receives script s p t → due_of s t ≡ Some due → due ≤ clock_of s p.g → Maker script s (Some (p.g, Move.GoesOn p.case_no)) None
+  calls : (g : ℕ) (i : Instr) (m : Move) → Does script s g i → ((timed counts : ℕ → Bool) (me : ℕ) → is_ready_instr script s timed counts me i ≡ true) → Leaves i m
+      → Maker script s (Some (g, m)) None None
+  -- a goroutine at the receive of a timer's value that has come
+  receives : (p : Party) (t due : ℕ) → Operates script s p (CaseKind.Recv t) → IsTrue (is_timer script t) → due_of s t ≡ Some due → due ≤ clock_of s p.g
+      → Maker script s (Some (goes_on p)) None None
+  -- a goroutine at an operation of a channel that is ready by itself, and two at the two operations of a channel that keeps no values: a good script declares it as one
+  trades : (p : Party) (kind : CaseKind) → Operates script s p kind → ((timed : ℕ → Bool) → is_ready_alone script s timed kind ≡ true) → Maker script s (Some (goes_on p)) None None
+  pairs : (from to : Party) (c v : ℕ) → Operates script s from (CaseKind.Send c v) → Operates script s to (CaseKind.Recv c) → (IsGood script → IsTrue (is_chan script c)) → capacity_of script c ≡ 0
+      → from.g ≢ to.g → Maker script s (Some (goes_on from)) (Some (goes_on to)) None
   -- a sleeper whose time has come, and an AfterFunc timer
-  wakes : (g : ℕ) → IsSomeAnd (sleeps_until s g) (λ until. until ≤ clock_of s g) → Maker script s (Some (g, Move.GoesOn 0)) None
-  fires : (t : ℕ) → IsTrue (is_func script t) → IsSomeAnd (timer_at s t) (λ (r : Timer). IsTrue (is_due r.due (clock s r.world))) → Maker script s None None
+  wakes : (g : ℕ) → IsSomeAnd (sleeps_until s g) (λ until. until ≤ clock_of s g) → Maker script s (Some (g, Move.GoesOn 0)) None None
+  fires : (t : ℕ) → IsTrue (is_func script t) → IsSomeAnd (timer_at s t) (λ (r : Timer). IsTrue (is_due r.due (clock s r.world))) → Maker script s None None None
   -- the program's clock, and a misuse
-  ticks : (to : ℕ) → clock s 0 < to → to ≤ greatest_time → Maker script s None (Some (0, to))
-  panics : (p : Party) (reason : Reason) → panic_at script s p.g ≡ Some (p.case_no, reason) → Maker script s None None
+  ticks : (to : ℕ) → clock s 0 < to → to ≤ greatest_time → Maker script s None None (Some (0, to))
+  panics : (p : Party) (reason : Reason) → panic_at script s p.g ≡ Some (p.case_no, reason) → Maker script s (Some (p.g, Move.Panics)) None None
 
 asleep-leaves : (d : ℕ) (until : Option ℕ) → IfSome until (λ u. u ≤ greatest_time) → Leaves (Instr.Sleep d) (sleeps until)
 asleep-leaves d None time = refl
 asleep-leaves d (Some until) time = (refl, time)
 
-pub maker : (script : Script) (s : State) (e : Entry) → May script s e → Maker script s (change_of e).mover (change_of e).clock
-maker script s (Entry.Say g n) may = calls g (Instr.Say n) (Move.GoesOn 0) may (λ w. refl) refl
-maker script s (Entry.Now g at) may = calls g Instr.Now (Move.GoesOn 0) may.0 (λ w. refl) refl
-maker script s (Entry.Go g child f) may = calls g (Instr.Go f) (Move.GoesOn 0) may.0 (λ w. refl) refl
-maker script s (Entry.End g) may = calls g Instr.Finish Move.Ends may (λ w. refl) tt
+-- a channel gives a value where it keeps some, and none where it is closed
+gives-some : (s : State) (c : ℕ) (v : Option ℕ) → Gives s c v → (nat_lt 0 (item_count s c) || is_closed s c) ≡ true
+gives-some s c None gives = or_right (nat_lt 0 (item_count s c)) (is_closed s c) gives.1
+gives-some s c (Some v) gives = or_left (nat_lt 0 (item_count s c)) (is_closed s c) (lt-ltb 0 (item_count s c) (slice_get_within (items_of s c) 0 v gives))
+
+chan-ready : (s : State) (c : ℕ) (v : Option ℕ) (what : What) → IsTrue (names_chan (Some what)) → Gives s c v → (timed : ℕ → Bool) → is_ready_recv s timed c (Some what) ≡ true
+chan-ready s c v (What.Chan cap) h gives timed = gives-some s c v gives
+chan-ready s c v What.Timer h gives timed = cc
+chan-ready s c v (What.AfterFunc func) h gives timed = cc
+chan-ready s c v What.Function h gives timed = cc
+
+-- what is received from a channel makes the receive ready by itself
+pub gives-ready : (script : Script) (s : State) (c : ℕ) (v : Option ℕ) → IsTrue (is_chan script c) → Gives s c v → (timed : ℕ → Bool) → is_ready_alone script s timed (CaseKind.Recv c) ≡ true
+gives-ready script s c v chan gives timed =
+    elim (what_at script c) as (λ o. IsTrue (names_chan o) → is_ready_recv s timed c o ≡ true) [
+      | None ↦ λ h. cc
+      | Some what ↦ λ h. chan-ready s c v what h gives timed
+    ] chan
+
+pub maker : (script : Script) (s : State) (e : Entry) → May script s e → Maker script s (change_of e).mover (change_of e).partner (change_of e).clock
+maker script s (Entry.Say g n) may = calls g (Instr.Say n) (Move.GoesOn 0) may (λ timed counts me. refl) refl
+maker script s (Entry.Now g at) may = calls g Instr.Now (Move.GoesOn 0) may.0 (λ timed counts me. refl) refl
+maker script s (Entry.Go g child f) may = calls g (Instr.Go f) (Move.GoesOn 0) may.0 (λ timed counts me. refl) refl
+maker script s (Entry.End g) may = calls g Instr.Finish Move.Ends may (λ timed counts me. refl) tt
 maker script s (Entry.Sleep g until) may =
     let time : IfSome until (λ u. u ≤ greatest_time) = subst (λ (o : Option ℕ). IfSome o (λ u. u ≤ greatest_time)) (sym may.2) (sleep_end-time (clock_of s g) may.0) in
-    calls g (Instr.Sleep may.0) (sleeps until) may.1 (λ w. refl) (asleep-leaves may.0 until time)
+    calls g (Instr.Sleep may.0) (sleeps until) may.1 (λ timed counts me. refl) (asleep-leaves may.0 until time)
 maker script s (Entry.Wake g) may = wakes g may
-maker script s (Entry.New g t due) may = calls g (Instr.New t may.0) (Move.GoesOn 0) may.1 (λ w. refl) refl
-maker script s (Entry.Stop g t was) may = calls g (Instr.Stop t) (Move.GoesOn 0) may.0 (λ w. refl) refl
-maker script s (Entry.Reset g t was due) may = calls g (Instr.Reset t may.0) (Move.GoesOn 0) may.1 (λ w. refl) refl
-maker script s (Entry.TRecv p t due next) may = receives p t due may.0 may.2 may.3
+maker script s (Entry.New g t due) may = calls g (Instr.New t may.0) (Move.GoesOn 0) may.1 (λ timed counts me. refl) refl
+maker script s (Entry.Stop g t was) may = calls g (Instr.Stop t) (Move.GoesOn 0) may.0 (λ timed counts me. refl) refl
+maker script s (Entry.Reset g t was due) may = calls g (Instr.Reset t may.0) (Move.GoesOn 0) may.1 (λ timed counts me. refl) refl
+maker script s (Entry.TRecv p t due next) may = receives p t due may.0 may.1 may.2 may.3
 maker script s (Entry.FireFunc t child) may = fires t may.0 may.1
+maker script s (Entry.Make g c) may = calls g (Instr.Make c) (Move.GoesOn 0) may (λ timed counts me. refl) refl
+maker script s (Entry.Send p c v) may = trades p (CaseKind.Send c v) may.0 (λ timed. or_right (is_closed s c) _ (lt-ltb (item_count s c) (capacity_of script c) may.2))
+maker script s (Entry.Recv p c v) may = trades p (CaseKind.Recv c) may.0 (gives-ready script s c v may.1 may.2)
+maker script s (Entry.Pair from to c v) may =
+    pairs from to c v may.0 may.1 (λ good. names-Does script s from.g (Instr.Send c v) good (send-Does script s from c v may.0)) may.3 may.4
+maker script s (Entry.Close g c) may = calls g (Instr.Close c) (Move.GoesOn 0) may (λ timed counts me. refl) refl
 maker script s (Entry.Clock zero to) may = ticks to may.0 may.1
 maker script s (Entry.Clock (suc world) to) may = absurd may
 maker script s (Entry.Panic p reason) may = panics p reason may
@@ -152,6 +190,72 @@ sets script s (Entry.TRecv p t due next) good may = record {
 sets script s (Entry.FireFunc t child) good may = record { named = func_setting script t may.0; made = some-made (timer_at s t) _ may.1; time = tt }
 sets script s _ good may = tt
 
+-- ---- the channel that an entry changes
+
+-- what may become of a channel: it is made once, keeps a value more where it is open and has room, gives one that it keeps, and is closed where it is open
+abbrev pub HasTrade : Script → State → ℕ → Trade → Type 0
+HasTrade script s c Trade.Opened = is_some (channel_at s c) ≡ false
+HasTrade script s c (Trade.Puts v) = (is_some (channel_at s c) ≡ true) × (is_closed s c ≡ false) × (item_count s c < capacity_of script c)
+HasTrade script s c Trade.Takes = (is_some (channel_at s c) ≡ true) × (0 < item_count s c)
+HasTrade script s c Trade.Shut = (is_some (channel_at s c) ≡ true) × (is_closed s c ≡ false)
+
+pub record Trades (script : Script) (s : State) (c : ℕ) (x : Trade) : Type 0 where
+  pub named : IsTrue (is_chan script c)
+  pub has : HasTrade script s c x
+
+-- a channel that was made and not closed
+pub record IsOpened (s : State) (c : ℕ) : Type 0 where
+  pub made : is_some (channel_at s c) ≡ true
+  pub unshut : is_closed s c ≡ false
+  pub is : is_open s c ≡ true
+
+not_closed : (b : Bool) → not b ≡ true → b ≡ false
+not_closed true h = cc
+not_closed false h = refl
+
+open-made : (o : Option Channel) → (elim o as (λ o. Bool) [ None ↦ false | Some r ↦ not r.closed ]) ≡ true
+    → (is_some o ≡ true) × ((elim o as (λ o. Bool) [ None ↦ false | Some r ↦ r.closed ]) ≡ false)
+open-made None h = cc
+open-made (Some r) h = (refl, not_closed r.closed h)
+
+pub is_open-IsOpened : (s : State) (c : ℕ) → is_open s c ≡ true → IsOpened s c
+is_open-IsOpened s c h =
+    let both = open-made (channel_at s c) h in
+    record { made = both.0; unshut = both.1; is = h }
+
+no-open_fault : (o : Option Channel) → or_else (when (is_none o) Reason.Unmade) (when (elim o as (λ o. Bool) [ None ↦ false | Some r ↦ r.closed ]) Reason.Closed) ≡ None
+    → (elim o as (λ o. Bool) [ None ↦ false | Some r ↦ not r.closed ]) ≡ true
+no-open_fault None h = cc
+no-open_fault (Some r) h = ap not (none-when r.closed Reason.Closed h)
+
+-- who uses a channel that it may use
+pub opened : (script : Script) (s : State) (g c : ℕ) (i : Instr) → fault script s i ≡ open_fault s c → Does script s g i → IsOpened s c
+opened script s g c i asks does = is_open-IsOpened s c (no-open_fault (channel_at s c) (sym asks ∙ calm-fault script s g i does))
+
+item-made : (o : Option Channel) → 0 < length (elim o as (λ o. List ℕ) [ None ↦ [] | Some r ↦ r.items ]) → is_some o ≡ true
+item-made None h = absurd (omega arith)
+item-made (Some r) h = refl
+
+takes-May : (script : Script) (s : State) (c : ℕ) (v : Option ℕ) → IsTrue (is_chan script c) → Gives s c v → IfSome (takes c v) (λ (x : ℕ × Trade). Trades script s x.0 x.1)
+takes-May script s c None chan gives = tt
+takes-May script s c (Some v) chan gives =
+    let some : 0 < item_count s c = slice_get_within (items_of s c) 0 v gives in
+    record { named = chan; has = (item-made (channel_at s c) some, some) }
+
+pub trades-May : (script : Script) (s : State) (e : Entry) → IsGood script → May script s e → IfSome (change_of e).channel (λ (x : ℕ × Trade). Trades script s x.0 x.1)
+trades-May script s (Entry.Make g c) good may = record {
+  named = names-Does script s g (Instr.Make c) good may;
+  has = none-when (is_some (channel_at s c)) Reason.Twice (calm-fault script s g (Instr.Make c) may);
+}
+trades-May script s (Entry.Send p c v) good may =
+    let is : IsOpened s c = is_open-IsOpened s c may.1 in
+    record { named = names-Does script s p.g (Instr.Send c v) good (send-Does script s p c v may.0); has = (is.made, is.unshut, may.2) }
+trades-May script s (Entry.Recv p c v) good may = takes-May script s c v may.1 may.2
+trades-May script s (Entry.Close g c) good may =
+    let is : IsOpened s c = opened script s g c (Instr.Close c) refl may in
+    record { named = names-Does script s g (Instr.Close c) good may; has = (is.made, is.unshut) }
+trades-May script s _ good may = tt
+
 -- ---- who are started
 
 -- who starts a goroutine names a function
@@ -175,9 +279,85 @@ starts-few _ = omega arith
 
 -- ---- the entry of who stands at an instruction
 
+either-not : (a b : Bool) → (a || b) ≡ true → (a ≡ true → ⊥) → (b ≡ true → ⊥) → ⊥
+either-not true b h left right = left refl
+either-not false b h left right = right h
+
+-- the receive of a timer's value that has come
+timer-not : (script : Script) (s : State) (g w t : ℕ) → IsIdle script s → clock_of s g ≡ clock s w → Does script s g (Instr.Recv t) → IsTrue (is_timer script t)
+    → is_due (due_of s t) (clock s w) ≡ true → ⊥
+timer-not script s g w t idle now does timer ready =
+    elim (due_of s t) as (λ o. due_of s t ≡ o → is_due o (clock s w) ≡ true → ⊥) [
+      | None ↦ λ is come. cc
+      | Some due ↦ λ is come.
+          let here : due ≤ clock_of s g = subst (λ now. due ≤ now) (sym now) (leb-true due (clock s w) come) in
+          idle (Entry.TRecv (plain g) t due None) (does-Operates script s g (Instr.Recv t) (CaseKind.Recv t) refl does, timer, is, here, refl)
+    ] refl ready
+
+-- the receive from a channel that keeps values, or is closed
+keeps-not : (script : Script) (s : State) (g c : ℕ) (items : List ℕ) → IsIdle script s → Does script s g (Instr.Recv c) → IsTrue (is_chan script c) → items_of s c ≡ items
+    → (nat_lt 0 (length items) || is_closed s c) ≡ true → ⊥
+keeps-not script s g c [] idle does chan is ready =
+    idle (Entry.Recv (plain g) c None) (does-Operates script s g (Instr.Recv c) (CaseKind.Recv c) refl does, chan, (is, ready))
+keeps-not script s g c (v ∷ rest) idle does chan is ready =
+    idle (Entry.Recv (plain g) c (Some v)) (does-Operates script s g (Instr.Recv c) (CaseKind.Recv c) refl does, chan, ap (λ (items : List ℕ). slice_get items 0) is)
+
+gives-not : (script : Script) (s : State) (g w o : ℕ) (what : What) → IsIdle script s → clock_of s g ≡ clock s w → Does script s g (Instr.Recv o) → what_at script o ≡ Some what
+    → is_ready_recv s (has_come s w) o (Some what) ≡ true → ⊥
+gives-not script s g w o What.Timer idle now does is ready = timer-not script s g w o idle now does (ap names_timer is) ready
+gives-not script s g w o (What.AfterFunc func) idle now does is ready = cc
+gives-not script s g w o (What.Chan cap) idle now does is ready = keeps-not script s g o (items_of s o) idle does (ap names_chan is) refl ready
+gives-not script s g w o What.Function idle now does is ready = cc
+
+recv-not : (script : Script) (s : State) (g w o : ℕ) → IsIdle script s → clock_of s g ≡ clock s w → Does script s g (Instr.Recv o)
+    → is_ready_alone script s (has_come s w) (CaseKind.Recv o) ≡ true → ⊥
+recv-not script s g w o idle now does ready =
+    elim (what_at script o) as (λ q. what_at script o ≡ q → is_ready_recv s (has_come s w) o q ≡ true → ⊥) [
+      | None ↦ λ is h. cc
+      | Some what ↦ λ is h. gives-not script s g w o what idle now does is h
+    ] refl ready
+
+send-not : (script : Script) (s : State) (g c v : ℕ) → IsIdle script s → Does script s g (Instr.Send c v) → (is_closed s c || nat_lt (item_count s c) (capacity_of script c)) ≡ true → ⊥
+send-not script s g c v idle does ready =
+    let is : IsOpened s c = opened script s g c (Instr.Send c v) refl does in
+    let unshut : is_closed s c ≡ false = is.unshut in
+    either-not (is_closed s c) (nat_lt (item_count s c) (capacity_of script c)) ready (λ shut. cc)
+    (λ room.
+    idle (Entry.Send (plain g) c v)
+    (does-Operates script s g (Instr.Send c v) (CaseKind.Send c v) refl does, is.is, ltb-true (item_count s c) (capacity_of script c) room))
+
+-- a sender and a receiver at a channel that keeps no values
+pair-not : (script : Script) (s : State) (from to c v : ℕ) → IsIdle script s → Does script s from (Instr.Send c v) → Does script s to (Instr.Recv c) → capacity_of script c ≡ 0
+    → from ≢ to → ⊥
+pair-not script s from to c v idle sends gets none other =
+    idle (Entry.Pair (plain from) (plain to) c v) (
+      does-Operates script s from (Instr.Send c v) (CaseKind.Send c v) refl sends,
+      does-Operates script s to (Instr.Recv c) (CaseKind.Recv c) refl gets,
+      (opened script s from c (Instr.Send c v) refl sends).is,
+      none,
+      other,
+    )
+
+-- who receives from such a channel has a sender there
+recv-partner-not : (script : Script) (s : State) (g o : ℕ) → IsIdle script s → Does script s g (Instr.Recv o) → has_partner script s everyone g (CaseKind.Recv o) ≡ true → ⊥
+recv-partner-not script s g o idle does ready =
+    let waits = and_parts (is_chan script o && capacity_of script o == 0) (partner_waits script s everyone g (sends_to o)) ready in
+    let none = and_parts (is_chan script o) (capacity_of script o == 0) waits.0 in
+    let p : Partner script s everyone g (sends_to o) = partner script s everyone g (sends_to o) waits.1 in
+    let to : SendsTo p.instr o = sends-send p.instr o p.passes in
+    pair-not script s p.number g o to.value idle (subst (Does script s p.number) to.is p.does) does (eqb-true (capacity_of script o) 0 none.1) p.other
+
+-- and who sends to it a receiver
+send-partner-not : (script : Script) (s : State) (g c v : ℕ) → IsIdle script s → Does script s g (Instr.Send c v) → has_partner script s everyone g (CaseKind.Send c v) ≡ true → ⊥
+send-partner-not script s g c v idle does ready =
+    let waits = and_parts (capacity_of script c == 0) (partner_waits script s everyone g (receives_from c)) ready in
+    let p : Partner script s everyone g (receives_from c) = partner script s everyone g (receives_from c) waits.1 in
+    let gets : Does script s p.number (Instr.Recv c) = subst (Does script s p.number) (receives-recv p.instr c p.passes) p.does in
+    pair-not script s g p.number c v idle does gets (eqb-true (capacity_of script c) 0 waits.0) (λ e. p.other (sym e))
+
 -- who stands at an instruction that is ready, and makes no misuse, has an entry: the program is not idle
 pub idle-not : (script : Script) (s : State) (g w : ℕ) (i : Instr) → IsGood script → IsIdle script s → clock_of s g ≡ clock s w → Does script s g i
-    → is_ready_instr script s w i ≡ true → ⊥
+    → is_ready_instr script s (has_come s w) everyone g i ≡ true → ⊥
 idle-not script s g w (Instr.Say n) good idle now does ready = idle (Entry.Say g n) does
 idle-not script s g w Instr.Now good idle now does ready = idle (Entry.Now g (clock_of s g)) (does, refl)
 idle-not script s g w (Instr.Sleep d) good idle now does ready = idle (Entry.Sleep g (sleep_end (clock_of s g) d)) (d, does, refl)
@@ -185,16 +365,14 @@ idle-not script s g w (Instr.Go f) good idle now does ready = idle (Entry.Go g (
 idle-not script s g w (Instr.New t d) good idle now does ready = idle (Entry.New g t (due_at (clock_of s g) d)) (d, does, refl)
 idle-not script s g w (Instr.Stop t) good idle now does ready = idle (Entry.Stop g t (was_set script s t)) (does, refl)
 idle-not script s g w (Instr.Reset t d) good idle now does ready = idle (Entry.Reset g t (was_set script s t) (due_at (clock_of s g) d)) (d, does, refl, refl)
-idle-not script s g w (Instr.Recv t) good idle now does ready =
-    elim (due_of s t) as (λ o. due_of s t ≡ o → is_due o (clock s w) ≡ true → ⊥) [
-      | None ↦ λ is come. cc
-      | Some due ↦ λ is come.
-          let p : Party = record { g = g; case_no = 0 } in
-          let there : operation_at script s p ≡ Some t = ap (λ (o : Option Instr). elim o as (λ o. Option ℕ) [ None ↦ None | Some i ↦ operation i 0 ]) does.stands in
-          let call : Receives script s p t = record { stands = there; calm = does.calm } in
-          let here : due ≤ clock_of s g = subst (λ now. due ≤ now) (sym now) (leb-true due (clock s w) come) in
-          idle (Entry.TRecv p t due None) (call, names-Does script s g (Instr.Recv t) good does, is, here, refl)
-    ] refl ready
+idle-not script s g w (Instr.Recv o) good idle now does ready =
+    either-not (is_ready_alone script s (has_come s w) (CaseKind.Recv o)) (has_partner script s everyone g (CaseKind.Recv o)) ready
+    (recv-not script s g w o idle now does) (recv-partner-not script s g o idle does)
+idle-not script s g w (Instr.Make c) good idle now does ready = idle (Entry.Make g c) does
+idle-not script s g w (Instr.Send c v) good idle now does ready =
+    either-not (is_ready_alone script s (has_come s w) (CaseKind.Send c v)) (has_partner script s everyone g (CaseKind.Send c v)) ready
+    (send-not script s g c v idle does) (send-partner-not script s g c v idle does)
+idle-not script s g w (Instr.Close c) good idle now does ready = idle (Entry.Close g c) does
 idle-not script s g w Instr.Finish good idle now does ready = idle (Entry.End g) does
 idle-not script s g w (Instr.LoopTop depth count past) good idle now does ready = cc
 idle-not script s g w (Instr.LoopEnd depth top) good idle now does ready = cc

@@ -1,7 +1,9 @@
 -- A legal history can be printed: what its entries name is declared as such.
-use Rattle.std.proofs.Common.{◌≡◌, ℕ, zero, suc, ◌≤◌, List, [], ◌∷◌, arith, Option, Some, IfSome, IsSomeAnd}
+use Rattle.std.proofs.Common.{◌≡◌, ℕ, zero, suc, ◌≤◌, List, [], ◌∷◌, arith, Option, Some, IsTrue, IfSome, IsSomeAnd}
 use Rattle.gt_model.specs.declared.script.Script.{Script}
 use Rattle.gt_model.specs.declared.script.Instr.{Instr}
+use Rattle.gt_model.specs.declared.script.CaseKind.{CaseKind}
+use Rattle.gt_model.specs.Script.{is_chan}
 use Rattle.gt_model.specs.declared.entry.Entry.{Entry}
 use Rattle.gt_model.specs.declared.entry.Limits.{Limits}
 use Rattle.gt_model.specs.declared.entry.Reason.{Reason}
@@ -12,10 +14,11 @@ use Rattle.gt_rules.specs.Panics.{panic_at}
 use Rattle.gt_rules.specs.declared.change.Move.{Move}
 use Rattle.gt_rules.specs.Change.{change_of}
 use Rattle.gt_rules.specs.After.{after}
-use Rattle.gt_rules.specs.Legal.{May, operation_at}
+use Rattle.gt_rules.specs.Legal.{May, Operates, operation_at}
 use Rattle.gt_rules.specs.Finish.{Legal}
 use Rattle.gt_rules.specs.History.{AllLegal}
-use Rattle.gt_facts.proofs.Makers.{Maker, calls, receives, wakes, maker, sets, starts}
+use Rattle.gt_facts.proofs.Makers.{Maker, calls, receives, trades, pairs, wakes, panics, maker, sets, trades-May, starts}
+use Rattle.gt_facts.proofs.Lookups.{send-Does}
 pub use Rattle.gt_facts.proofs.Lookups.{names-instr_at, names-Does}
 
 -- goroutines are numbered from 1: there is none with the number 0
@@ -27,9 +30,9 @@ one-sleeps_until : (s : State) (g : ℕ) (P : ℕ → Type 0) → IsSomeAnd (sle
 one-sleeps_until s zero P h = absurd h
 one-sleeps_until s (suc g) P h = omega arith
 
-one-operation_at : (script : Script) (s : State) (g case_no o : ℕ) → operation_at script s (record { g = g; case_no = case_no }) ≡ Some o → 1 ≤ g
-one-operation_at script s zero case_no o e = cc
-one-operation_at script s (suc g) case_no o e = omega arith
+one-operation_at : (script : Script) (s : State) (g case_no : ℕ) (kind : CaseKind) → operation_at script s (record { g = g; case_no = case_no }) ≡ Some kind → 1 ≤ g
+one-operation_at script s zero case_no kind e = cc
+one-operation_at script s (suc g) case_no kind e = omega arith
 
 one-panic_at : (script : Script) (s : State) (g case_no : ℕ) (reason : Reason) → panic_at script s g ≡ Some (case_no, reason) → 1 ≤ g
 one-panic_at script s zero case_no reason e = cc
@@ -39,19 +42,37 @@ one-next_number : (s : State) (child : ℕ) → child ≡ next_number s → 1 �
 one-next_number s child e = omega arith
 
 -- who makes an entry has a number
-one-Maker : (script : Script) (s : State) (m : Option (ℕ × Move)) (k : Option (ℕ × ℕ)) → Maker script s m k → IfSome m (λ (m : ℕ × Move). 1 ≤ m.0)
-one-Maker script s m k (calls g i n does goes leaves) = one-stands_at script s g i does.stands
-one-Maker script s m k (receives p t due call is come) = one-operation_at script s p.g p.case_no t call.stands
-one-Maker script s m k (wakes g h) = one-sleeps_until s g _ h
-one-Maker script s m k _ = tt
+one-Maker : (script : Script) (s : State) (m p : Option (ℕ × Move)) (k : Option (ℕ × ℕ)) → Maker script s m p k → IfSome m (λ (m : ℕ × Move). 1 ≤ m.0)
+one-Maker script s m q k (calls g i n does goes leaves) = one-stands_at script s g i does.stands
+one-Maker script s m q k (receives p t due call timer is come) = one-operation_at script s p.g p.case_no (CaseKind.Recv t) call.stands
+one-Maker script s m q k (trades p kind call ready) = one-operation_at script s p.g p.case_no kind call.stands
+one-Maker script s m q k (pairs from to c v sends gets chan none other) = one-operation_at script s from.g from.case_no (CaseKind.Send c v) sends.stands
+one-Maker script s m q k (wakes g h) = one-sleeps_until s g _ h
+one-Maker script s m q k (panics p reason h) = one-panic_at script s p.g p.case_no reason h
+one-Maker script s m q k _ = tt
 
--- an entry that may come next can be printed: its goroutines have numbers, and its timer and its function are declared
+-- an entry that may come next can be printed: its goroutines have numbers, and its timer, its channel and its function are declared
 pub named-May : (script : Script) (s : State) (e : Entry) → IsGood script → May script s e → IsNamed script e
 named-May script s (Entry.Go g child f) good may =
-    (tt, (one-Maker script s _ _ (maker script s (Entry.Go g child f) may), (one-next_number s child may.1, ((starts script s (Entry.Go g child f) good may).0, tt))))
+    (tt, (one-Maker script s _ _ _ (maker script s (Entry.Go g child f) may), (one-next_number s child may.1, ((starts script s (Entry.Go g child f) good may).0, tt))))
 named-May script s (Entry.FireFunc t child) good may = (tt, (may.0, (one-next_number s child may.2, tt)))
-named-May script s (Entry.Panic p reason) good may = (tt, (one-panic_at script s p.g p.case_no reason may, (tt, tt)))
-named-May script s e good may = assumption (one-Maker script s (change_of e).mover (change_of e).clock (maker script s e may), sets script s e good may)
+named-May script s (Entry.Recv p c v) good may = (tt, (one-operation_at script s p.g p.case_no (CaseKind.Recv c) may.0.stands, (may.1, (tt, tt))))
+named-May script s (Entry.Pair from to c v) good may =
+    let sends : Operates script s from (CaseKind.Send c v) = may.0 in
+    let gets : Operates script s to (CaseKind.Recv c) = may.1 in
+    let chan : IsTrue (is_chan script c) = names-Does script s from.g (Instr.Send c v) good (send-Does script s from c v sends) in (
+      tt,
+      (
+        one-operation_at script s from.g from.case_no (CaseKind.Send c v) sends.stands,
+        (one-operation_at script s to.g to.case_no (CaseKind.Recv c) gets.stands, (chan, (tt, tt))),
+      ),
+    )
+named-May script s e good may =
+    assumption (
+      one-Maker script s (change_of e).mover (change_of e).partner (change_of e).clock (maker script s e may),
+      sets script s e good may,
+      trades-May script s e good may,
+    )
 
 named-Legal : (script : Script) (limits : Limits) (s : State) (e : Entry) → IsGood script → Legal script limits s e → IsNamed script e
 named-Legal script limits s (Entry.Finish outcome) good legal = (tt, tt)

@@ -2,7 +2,7 @@
 use Rattle.std.proofs.Common.{◌≡◌, ℕ, zero, suc, ◌+◌, ◌<◌, List, [], ◌∷◌, refl, sym, ap, subst, ◌∙◌, arith, slice_get, Option, None, Some, Bool, true, false, not, ◌||◌, eqb, IsTrue, is_some, nat_lt, nat_le, eq-eqb}
 use Rattle.std.specs.List.{list_all, list_any, filter_map, enumerate_from}
 use Rattle.std.specs.Option.{option_map}
-use Rattle.std.proofs.lemmas.Bool.{and_parts, ltb-true, lt-leb}
+use Rattle.std.proofs.lemmas.Bool.{and_parts, ltb-true, lt-leb, or_left, or_right, or_parts, or_from}
 use Rattle.std.proofs.lemmas.List.Folds.{list_all-append}
 use Rattle.gt_model.specs.declared.script.Script.{Script}
 use Rattle.gt_model.specs.declared.script.Instr.{Instr}
@@ -11,20 +11,19 @@ use Rattle.gt_model.specs.declared.state.Timer.{Timer}
 use Rattle.gt_model.specs.declared.state.Mode.{Mode}
 use Rattle.gt_model.specs.Tables.{numbered, at}
 use Rattle.gt_rules.specs.State.{State, goroutine_at, stands, stands_at, until_of, clock, timer_at, due_of}
-use Rattle.gt_model.specs.Script.{instr_at, is_func}
+use Rattle.gt_model.specs.declared.script.CaseKind.{CaseKind}
+use Rattle.gt_model.specs.declared.script.What.{What}
+use Rattle.gt_model.specs.Script.{instr_at, what_at, is_func}
 use Rattle.gt_rules.specs.Panics.{fault}
-use Rattle.gt_rules.specs.Ready.{is_firm, goes_on, is_due, is_ready_in, is_ready_instr}
+use Rattle.gt_rules.specs.Operations.{receives_from, offers}
+use Rattle.gt_rules.specs.Ready.{is_firm, is_firm_in, is_due, is_ready_in, is_ready_at, is_ready_instr, is_ready_recv, has_partner, has_come, everyone, no_timer}
 use Rattle.gt_facts.specs.Still.{IsStill}
-use Rattle.gt_rules.specs.Counted.{sleep_of, receives, awaits, is_awaited, counted_timer}
+use Rattle.gt_rules.specs.Counted.{sleep_of, awaits, is_awaited, counted_timer}
 use Rattle.gt_rules.specs.Finish.{IsIdle}
 use Rattle.gt_facts.specs.Quiet.{IsQuiet, none_due}
-use Rattle.gt_facts.proofs.Lookups.{all-item, any-numbered, Standing, standing}
+use Rattle.gt_facts.proofs.Lookups.{any-numbered, enumerated_at, all-enumerated, Standing, standing}
 use Rattle.gt_model.proofs.Items.{at-is}
-use Rattle.gt_facts.proofs.Still.{or_left, or_right, still-IsIdle, stands_there}
-
-all_numbered : {X : Type 0} (p : X → Bool) (xs : List X) (g : ℕ) (x : X) → numbered xs g ≡ Some x → list_all p xs ≡ true → p x ≡ true
-all_numbered p xs zero x e h = cc
-all_numbered p xs (suc i) x e h = all-item p xs i x e h
+use Rattle.gt_facts.proofs.Still.{still-IsIdle, stands_there}
 
 -- what holds of all that a list gives holds of what one item gives
 given_at : {X : Type 0} (f : X → Option ℕ) (p : ℕ → Bool) (xs : List X) (i : ℕ) (x : X) (t : ℕ)
@@ -45,16 +44,6 @@ given_numbered : (f : Goroutine → Option ℕ) (p : ℕ → Bool) (xs : List Go
     → numbered xs g ≡ Some x → f x ≡ Some t → list_all p (filter_map f xs) ≡ true → p t ≡ true
 given_numbered f p xs zero x t e is h = cc
 given_numbered f p xs (suc i) x t e is h = given_at f p xs i x t e is h
-
-enumerated_at : {X : Type 0} (n : ℕ) (xs : List X) (i : ℕ) (x : X) → slice_get xs i ≡ Some x → slice_get (enumerate_from n xs) i ≡ Some (n + i, x)
-enumerated_at n [] i x e = cc
-enumerated_at n (y ∷ xs) zero x e =
-    let same : y ≡ x = cc in
-    let here : n ≡ n + 0 = omega arith in
-    rw (same, ← here) refl
-enumerated_at n (y ∷ xs) (suc i) x e =
-    let here : (n + 1) + i ≡ n + suc i = omega arith in
-    rw (← here) (enumerated_at (n + 1) xs i x e)
 
 -- the two parts of the test on times
 sleeps_later : (script : Script) (s : State) → none_due script s ≡ true → list_all (nat_lt (clock s 0)) (filter_map (sleep_of 0) s.goroutines) ≡ true
@@ -99,7 +88,7 @@ awaited_there script s g t quiet e =
     let st : Standing script s g (Instr.Recv t) = standing script s g (Instr.Recv t) e in
     let zero_world : st.who.world ≡ 0 = quiet.world.goroutines g st.who st.there in
     let on : stands script st.who ≡ Some (Instr.Recv t) = subst (λ (m : Mode). (elim m [ Mode.At ↦ instr_at script st.who.place | _ ↦ None ]) ≡ Some (Instr.Recv t)) (sym st.at) st.on in
-    let yes : awaits script 0 t st.who ≡ true = rw (eq-eqb st.who.world 0 zero_world) (subst (λ (o : Option Instr). (elim o [ None ↦ false | Some i ↦ receives t i ]) ≡ true) (sym on) (same_number t)) in
+    let yes : awaits script 0 t st.who ≡ true = rw (eq-eqb st.who.world 0 zero_world) (subst (λ (o : Option Instr). (elim o [ None ↦ false | Some i ↦ offers (receives_from t) i ]) ≡ true) (sym on) (same_number t)) in
     any-numbered (awaits script 0 t) s.goroutines g st.who st.there yes
 
 -- what counts is not due
@@ -118,35 +107,47 @@ waits_on script s g t quiet on =
       | Some r ↦ λ e. not_due script s t r quiet e (or_right (is_func script t) _ (awaited_there script s g t quiet on))
     ] refl
 
-ready_instr_not : (script : Script) (s : State) (g : ℕ) (i : Instr) → IsQuiet script s → stands_at script s g ≡ Some i → goes_on i ≡ false → is_ready_instr script s 0 i ≡ false
-ready_instr_not script s g (Instr.Recv t) quiet on stays = waits_on script s g t quiet on
+-- a receive that is ready where no timer counts is ready where some do: they differ in the receive of a timer
+recv_not : (s : State) (timed : ℕ → Bool) (t : ℕ) (o : Option What) → timed t ≡ false → is_ready_recv s no_timer t o ≡ false → is_ready_recv s timed t o ≡ false
+recv_not s timed t None later h = refl
+recv_not s timed t (Some What.Timer) later h = later
+recv_not s timed t (Some (What.AfterFunc func)) later h = refl
+recv_not s timed t (Some (What.Chan cap)) later h = h
+recv_not s timed t (Some What.Function) later h = refl
+
+ready_instr_not : (script : Script) (s : State) (g : ℕ) (i : Instr) → IsQuiet script s → stands_at script s g ≡ Some i → is_ready_instr script s no_timer everyone g i ≡ false
+    → is_ready_instr script s (has_come s 0) everyone g i ≡ false
+ready_instr_not script s g (Instr.Recv t) quiet on stays =
+    let none = or_parts (is_ready_recv s no_timer t (what_at script t)) (has_partner script s everyone g (CaseKind.Recv t)) stays in
+    or_from (is_ready_recv s (has_come s 0) t (what_at script t)) (has_partner script s everyone g (CaseKind.Recv t))
+    (recv_not s (has_come s 0) t (what_at script t) (waits_on script s g t quiet on) none.0) none.1
+ready_instr_not script s g (Instr.Send c v) quiet on stays = stays
+ready_instr_not script s g (Instr.LoopTop depth count past) quiet on stays = refl
+ready_instr_not script s g (Instr.LoopEnd depth top) quiet on stays = refl
 ready_instr_not script s g _ quiet on stays = cc
 
--- who stands at an instruction is not ready: it is no misuse, and it waits for a time that is still to come
+-- who stands at an instruction is not ready: it is no misuse, it has no partner, and it waits for a time that is still to come
 waits : (script : Script) (s : State) (g : ℕ) (r : Goroutine) (i : Instr) → IsQuiet script s → goroutine_at s g ≡ Some r → r.mode ≡ Mode.At → instr_at script r.place ≡ Some i
-    → (is_some (fault script s i) || goes_on i) ≡ false → (is_some (fault script s i) || is_ready_instr script s r.world i) ≡ false
+    → is_ready_at script s no_timer everyone g (Some i) ≡ false → is_ready_at script s (has_come s r.world) everyone g (Some i) ≡ false
 waits script s g r i quiet e at on firm =
-    let zero_world : r.world ≡ 0 = quiet.world.goroutines g r e in
-    elim (is_some (fault script s i)) as (λ b. (b || goes_on i) ≡ false → (b || is_ready_instr script s r.world i) ≡ false) [
-      | true ↦ λ h. cc
-      | false ↦ λ h.
-          subst (λ w. is_ready_instr script s w i ≡ false) (sym zero_world)
-          (ready_instr_not script s g i quiet (stands_there script s g r i e at on) h)
-    ] firm
+    let none = or_parts (is_some (fault script s i)) (is_ready_instr script s no_timer everyone g i) firm in
+    or_from (is_some (fault script s i)) (is_ready_instr script s (has_come s r.world) everyone g i) none.0
+    (subst (λ w. is_ready_instr script s (has_come s w) everyone g i ≡ false) (sym (quiet.world.goroutines g r e))
+    (ready_instr_not script s g i quiet (stands_there script s g r i e at on) none.1))
 
-not_firm : (script : Script) (s : State) (g : ℕ) (r : Goroutine) → IsQuiet script s → goroutine_at s g ≡ Some r → is_firm script s r ≡ false
-not_firm script s g r quiet e = not_true (is_firm script s r) (all_numbered (λ (r : Goroutine). not (is_firm script s r)) s.goroutines g r e quiet.none_firm)
+not_firm : (script : Script) (s : State) (g : ℕ) (r : Goroutine) → IsQuiet script s → goroutine_at s g ≡ Some r → is_firm script s everyone g r ≡ false
+not_firm script s g r quiet e =
+    not_true (is_firm script s everyone g r)
+    (all-enumerated (λ (e : ℕ × Goroutine). not (is_firm script s everyone e.0 e.1)) s.goroutines g r e quiet.none_firm)
 
-not_ready : (script : Script) (s : State) (g : ℕ) (r : Goroutine) → IsQuiet script s → goroutine_at s g ≡ Some r → (mode : Mode) → r.mode ≡ mode → is_ready_in script s r mode ≡ false
+not_ready : (script : Script) (s : State) (g : ℕ) (r : Goroutine) → IsQuiet script s → goroutine_at s g ≡ Some r → (mode : Mode) → r.mode ≡ mode → is_ready_in script s g r mode ≡ false
 not_ready script s g r quiet e Mode.At at =
     elim (instr_at script r.place) as (λ o. instr_at script r.place ≡ o
-    → (elim o [ None ↦ false | Some i ↦ is_some (fault script s i) || goes_on i ]) ≡ false
-    → (elim o [ None ↦ false | Some i ↦ is_some (fault script s i) || is_ready_instr script s r.world i ]) ≡ false) [
+    → is_ready_at script s no_timer everyone g o ≡ false → is_ready_at script s (has_come s r.world) everyone g o ≡ false) [
       | None ↦ λ on h. refl
       | Some i ↦ λ on h. waits script s g r i quiet e at on h
     ] refl
-    (subst (λ (m : Mode). (elim m as (λ m. Bool) [ Mode.At ↦ elim (instr_at script r.place) [ None ↦ false | Some i ↦ is_some (fault script s i) || goes_on i ] | _ ↦ false ]) ≡ false) at
-    (not_firm script s g r quiet e))
+    (subst (λ (m : Mode). is_firm_in script s everyone g r m ≡ false) at (not_firm script s g r quiet e))
 not_ready script s g r quiet e (Mode.Sleeping until) at = sleeps_on script s g until r quiet e at
 not_ready script s g r quiet e Mode.Ended at = refl
 

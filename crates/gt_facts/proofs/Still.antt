@@ -1,7 +1,7 @@
 -- A program is idle exactly where it stands still: who is ready has an entry that may come next, and who is not has none.
-use Rattle.std.proofs.Common.{◌≡◌, ℕ, zero, suc, ◌≤◌, refl, sym, ap, subst, ◌∙◌, Option, None, Some, Bool, true, false, ◌||◌, is_some, IsTrue, IsSomeAnd}
+use Rattle.std.proofs.Common.{◌≡◌, ℕ, zero, suc, ◌≤◌, refl, sym, ap, subst, ◌∙◌, Option, None, Some, Bool, true, false, ◌||◌, ◌==◌, ◌≢◌, is_some, IsTrue, IsSomeAnd}
 use Rattle.std.specs.Option.{option_map}
-use Rattle.std.proofs.lemmas.Bool.{leb-true, le-leb}
+use Rattle.std.proofs.lemmas.Bool.{leb-true, le-leb, eq-eqb, or_left, or_right, and_from}
 use Rattle.gt_model.specs.declared.script.Script.{Script}
 use Rattle.gt_model.specs.declared.script.Instr.{Instr}
 use Rattle.gt_model.specs.declared.entry.Entry.{Entry}
@@ -11,27 +11,23 @@ use Rattle.gt_model.specs.declared.state.Goroutine.{Goroutine}
 use Rattle.gt_model.specs.declared.state.Timer.{Timer}
 use Rattle.gt_model.specs.declared.state.Mode.{Mode}
 use Rattle.gt_rules.specs.State.{State, goroutine_at, stands, stands_at, until_of, sleeps_until, clock, clock_of, world_of, next_number, timer_at, due_of}
-use Rattle.gt_model.specs.Script.{instr_at, is_func}
+use Rattle.gt_model.specs.declared.script.CaseKind.{CaseKind}
+use Rattle.gt_model.specs.declared.script.What.{What}
+use Rattle.gt_model.specs.Script.{instr_at, what_at, names_timer, is_func, is_timer, capacity_of}
 use Rattle.gt_rules.specs.Panics.{fault, fault_at, panic_of, panic_at}
-use Rattle.gt_rules.specs.Ready.{is_due, is_ready, is_ready_in, is_ready_instr}
+use Rattle.gt_rules.specs.Operations.{operation, receives_from}
+use Rattle.gt_rules.specs.Ready.{is_due, is_ready, is_ready_in, is_ready_at, is_ready_instr, is_ready_case, is_ready_alone, is_ready_recv, has_partner, partner_waits, has_come, everyone}
 use Rattle.gt_model.specs.Good.{IsGood}
 use Rattle.gt_rules.specs.declared.change.Move.{Move}
 use Rattle.gt_rules.specs.Change.{change_of}
-use Rattle.gt_rules.specs.Legal.{May, Does, Receives}
+use Rattle.gt_rules.specs.Legal.{May, Does, Operates}
 use Rattle.gt_rules.specs.Finish.{IsIdle, IsProgramClock}
 use Rattle.gt_facts.specs.Still.{IsStill}
-use Rattle.gt_facts.proofs.Lookups.{Standing, standing, stands_recv, Asleep, sleeper}
-use Rattle.gt_facts.proofs.Makers.{Maker, calls, receives, wakes, fires, ticks, panics, maker, idle-not}
+use Rattle.gt_facts.proofs.Lookups.{Standing, standing, AtOperation, at_operation, recv-Does, Asleep, sleeper}
+use Rattle.gt_facts.proofs.Partners.{Partner, partner-waits}
+use Rattle.gt_facts.proofs.Makers.{Maker, calls, receives, trades, pairs, wakes, fires, ticks, panics, maker, idle-not}
 
 -- ---- a still program is idle
-
-pub or_right : (a b : Bool) → b ≡ true → (a || b) ≡ true
-or_right true b h = refl
-or_right false b h = h
-
-pub or_left : (a b : Bool) → a ≡ true → (a || b) ≡ true
-or_left true b h = refl
-or_left false b h = cc
 
 true_false : (b : Bool) → b ≡ true → b ≡ false → ⊥
 true_false true h k = cc
@@ -39,20 +35,21 @@ true_false false h k = cc
 
 -- a goroutine that stands at an instruction which can go on, or is misused, is ready
 ready_there : (script : Script) (s : State) (g : ℕ) (i : Instr) (st : Standing script s g i)
-    → (is_some (fault script s i) || is_ready_instr script s st.who.world i) ≡ true → is_ready script s st.who ≡ true
+    → is_ready_at script s (has_come s st.who.world) everyone g (Some i) ≡ true → is_ready script s g st.who ≡ true
 ready_there script s g i st h =
-    subst (λ (m : Mode). is_ready_in script s st.who m ≡ true) (sym st.at)
-    (subst (λ (o : Option Instr). (elim o [ None ↦ false | Some j ↦ is_some (fault script s j) || is_ready_instr script s st.who.world j ]) ≡ true) (sym st.on) h)
+    subst (λ (m : Mode). is_ready_in script s g st.who m ≡ true) (sym st.at)
+    (subst (λ (o : Option Instr). is_ready_at script s (has_come s st.who.world) everyone g o ≡ true) (sym st.on) h)
 
 not_ready : (script : Script) (s : State) (g : ℕ) (i : Instr) (st : Standing script s g i) → IsStill script s
-    → (is_some (fault script s i) || is_ready_instr script s st.who.world i) ≡ true → ⊥
-not_ready script s g i st still h = true_false (is_ready script s st.who) (ready_there script s g i st h) (still.nobody_ready g st.who st.there)
+    → is_ready_at script s (has_come s st.who.world) everyone g (Some i) ≡ true → ⊥
+not_ready script s g i st still h = true_false (is_ready script s g st.who) (ready_there script s g i st h) (still.nobody_ready g st.who st.there)
 
--- an instruction that always goes on
-goes_not : (script : Script) (s : State) (g : ℕ) (i : Instr) → IsStill script s → Does script s g i → ((w : ℕ) → is_ready_instr script s w i ≡ true) → ⊥
+-- an instruction that goes on by whatever clock
+goes_not : (script : Script) (s : State) (g : ℕ) (i : Instr) → IsStill script s → Does script s g i
+    → ((w : ℕ) → is_ready_instr script s (has_come s w) everyone g i ≡ true) → ⊥
 goes_not script s g i still does goes =
     let st : Standing script s g i = standing script s g i does.stands in
-    not_ready script s g i st still (or_right (is_some (fault script s i)) (is_ready_instr script s st.who.world i) (goes st.who.world))
+    not_ready script s g i st still (or_right (is_some (fault script s i)) (is_ready_instr script s (has_come s st.who.world) everyone g i) (goes st.who.world))
 
 world_there : (s : State) (g : ℕ) (r : Goroutine) → goroutine_at s g ≡ Some r → world_of s g ≡ r.world
 world_there s g r e = ap (λ (o : Option Goroutine). elim o as (λ o. ℕ) [ None ↦ 0 | Some r ↦ r.world ]) e
@@ -67,17 +64,67 @@ wakes_not script s g still h =
     let until : sleeps_until s g ≡ Some a.until = until_there s g a.who a.there ∙ ap until_of a.sleeps in
     let come : a.until ≤ clock_of s g = subst (λ (o : Option ℕ). IsSomeAnd o (λ until. until ≤ clock_of s g)) until h in
     let here : a.until ≤ clock s a.who.world = subst (λ w. a.until ≤ clock s w) (world_there s g a.who a.there) come in
-    let ready : is_ready script s a.who ≡ true =
-    subst (λ (m : Mode). is_ready_in script s a.who m ≡ true) (sym a.sleeps) (le-leb a.until (clock s a.who.world) here) in
-    true_false (is_ready script s a.who) ready (still.nobody_ready g a.who a.there)
+    let ready : is_ready script s g a.who ≡ true =
+    subst (λ (m : Mode). is_ready_in script s g a.who m ≡ true) (sym a.sleeps) (le-leb a.until (clock s a.who.world) here) in
+    true_false (is_ready script s g a.who) ready (still.nobody_ready g a.who a.there)
 
-receives_not : (script : Script) (s : State) (p : Party) (t due : ℕ) → IsStill script s → Receives script s p t → due_of s t ≡ Some due → due ≤ clock_of s p.g → ⊥
-receives_not script s p t due still call is h =
-    let st : Standing script s p.g (Instr.Recv t) = standing script s p.g (Instr.Recv t) (stands_recv script s p t call.stands) in
+-- the receive of a timer is ready where its time has come
+timer-ready : (s : State) (timed : ℕ → Bool) (t : ℕ) (o : Option What) → IsTrue (names_timer o) → timed t ≡ true → is_ready_recv s timed t o ≡ true
+timer-ready s timed t (Some What.Timer) timer come = come
+timer-ready s timed t (Some (What.AfterFunc func)) timer come = cc
+timer-ready s timed t (Some (What.Chan cap)) timer come = cc
+timer-ready s timed t (Some What.Function) timer come = cc
+timer-ready s timed t None timer come = cc
+
+receives_not : (script : Script) (s : State) (p : Party) (t due : ℕ) → IsStill script s → Operates script s p (CaseKind.Recv t) → IsTrue (is_timer script t) → due_of s t ≡ Some due
+    → due ≤ clock_of s p.g → ⊥
+receives_not script s p t due still call timer is h =
+    let does : Does script s p.g (Instr.Recv t) = recv-Does script s p t call in
+    let st : Standing script s p.g (Instr.Recv t) = standing script s p.g (Instr.Recv t) does.stands in
     let here : due ≤ clock s st.who.world = subst (λ w. due ≤ clock s w) (world_there s p.g st.who st.there) h in
-    let come : is_due (due_of s t) (clock s st.who.world) ≡ true =
+    let come : has_come s st.who.world t ≡ true =
     subst (λ (o : Option ℕ). is_due o (clock s st.who.world) ≡ true) (sym is) (le-leb due (clock s st.who.world) here) in
-    not_ready script s p.g (Instr.Recv t) st still (or_right (is_some (fault script s (Instr.Recv t))) _ come)
+    let alone : is_ready_alone script s (has_come s st.who.world) (CaseKind.Recv t) ≡ true = timer-ready s (has_come s st.who.world) t (what_at script t) timer come in
+    not_ready script s p.g (Instr.Recv t) st still
+    (or_right (is_some (fault script s (Instr.Recv t))) _ (or_left (is_ready_alone script s (has_come s st.who.world) (CaseKind.Recv t)) _ alone))
+
+-- what an instruction is ready for is its operation
+operation-ready : (script : Script) (s : State) (timed counts : ℕ → Bool) (me n : ℕ) (i : Instr) (kind : CaseKind) → operation i n ≡ Some kind
+    → is_ready_case script s timed counts me kind ≡ true → is_ready_instr script s timed counts me i ≡ true
+operation-ready script s timed counts me zero (Instr.Recv o) kind e h =
+    let is : CaseKind.Recv o ≡ kind = cc in
+    subst (λ (k : CaseKind). is_ready_case script s timed counts me k ≡ true) (sym is) h
+operation-ready script s timed counts me zero (Instr.Send c v) kind e h =
+    let is : CaseKind.Send c v ≡ kind = cc in
+    subst (λ (k : CaseKind). is_ready_case script s timed counts me k ≡ true) (sym is) h
+operation-ready script s timed counts me (suc n) (Instr.Recv o) kind e h = cc
+operation-ready script s timed counts me (suc n) (Instr.Send c v) kind e h = cc
+operation-ready script s timed counts me n _ kind e h = cc
+
+-- an operation that goes on by whatever clock
+operates_not : (script : Script) (s : State) (p : Party) (kind : CaseKind) → IsStill script s → Operates script s p kind
+    → ((w : ℕ) → is_ready_case script s (has_come s w) everyone p.g kind ≡ true) → ⊥
+operates_not script s p kind still call goes =
+    let at : AtOperation script s p kind = at_operation script s p kind call.stands in
+    goes_not script s p.g at.instr still (record { stands = at.stands; calm = call.calm })
+    (λ w. operation-ready script s (has_come s w) everyone p.g p.case_no at.instr kind at.has (goes w))
+
+-- a sender whose partner waits there is ready
+pairs_not : (script : Script) (s : State) (from to : Party) (c v : ℕ) → IsStill script s → Operates script s from (CaseKind.Send c v) → Operates script s to (CaseKind.Recv c)
+    → capacity_of script c ≡ 0 → from.g ≢ to.g → ⊥
+pairs_not script s from to c v still sends gets none other =
+    let p : Partner script s everyone from.g (receives_from c) = record {
+      number = to.g;
+      instr = Instr.Recv c;
+      other = λ e. other (sym e);
+      counted = refl;
+      does = recv-Does script s to c gets;
+      passes = eq-eqb c c refl;
+    } in
+    let ready : has_partner script s everyone from.g (CaseKind.Send c v) ≡ true =
+    and_from (capacity_of script c == 0) (partner_waits script s everyone from.g (receives_from c)) (eq-eqb (capacity_of script c) 0 none)
+    (partner-waits script s everyone from.g (receives_from c) p) in
+    operates_not script s from (CaseKind.Send c v) still sends (λ w. or_right (is_ready_alone script s (has_come s w) (CaseKind.Send c v)) _ ready)
 
 fires_not : (script : Script) (s : State) (t : ℕ) → IsStill script s → IsTrue (is_func script t)
     → IsSomeAnd (timer_at s t) (λ (r : Timer). IsTrue (is_due r.due (clock s r.world))) → ⊥
@@ -109,13 +156,16 @@ panics_not script s g n reason still h =
     ] refl (panic_stands script s g ∙ h)
 
 -- nobody makes an entry but the program's clock
-clock-Maker : (script : Script) (s : State) (m : Option (ℕ × Move)) (k : Option (ℕ × ℕ)) → IsStill script s → Maker script s m k → is_some k ≡ true
-clock-Maker script s m k still (calls g i n does goes leaves) = absurd (goes_not script s g i still does goes)
-clock-Maker script s m k still (receives p t due call is come) = absurd (receives_not script s p t due still call is come)
-clock-Maker script s m k still (wakes g h) = absurd (wakes_not script s g still h)
-clock-Maker script s m k still (fires t func h) = absurd (fires_not script s t still func h)
-clock-Maker script s m k still (ticks to up most) = refl
-clock-Maker script s m k still (panics p reason h) = absurd (panics_not script s p.g p.case_no reason still h)
+clock-Maker : (script : Script) (s : State) (m p : Option (ℕ × Move)) (k : Option (ℕ × ℕ)) → IsStill script s → Maker script s m p k → is_some k ≡ true
+clock-Maker script s m q k still (calls g i n does goes leaves) = absurd (goes_not script s g i still does (λ w. goes (has_come s w) everyone g))
+clock-Maker script s m q k still (receives p t due call timer is come) = absurd (receives_not script s p t due still call timer is come)
+clock-Maker script s m q k still (trades p kind call ready) =
+    absurd (operates_not script s p kind still call (λ w. or_left (is_ready_alone script s (has_come s w) kind) _ (ready (has_come s w))))
+clock-Maker script s m q k still (pairs from to c v sends gets chan none other) = absurd (pairs_not script s from to c v still sends gets none other)
+clock-Maker script s m q k still (wakes g h) = absurd (wakes_not script s g still h)
+clock-Maker script s m q k still (fires t func h) = absurd (fires_not script s t still func h)
+clock-Maker script s m q k still (ticks to up most) = refl
+clock-Maker script s m q k still (panics p reason h) = absurd (panics_not script s p.g p.case_no reason still h)
 
 moves-clock : (script : Script) (s : State) (e : Entry) → May script s e → is_some (change_of e).clock ≡ true → IsProgramClock e
 moves-clock script s (Entry.Clock zero to) may h = tt
@@ -124,18 +174,18 @@ moves-clock script s _ may h = cc
 
 pub still-IsIdle : (script : Script) (s : State) → IsStill script s → IsIdle script s
 still-IsIdle script s still e may =
-    moves-clock script s e may (clock-Maker script s (change_of e).mover (change_of e).clock still (maker script s e may))
+    moves-clock script s e may (clock-Maker script s (change_of e).mover (change_of e).partner (change_of e).clock still (maker script s e may))
 
 -- ---- an idle program is still
 
 at_not : (script : Script) (s : State) (g : ℕ) (r : Goroutine) (i : Instr) → IsGood script → IsIdle script s → goroutine_at s g ≡ Some r → stands_at script s g ≡ Some i
-    → (is_some (fault script s i) || is_ready_instr script s r.world i) ≡ true → ⊥
+    → is_ready_at script s (has_come s r.world) everyone g (Some i) ≡ true → ⊥
 at_not script s g r i good idle e on ready =
     let panics : panic_at script s g ≡ fault_at script s i =
     sym (panic_stands script s g) ∙ ap (λ (o : Option Instr). elim o as (λ x. Option (ℕ × Reason)) [ None ↦ None | Some i ↦ fault_at script s i ]) on in
     let now : clock_of s g ≡ clock s r.world = ap (clock s) (world_there s g r e) in
     elim (fault script s i)
-    as (λ o. fault script s i ≡ o → (is_some o || is_ready_instr script s r.world i) ≡ true → ⊥) [
+    as (λ o. fault script s i ≡ o → (is_some o || is_ready_instr script s (has_come s r.world) everyone g i) ≡ true → ⊥) [
       | None ↦ λ is h.
           let calm : panic_at script s g ≡ None = panics ∙ ap (λ (o : Option Reason). elim o as (λ x. Option (ℕ × Reason)) [ None ↦ None | Some why ↦ Some (0, why) ]) is in
           idle-not script s g r.world i good idle now (record { stands = on; calm = calm }) h
@@ -156,10 +206,10 @@ not_true true h = absurd (h refl)
 not_true false h = refl
 
 ready_not : (script : Script) (s : State) (g : ℕ) (r : Goroutine) → IsGood script → IsIdle script s → goroutine_at s g ≡ Some r → (mode : Mode) → r.mode ≡ mode
-    → is_ready_in script s r mode ≡ true → ⊥
+    → is_ready_in script s g r mode ≡ true → ⊥
 ready_not script s g r good idle e Mode.At at ready =
     elim (instr_at script r.place) as (λ o. instr_at script r.place ≡ o
-    → (elim o [ None ↦ false | Some i ↦ is_some (fault script s i) || is_ready_instr script s r.world i ]) ≡ true → ⊥) [
+    → is_ready_at script s (has_come s r.world) everyone g o ≡ true → ⊥) [
       | None ↦ λ on h. cc
       | Some i ↦ λ on h. at_not script s g r i good idle e (stands_there script s g r i e at on) h
     ] refl ready
@@ -177,6 +227,6 @@ func_not script s t r idle e func come =
 
 pub idle-IsStill : (script : Script) (s : State) → IsGood script → IsIdle script s → IsStill script s
 idle-IsStill script s good idle = record {
-  nobody_ready = λ g r e. not_true (is_ready script s r) (ready_not script s g r good idle e r.mode refl);
+  nobody_ready = λ g r e. not_true (is_ready script s g r) (ready_not script s g r good idle e r.mode refl);
   no_func_due = λ t r e func. not_true (is_due r.due (clock s r.world)) (func_not script s t r idle e func);
 }
