@@ -1,5 +1,6 @@
-//! A channel.
-ghost use Rattle.std.specs.Prelude.{◌≡◌, ◌↔◌, ◌≤◌, ◌<◌, ◌+◌, ◌^◌, [], length, IsSome, IsNone, IfOk};
+//! A channel, by the rules of The Go Programming Language Specification, sections "Send statements", "Receive operator" and
+//! "Close".
+ghost use Rattle.std.specs.Prelude.{◌≡◌, ◌↔◌, ◌≤◌, ◌<◌, ◌+◌, ◌++◌, ◌^◌, ◌∷◌, [], false, length, drop, nat_lt, slice_get, IsSome, IsNone, IfOk};
 ghost use Rattle.gt_select.specs.Waiting.{parties_in};
 ghost use Rattle.gt_chan.specs.Channel.{IsLawful, HasLists, MayPark, partner_in, without_partner, parked, senders, receivers, waiter, without_waiters, unmade, made, shut};
 ghost use Rattle.gt_chan.specs.Steps.{send_step, channel_after_send, waiters_after_send, recv_step, channel_after_recv, waiters_after_recv, close_step};
@@ -83,6 +84,55 @@ impl Chan {
         self.world
     }
 
+    /// Whether the channel is closed.
+    pub fn is_closed(&self) -> bool
+        ensures { result ≡ self.now.closed }
+    {
+        self.closed
+    }
+
+    /// How many items it keeps.
+    pub fn len(&self) -> usize
+        ensures { result ≡ length self.now.items }
+    {
+        self.items.len()
+    }
+
+    /// Whether it keeps fewer items than its capacity, so that one more has room.
+    pub fn has_room(&self) -> bool
+        ensures { result ≡ nat_lt (length self.now.items) self.now.capacity }
+    {
+        self.len() < self.capacity as usize
+    }
+
+    /// The item that was sent first of those that it keeps; None where it keeps none.
+    pub fn first(&self) -> Option<u32>
+        ensures { result ≡ slice_get self.now.items 0 }
+    {
+        self.items.front().copied()
+    }
+
+    /// Keeps one item more, behind the others: a send to a channel with room (The Go Programming Language Specification, "Send
+    /// statements").
+    pub fn put(&mut self, v: u32)
+        requires made { IsSome self.old.world }
+        requires not_closed { self.old.closed ≡ false }
+        requires room { length self.old.items < self.old.capacity }
+        ensures { self.new ≡ record self.old { items = self.old.items ++ v ∷ [] } }
+    {
+        self.items.push_back_reserved(v);
+    }
+
+    /// Lets the first item go, and returns it: a receive from a channel that keeps items, closed or not (The Go Programming
+    /// Language Specification, "Receive operator" and "Close"). None where it keeps none, and then nothing changes.
+    pub fn take(&mut self) -> Option<u32>
+        requires { IsSome self.old.world }
+        ensures first { result ≡ slice_get self.old.items 0 }
+        ensures channel { self.new ≡ record self.old { items = drop 1 self.old.items } }
+    {
+        self.items.pop_front()
+    }
+
     /// Tries to send v for p. A party that takes v leaves its list. Where nobody takes it and p's goroutine has a live ticket,
     /// p waits behind the senders that wait.
     pub fn try_send(&mut self, w: &mut Waiters, p: Party, v: u32) -> SendStep
@@ -96,8 +146,8 @@ impl Chan {
         if self.closed {
             return SendStep::Closed;
         }
-        if self.items.len() < self.capacity as usize {
-            self.items.push_back_reserved(v);
+        if self.has_room() {
+            self.put(v);
             return SendStep::Done;
         }
         match take_partner(w, self.capacity, self.list + 1, p.g) {
@@ -119,7 +169,7 @@ impl Chan {
         ensures channel { self.new ≡ channel_after_recv result self.old }
         ensures waiters { w.new ≡ waiters_after_recv result self.old w.old p }
     {
-        if let Some(v) = self.items.pop_front() {
+        if let Some(v) = self.take() {
             return RecvStep::Got(v);
         }
         if self.closed {
