@@ -1,5 +1,5 @@
 -- The changes of an entry, one after the other, make the state after it.
-use Rattle.std.proofs.Common.{◌≡◌, ℕ, ◌+◌, ◌∙◌, refl, sym, ap, Option, None, Some, List, option_map}
+use Rattle.std.proofs.Common.{◌≡◌, ℕ, ◌+◌, refl, Option, None, Some, List, option_map}
 use Rattle.gt_model.specs.declared.script.Script.{Script}
 use Rattle.gt_model.specs.declared.entry.Entry.{Entry}
 use Rattle.gt_model.specs.declared.state.Goroutine.{Goroutine}

@@ -6,11 +6,10 @@ use Rattle.std.proofs.lemmas.Option.{slice_get-map, slice_get_within, slice_get_
 use Rattle.gt_model.specs.declared.script.Script.{Script}
 use Rattle.gt_model.specs.declared.script.Decl.{Decl}
 use Rattle.gt_model.specs.declared.script.What.{What}
-use Rattle.gt_model.specs.Tables.{change, flatten, at}
+use Rattle.gt_model.specs.Tables.{change, flatten}
 use Rattle.gt_model.specs.Script.{capacity_of}
 use Rattle.gt_model.proofs.Tables.{change-set}
-use Rattle.gt_rules.specs.State.{State, Channel, channel_at, item_count, is_closed}
-use Rattle.gt_rules.specs.After.{with_items, shut}
+use Rattle.gt_rules.specs.State.{Channel, channel_at, item_count, is_closed}
 use Rattle.gt_rules.specs.declared.change.Trade.{Trade}
 use Rattle.gt_rules.specs.Change.{change_of}
 use Rattle.gt_rules.specs.Legal.{May}
@@ -23,18 +22,7 @@ use Rattle.gt_chan.specs.Channel as chan
 use Rattle.gt_machine.specs.declared.machine.Machine.{Machine}
 use Rattle.gt_machine.specs.Machine.{state_of, channel_by, channel_of, capacity_in, capacities, HasChannels, MayTrade, IsTradable}
 
--- ---- one channel
-
--- a change of its items, and its end, are those of the channel in the state, made or not
-pub items-changed : (w : Option ℕ) (items : List ℕ) (closed : Bool) (f : List ℕ → List ℕ) → channel_by w (f items) closed ≡ with_items f (channel_by w items closed)
-items-changed None items closed f = refl
-items-changed (Some world) items closed f = refl
-
-pub closed-changed : (w : Option ℕ) (items : List ℕ) (closed : Bool) → channel_by w items true ≡ shut (channel_by w items closed)
-closed-changed None items closed = refl
-closed-changed (Some world) items closed = refl
-
--- ---- all channels
+-- ---- a channel that is changed where it stands
 
 -- a write at a place is a change there
 pub traded-set : (chs : List chan.Channel) (c : ℕ) (f : Option Channel → Option Channel) (was new : chan.Channel)
@@ -72,7 +60,7 @@ capacities_unmade (d ∷ ds) = ap (λ ns. capacity_in d.what ∷ ns) (capacities
 
 -- ---- the capacity of a channel is that of its declaration
 
--- what keeps its channels keeps what they are
+-- what leaves the capacities leaves this so
 pub channels-kept : (script : Script) (m n : Machine) → capacities n.channels.items ≡ capacities m.channels.items → HasChannels script m → HasChannels script n
 channels-kept script m n same kept = record { declared = same ∙ kept.declared }
 

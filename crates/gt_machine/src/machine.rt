@@ -60,8 +60,9 @@ fn unmade_channels(alloc: Global, decls: &[Decl]) -> Result<Vec<Chan>, NoMemory>
 {
     let mut channels = Vec::with_capacity(alloc, decls.len()).map_err(|_| NoMemory)?;
     for decl in decls {
-        let channel =
-            Chan::with_room(alloc, declared_capacity(decl.what), 0).map_err(|_| NoMemory)?;
+        let channel = Chan::with_room(alloc, declared_capacity(decl.what), 0).map_err(
+            |_| NoMemory,
+        )?;
         channels.push_reserved(channel);
     }
     Ok(channels)

@@ -1,10 +1,9 @@
-use Rattle.std.proofs.Common.{◌≡◌, ◌∙◌, refl, ◌+◌, ap, sym, subst, length, IfSome, List}
+use Rattle.std.proofs.Common.{◌≡◌, ◌∙◌, refl, ap, sym, subst, IfSome, List}
 use Rattle.gt_model.specs.declared.state.Goroutine.{Goroutine}
-use Rattle.gt_chan.specs.Channel as chan
 use Rattle.gt_rules.specs.State.{State}
 use Rattle.gt_rules.specs.Change.{change_of}
 use Rattle.gt_rules.specs.After.{with_mover}
-use Rattle.gt_machine.specs.Machine.{state_of, IsInside, IsTradable, capacities}
+use Rattle.gt_machine.specs.Machine.{state_of, IsInside, IsTradable}
 use Rattle.gt_machine.proofs.Machines.{inside-May, within-May, partner-May}
 use Rattle.gt_machine.proofs.Channels.{tradable-May}
 use Rattle.gt_machine.proofs.Applied.{applied}
