@@ -1,6 +1,7 @@
 pub mod Firm
 pub mod Entering
 pub mod Fitting
+pub mod Stays
 pub mod Calm
 pub mod Books
 pub mod Going
