@@ -6,7 +6,7 @@ use gt_script::{Why, read_script};
 use std::test::Fail;
 
 const WORKED: &[u8] =
-    b"gotime script 1\nfunc main\nmake c\nsend c 4294967295\nrecv c\nrecv t\nmake d\nsend d 0\nclose d\nend\nchan c 0\ntimer t\nchan d 1024\n";
+    b"gotime script 1\nfunc main\nmake c\nsend c 4294967295\nrecv c\nrecv t\nclose d\nend\nchan c 0\ntimer t\nchan d 1024\n";
 
 fn has_kinds(script: &Script) -> bool {
     match script.decls.as_slice() {
@@ -21,21 +21,44 @@ fn has_kinds(script: &Script) -> bool {
     }
 }
 
+fn is_make(instr: &Instr, channel: u32) -> bool {
+    match instr {
+        Instr::Make { c } => *c == channel,
+        _ => false,
+    }
+}
+
+fn is_send(instr: &Instr, channel: u32, value: u32) -> bool {
+    match instr {
+        Instr::Send { c, v } => *c == channel && *v == value,
+        _ => false,
+    }
+}
+
+fn is_recv(instr: &Instr, object: u32) -> bool {
+    match instr {
+        Instr::Recv { o } => *o == object,
+        _ => false,
+    }
+}
+
+fn is_close(instr: &Instr, channel: u32) -> bool {
+    match instr {
+        Instr::Close { c } => *c == channel,
+        _ => false,
+    }
+}
+
 fn is_main(code: &[Instr]) -> bool {
     match code {
-        [
-            Instr::Make { c: 1 },
-            Instr::Send {
-                c: 1,
-                v: 4_294_967_295,
-            },
-            Instr::Recv { o: 1 },
-            Instr::Recv { o: 2 },
-            Instr::Make { c: 3 },
-            Instr::Send { c: 3, v: 0 },
-            Instr::Close { c: 3 },
-            Instr::Finish,
-        ] => true,
+        [made, sent, received, ticked, closed, last] => {
+            is_make(made, 1)
+                && is_send(sent, 1, 4_294_967_295)
+                && is_recv(received, 1)
+                && is_recv(ticked, 2)
+                && is_close(closed, 3)
+                && matches!(last, Instr::Finish)
+        }
         _ => false,
     }
 }
