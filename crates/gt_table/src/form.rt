@@ -89,7 +89,10 @@ impl Arg {
     pub fn is_amount(self) -> bool
         ensures { result ≡ is_amount self }
     {
-        matches!(self, Arg::Duration | Arg::Number | Arg::Passes | Arg::Capacity)
+        matches!(
+            self,
+            Arg::Duration | Arg::Number | Arg::Passes | Arg::Capacity
+        )
     }
 }
 

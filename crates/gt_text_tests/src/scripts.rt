@@ -4,14 +4,14 @@ use gt_model::{Instr, Script, What};
 use gt_script::{Unread, Why, read_script};
 use std::test::Fail;
 
-fn is_refused(alloc: std::alloc::Global, text: &[u8], line: u32, why: Why) -> bool {
+pub(crate) fn is_refused(alloc: std::alloc::Global, text: &[u8], line: u32, why: Why) -> bool {
     match read_script(alloc, text) {
         Err(Unread::Refused { fault }) => fault.line == line && fault.why == why,
         _ => false,
     }
 }
 
-fn is_read(alloc: std::alloc::Global, text: &[u8]) -> bool {
+pub(crate) fn is_read(alloc: std::alloc::Global, text: &[u8]) -> bool {
     read_script(alloc, text).is_ok()
 }
 

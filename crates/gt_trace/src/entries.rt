@@ -8,8 +8,8 @@ ghost use Rattle.gt_trace.specs.Text.{space, goroutine_word, party_word, maybe_w
 
 use crate::channels::{fill_channel, fill_pair, fill_recv, fill_send};
 use crate::line::{
-    LINE_ROOM, Line, push_bytes, push_flag, push_goroutine, push_maybe_number, push_number, push_party,
-    push_word,
+    LINE_ROOM, Line, push_bytes, push_flag, push_goroutine, push_maybe_number, push_number,
+    push_party, push_word,
 };
 use crate::names::name_of_function;
 use crate::timers::{fill_fire, fill_tick, fill_timer};

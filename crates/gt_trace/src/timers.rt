@@ -7,7 +7,8 @@ ghost use Rattle.gt_model.specs.Named.{IsNamed};
 ghost use Rattle.gt_trace.specs.Text.{space, goroutine_word, name_of, words_of};
 
 use crate::line::{
-    LINE_ROOM, Line, push_bytes, push_goroutine, push_maybe_number, push_number, push_party, push_word,
+    LINE_ROOM, Line, push_bytes, push_goroutine, push_maybe_number, push_number, push_party,
+    push_word,
 };
 use crate::names::declared_name;
 use gt_model::{Entry, Party, Script};
