@@ -1,5 +1,5 @@
 -- Of a channel the entries of a history tell whether it was made, whether it was closed, and what it keeps: those of the sent values that were not yet received.
-use Rattle.std.proofs.Common.{◌≡◌, ℕ, zero, suc, ◌+◌, ◌-◌, ◌<◌, ◌≤◌, ◌==◌, List, [], ◌∷◌, ◌++◌, length, map, drop, slice_get, refl, sym, ap, subst, ◌∙◌, arith, if◌then◌else◌, Option, None, Some, Bool, true, false, not, is_some, IfSome}
+use Rattle.std.proofs.Common.{◌≡◌, ℕ, zero, suc, ◌+◌, ◌-◌, ◌<◌, ◌≤◌, ◌==◌, List, [], ◌∷◌, ◌++◌, length, map, drop, slice_get, refl, sym, ap, subst, ◌∙◌, arith, if◌then◌else◌, Option, None, Some, Bool, true, false, is_some, IfSome}
 use Rattle.std.proofs.lemmas.List.{length-append, length-drop, drop-append-le}
 use Rattle.gt_model.specs.declared.script.Script.{Script}
 use Rattle.gt_model.specs.declared.script.Decl.{Decl}
@@ -8,15 +8,15 @@ use Rattle.gt_model.specs.declared.entry.Limits.{Limits}
 use Rattle.gt_model.specs.Good.{IsGood}
 use Rattle.gt_model.specs.Tables.{at, change}
 use Rattle.gt_model.proofs.Items.{at-change_other}
-use Rattle.gt_rules.specs.State.{State, Channel, channel_at, items_of, item_count, is_closed, is_open, world_of}
+use Rattle.gt_rules.specs.State.{State, Channel, channel_at, item_count, is_closed, world_of}
 use Rattle.gt_rules.specs.declared.change.Move.{Move}
 use Rattle.gt_rules.specs.declared.change.Trade.{Trade}
-use Rattle.gt_rules.specs.Change.{Change, change_of}
+use Rattle.gt_rules.specs.Change.{change_of}
 use Rattle.gt_rules.specs.After.{after, first_state, number_of, traded, with_traded, with_items, shut}
 use Rattle.gt_rules.specs.History.{AllLegal, state_after}
 use Rattle.gt_facts.specs.Formed.{IsFormed}
 use Rattle.gt_facts.proofs.Formed.{at-change_within, formed-first, formed-Legal}
-use Rattle.gt_facts.proofs.Fits.{Fits, FitsChannel, fits-Legal}
+use Rattle.gt_facts.proofs.Fits.{FitsChannel, fits-Legal}
 use Rattle.gt_facts.proofs.Makers.{HasTrade}
 use Rattle.gt_laws.specs.Told.{told, sends, sent_by, sent_told, takes, taken_by, taken_told, opens, opened_by, opened_told, shuts, closed_by, closed_told}
 use Rattle.gt_laws.proofs.Numbers.{by-number}
