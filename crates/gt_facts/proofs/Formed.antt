@@ -385,7 +385,7 @@ timers-formed script s m (Some x) formed h = timer-formed script s m x.0 x.1 for
 
 -- ---- channels
 
-at-change_within : (cs : List (Option Channel)) (c : ℕ) (f : Option Channel → Option Channel) → c < length cs → at (change cs c f) c ≡ f (at cs c)
+pub at-change_within : (cs : List (Option Channel)) (c : ℕ) (f : Option Channel → Option Channel) → c < length cs → at (change cs c f) c ≡ f (at cs c)
 at-change_within [] c f h = absurd (omega arith)
 at-change_within (x ∷ xs) zero f h = refl
 at-change_within (x ∷ xs) (suc c) f h = at-change_within xs c f (omega arith)

@@ -1,5 +1,5 @@
 -- The goroutines and the owners of timers that a history tells are those of the state after it.
-use Rattle.std.proofs.Common.{◌≡◌, ℕ, zero, suc, List, [], ◌∷◌, ◌++◌, map, set, slice_get, refl, sym, ap, subst, ◌∙◌, Option, None, Some, IfSome, option_map, unwrap_or, append_assoc, append-nil}
+use Rattle.std.proofs.Common.{◌≡◌, ◌≢◌, ℕ, zero, suc, List, [], ◌∷◌, ◌++◌, map, set, slice_get, refl, sym, ap, subst, ◌∙◌, Option, None, Some, IfSome, option_map, unwrap_or, append_assoc, append-nil}
 use Rattle.std.proofs.lemmas.List.{map-append, map-set}
 use Rattle.gt_model.specs.declared.script.Script.{Script}
 use Rattle.gt_model.specs.declared.script.Decl.{Decl}
@@ -13,6 +13,7 @@ use Rattle.gt_model.specs.declared.state.Timer.{Timer}
 use Rattle.gt_model.specs.Good.{IsGood}
 use Rattle.gt_model.specs.Script.{instr_at, func_of}
 use Rattle.gt_model.specs.Tables.{at, numbered, change, change_numbered}
+use Rattle.gt_model.proofs.Items.{numbered-change_other}
 use Rattle.gt_rules.specs.State.{State, clock_of, goroutine_at, world_of, until_of, sleeps_until, stands, stands_at}
 use Rattle.gt_rules.specs.declared.change.Move.{Move}
 use Rattle.gt_rules.specs.declared.change.Setting.{Setting}
@@ -22,7 +23,7 @@ use Rattle.gt_rules.specs.After.{after, first_state, moved, number_of, set_due, 
 use Rattle.gt_rules.specs.History.{AllLegal, state_after}
 use Rattle.gt_facts.proofs.Fits.{Fits, IsLive}
 use Rattle.gt_laws.specs.Told.{clock_told, beginner, Wait, awake, asleep, ToldGoroutine, Everyone, world_in, led, with_led, begun_by, mover_world, owned, with_owned, everyone_by, everyone_first, everyone_told, goroutine_told, world_told, owner_told, now_told, place_of, wait_of, until_in, until_told, stands_in, stands_told}
-use Rattle.gt_laws.proofs.Shown.{shown-told, clock-told}
+use Rattle.gt_laws.proofs.Shown.{AreTwo, shown-told, clock-told}
 
 -- ---- what is shown of a state
 
@@ -81,9 +82,11 @@ led-mode script m w place Mode.Ended live = absurd (live refl)
 led-mode script (Move.GoesOn case_no) w place Mode.At live = refl
 led-mode script (Move.FallsAsleep until) w place Mode.At live = refl
 led-mode script Move.Ends w place Mode.At live = refl
+led-mode script Move.Panics w place Mode.At live = refl
 led-mode script (Move.GoesOn case_no) w place (Mode.Sleeping until) live = refl
 led-mode script (Move.FallsAsleep later) w place (Mode.Sleeping until) live = refl
 led-mode script Move.Ends w place (Mode.Sleeping until) live = refl
+led-mode script Move.Panics w place (Mode.Sleeping until) live = refl
 
 lives : (s : State) (g : ℕ) (r : Goroutine) → IsLive s g → goroutine_at s g ≡ Some r → r.mode ≡ Mode.Ended → ⊥
 lives s g r live e =
@@ -96,6 +99,20 @@ says-led : (script : Script) (s : State) (m : Option (ℕ × Move)) → IfSome m
 says-led script s None live = refl
 says-led script s (Some m) live =
     map-change_numbered shown (moved script m.1) (led script m.1) s.goroutines m.0 (λ r e. led-mode script m.1 r.world r.place r.mode (lives s m.0 r live e))
+
+-- the second one stands where it stood before the first one moved
+second-live : (script : Script) (s : State) (m : Option (ℕ × Move)) (g : ℕ) (r : Goroutine) → IfSome m (λ (m : ℕ × Move). g ≢ m.0) → IsLive s g
+    → numbered (with_mover script s.goroutines m) g ≡ Some r → r.mode ≡ Mode.Ended → ⊥
+second-live script s None g r other live e = lives s g r live e
+second-live script s (Some m) g r other live e = lives s g r live (sym (numbered-change_other s.goroutines m.0 g (moved script m.1) other) ∙ e)
+
+says-both : (script : Script) (s : State) (m p : Option (ℕ × Move)) → IfSome m (λ (m : ℕ × Move). IsLive s m.0) → IfSome p (λ (m : ℕ × Move). IsLive s m.0) → AreTwo m p
+    → map shown (with_mover script (with_mover script s.goroutines m) p) ≡ with_led script (with_led script (map shown s.goroutines) m) p
+says-both script s m None live alive two = says-led script s m live
+says-both script s m (Some p) live alive two =
+    map-change_numbered shown (moved script p.1) (led script p.1) (with_mover script s.goroutines m) p.0
+    (λ r e. led-mode script p.1 r.world r.place r.mode (second-live script s m p.0 r two alive e))
+    ∙ ap (λ rs. change_numbered rs p.0 (led script p.1)) (says-led script s m live)
 
 -- ---- who starts
 
@@ -159,11 +176,12 @@ together rs os = record { goroutines = rs; owners = os }
 both : (rs qs : List ToldGoroutine) (os ps : List (Option ℕ)) → rs ≡ qs → os ≡ ps → together rs os ≡ together qs ps
 both rs qs os ps same alike = ap (λ rs. together rs os) same ∙ ap (λ os. together qs os) alike
 
-one-everyone : (script : Script) (s : State) (e : Entry) → Fits s (change_of e) → show (after script s e) ≡ everyone_by script (show s) (change_of e)
-one-everyone script s e fits =
+one-everyone : (script : Script) (s : State) (e : Entry) → Fits script s (change_of e) → AreTwo (change_of e).mover (change_of e).partner
+    → show (after script s e) ≡ everyone_by script (show s) (change_of e)
+one-everyone script s e fits two =
     both _ _ _ _
-    (says-begun script s (with_mover script s.goroutines (change_of e).mover) (change_of e).starts
-    ∙ ap (λ rs. rs ++ map (begun_by script (show s)) (change_of e).starts) (says-led script s (change_of e).mover fits.mover))
+    (says-begun script s (with_mover script (with_mover script s.goroutines (change_of e).mover) (change_of e).partner) (change_of e).starts
+    ∙ ap (λ rs. rs ++ map (begun_by script (show s)) (change_of e).starts) (says-both script s (change_of e).mover (change_of e).partner fits.mover fits.partner two))
     (says-owned script s (change_of e).mover (change_of e).timer)
 
 none-owned : (decls : List Decl) → map owner_in (map (λ (d : Decl). None) decls) ≡ map (λ (d : Decl). None) decls
@@ -172,7 +190,7 @@ none-owned (d ∷ ds) = ap (λ os. None ∷ os) (none-owned ds)
 
 pub everyone-told : (script : Script) (limits : Limits) (h : List Entry) → IsGood script → AllLegal script limits (first_state script) h
     → show (state_after script (first_state script) h) ≡ everyone_told script h
-everyone-told script limits = shown-told script limits show (everyone_by script) (everyone_first script) (λ s e formed fits. one-everyone script s e fits)
+everyone-told script limits = shown-told script limits show (everyone_by script) (everyone_first script) (λ s e formed fits two. one-everyone script s e fits two)
     (both _ _ _ _ refl (none-owned script.decls))
 
 -- ---- and of each of them

@@ -1,8 +1,11 @@
 -- Who can go on, and where nobody can: what the entries tell is what the machine's state after them says.
-use Rattle.std.proofs.Common.{◌≡◌, ℕ, suc, ◌+◌, ◌==◌, List, [], ◌∷◌, ◌++◌, map, slice_get, refl, sym, ap, subst, ◌∙◌, arith, cond, if◌then◌else◌, Option, None, Some, option_map, Bool, false, not, ◌&&◌, ◌||◌, is_some, is_none, nat_le}
+use Rattle.std.proofs.Common.{◌≡◌, ℕ, suc, ◌+◌, ◌<◌, ◌==◌, List, [], ◌∷◌, ◌++◌, length, map, slice_get, refl, sym, ap, subst, ◌∙◌, arith, cond, if◌then◌else◌, Option, None, Some, option_map, Bool, true, false, not, ◌&&◌, ◌||◌, is_some, is_none, nat_le, nat_lt}
+use Rattle.std.proofs.lemmas.Bool.{ltb-true, lt-ltb}
 use Rattle.std.specs.List.{filter_map, list_any, enumerate_from, cons_option}
 use Rattle.gt_model.specs.declared.script.Script.{Script}
 use Rattle.gt_model.specs.declared.script.Instr.{Instr}
+use Rattle.gt_model.specs.declared.script.CaseKind.{CaseKind}
+use Rattle.gt_model.specs.declared.script.What.{What}
 use Rattle.gt_model.specs.declared.entry.Entry.{Entry}
 use Rattle.gt_model.specs.declared.entry.Limits.{Limits}
 use Rattle.gt_model.specs.declared.entry.Reason.{Reason}
@@ -10,18 +13,21 @@ use Rattle.gt_model.specs.declared.state.Goroutine.{Goroutine}
 use Rattle.gt_model.specs.declared.state.Mode.{Mode}
 use Rattle.gt_model.specs.declared.state.Timer.{Timer}
 use Rattle.gt_model.specs.Good.{IsGood}
-use Rattle.gt_model.specs.Script.{instr_at, is_func}
+use Rattle.gt_model.specs.Script.{instr_at, what_at, is_func, is_chan, capacity_of}
 use Rattle.gt_model.specs.Tables.{flatten}
-use Rattle.gt_rules.specs.State.{State, clock, goroutine_at, timer_at, due_of, stands}
-use Rattle.gt_rules.specs.Panics.{fault, when}
-use Rattle.gt_rules.specs.Ready.{is_due, is_ready, is_ready_in, is_ready_instr}
-use Rattle.gt_rules.specs.Counted.{sleep_of, receives, awaits, is_awaited, counted_timer, counted}
+use Rattle.gt_rules.specs.State.{State, clock, goroutine_at, timer_at, due_of, stands, channel_at, item_count, is_closed, is_made}
+use Rattle.gt_rules.specs.Panics.{fault, fault_at, open_fault, or_else, when}
+use Rattle.gt_rules.specs.Ready.{is_due, is_ready, is_ready_in, is_ready_at, is_ready_instr, is_ready_case, is_ready_recv, is_partner, partner_waits, has_partner, has_come, everyone}
+use Rattle.gt_rules.specs.Operations.{receives_from, offers}
+use Rattle.gt_rules.specs.Operations as ops
+use Rattle.gt_rules.specs.Counted.{sleep_of, awaits, is_awaited, counted_timer, counted}
 use Rattle.gt_rules.specs.After.{first_state, timer_world}
 use Rattle.gt_rules.specs.History.{AllLegal, state_after}
 use Rattle.gt_facts.specs.Still.{IsStill}
-use Rattle.gt_laws.specs.Told.{world_in, place_of, wait_of, ToldGoroutine, Everyone, clock_told, due_told, made_told, owner_told, stands_in}
-use Rattle.gt_laws.specs.GoesOn.{misuse_told, can_be_done, goes_on_at, goes_on_in, goes_on_told, IsStillTold, waits_for, waits_at, waited_told, sleep_in, due_counted, counted_told, IsStuckTold}
+use Rattle.gt_laws.specs.Told.{world_in, place_of, wait_of, ToldGoroutine, Everyone, clock_told, due_told, made_told, opened_told, closed_told, sent_told, taken_told, owner_told, stands_in}
+use Rattle.gt_laws.specs.GoesOn.{misuse_told, sends_to, meets_at, is_partner_told, partner_told, gives_told, can_receive, can_send, can_be_done, goes_on_at, goes_on_in, goes_on_told, IsStillTold, waits_for, waits_at, waited_told, sleep_in, due_counted, counted_told, IsStuckTold}
 use Rattle.gt_laws.proofs.Shown.{clock-told, due-told, made-told}
+use Rattle.gt_laws.proofs.Channels.{opened-told, closed-told, count-told}
 use Rattle.gt_laws.proofs.Everyone.{shown, place_in, wait_in, owner_in, until-shown, stands-shown, everyone-told, goroutine-told, owner-told}
 
 abbrev pub reached : Script → List Entry → State
@@ -33,57 +39,187 @@ none-not : {X : Type 0} (o : Option X) → is_none o ≡ not (is_some o)
 none-not None = refl
 none-not (Some x) = refl
 
+-- whether a timer was made, in the words of a misuse; and a channel
 unmade-told : (script : Script) (limits : Limits) (h : List Entry) (t : ℕ) → IsGood script → AllLegal script limits (first_state script) h
     → when (is_none (timer_at (reached script h) t)) Reason.Unmade ≡ when (not (made_told t h)) Reason.Unmade
 unmade-told script limits h t good legal =
     ap (λ b. when b Reason.Unmade) (none-not (timer_at (reached script h) t) ∙ ap not (made-told script limits t h good legal))
+
+unopened-told : (script : Script) (limits : Limits) (h : List Entry) (c : ℕ) → IsGood script → AllLegal script limits (first_state script) h
+    → open_fault (reached script h) c ≡ or_else (when (not (opened_told c h)) Reason.Unmade) (when (closed_told c h) Reason.Closed)
+unopened-told script limits h c good legal =
+    ap (λ b. or_else (when b Reason.Unmade) (when (is_closed (reached script h) c) Reason.Closed))
+    (none-not (channel_at (reached script h) c) ∙ ap not (opened-told script limits c h good legal))
+    ∙ ap (λ b. or_else (when (not (opened_told c h)) Reason.Unmade) (when b Reason.Closed)) (closed-told script limits c h good legal)
+
+has-told : (script : Script) (limits : Limits) (h : List Entry) (o : ℕ) → IsGood script → AllLegal script limits (first_state script) h
+    → is_made (reached script h) o ≡ (made_told o h || opened_told o h)
+has-told script limits h o good legal =
+    ap (λ b. b || is_some (channel_at (reached script h) o)) (made-told script limits o h good legal)
+    ∙ ap (λ b. made_told o h || b) (opened-told script limits o h good legal)
 
 pub misuse-told : (script : Script) (limits : Limits) (h : List Entry) (i : Instr) → IsGood script → AllLegal script limits (first_state script) h
     → fault script (reached script h) i ≡ misuse_told h i
 misuse-told script limits h (Instr.New t d) good legal = ap (λ b. when b Reason.Twice) (made-told script limits t h good legal)
 misuse-told script limits h (Instr.Stop t) good legal = unmade-told script limits h t good legal
 misuse-told script limits h (Instr.Reset t d) good legal = unmade-told script limits h t good legal
-misuse-told script limits h (Instr.Recv o) good legal = unmade-told script limits h o good legal
+misuse-told script limits h (Instr.Recv o) good legal = ap (λ b. when (not b) Reason.Unmade) (has-told script limits h o good legal)
+misuse-told script limits h (Instr.Make c) good legal = ap (λ b. when b Reason.Twice) (opened-told script limits c h good legal)
+misuse-told script limits h (Instr.Send c v) good legal = unopened-told script limits h c good legal
+misuse-told script limits h (Instr.Close c) good legal = unopened-told script limits h c good legal
 misuse-told script limits h _ good legal = refl
 
-done-told : (script : Script) (limits : Limits) (h : List Entry) (w : ℕ) (i : Instr) → IsGood script → AllLegal script limits (first_state script) h
-    → is_ready_instr script (reached script h) w i ≡ can_be_done h (clock_told w h) i
-done-told script limits h w (Instr.Recv t) good legal =
-    ap (λ (o : Option ℕ). is_due o (clock (reached script h) w)) (due-told script limits t h good legal)
-    ∙ ap (λ now. is_due (due_told t h) now) (clock-told script limits w h good legal)
-done-told script limits h w _ good legal = refl
+-- ---- the partner of who stands at a channel that keeps no values
+
+recv-waits : (t : ℕ) (i : Instr) → offers (receives_from t) i ≡ waits_for t i
+recv-waits t (Instr.Recv o) = refl
+recv-waits t (Instr.Send c v) = refl
+recv-waits t _ = refl
+
+send-sends : (k : ℕ) (i : Instr) → offers (ops.sends_to k) i ≡ sends_to k i
+send-sends k (Instr.Recv o) = refl
+send-sends k (Instr.Send c v) = refl
+send-sends k _ = refl
+
+-- no panic is no misuse
+calm-told : (o : Option Reason) → is_none (elim o as (λ o. Option (ℕ × Reason)) [ None ↦ None | Some reason ↦ Some (0, reason) ]) ≡ is_none o
+calm-told None = refl
+calm-told (Some reason) = refl
+
+none-there : (b : Bool) → (((b && true) && true) && false) ≡ (b && false)
+none-there true = refl
+none-there false = refl
+
+some-there : (b c d : Bool) → (((b && true) && c) && d) ≡ (b && (c && d))
+some-there true c d = refl
+some-there false c d = refl
+
+-- who stands at an instruction, in the words of the state and of the entries
+partner-at : (script : Script) (limits : Limits) (h : List Entry) (b : Bool) (test : CaseKind → Bool) (told : Instr → Bool) (o : Option Instr) → IsGood script
+    → AllLegal script limits (first_state script) h → ((i : Instr) → offers test i ≡ told i)
+    → (b && true && is_none (elim o as (λ o. Option (ℕ × Reason)) [ None ↦ None | Some i ↦ fault_at script (reached script h) i ])
+    && (elim o as (λ o. Bool) [ None ↦ false | Some i ↦ offers test i ])) ≡ (b && meets_at h told o)
+partner-at script limits h b test told None good legal same = none-there b
+partner-at script limits h b test told (Some i) good legal same =
+    some-there b (is_none (fault_at script (reached script h) i)) (offers test i)
+    ∙ (ap (λ c. b && (c && offers test i)) (calm-told (fault script (reached script h) i) ∙ ap is_none (misuse-told script limits h i good legal))
+    ∙ ap (λ c. b && (is_none (misuse_told h i) && c)) (same i))
+
+partner-one : (script : Script) (limits : Limits) (h : List Entry) (me : ℕ) (test : CaseKind → Bool) (told : Instr → Bool) → IsGood script
+    → AllLegal script limits (first_state script) h → ((i : Instr) → offers test i ≡ told i) → (g : ℕ) (r : Goroutine)
+    → is_partner script (reached script h) everyone me test (g, r) ≡ is_partner_told script h me told (g, shown r)
+partner-one script limits h me test told good legal same g r =
+    partner-at script limits h (not (g == me)) test told (stands script r) good legal same
+    ∙ ap (λ (o : Option Instr). not (g == me) && meets_at h told o) (stands-shown script r.place r.mode)
+
+any-enumerated_map : {X Y : Type 0} (f : ℕ × X → Bool) (k : ℕ × Y → Bool) (m : X → Y) (n : ℕ) (xs : List X) → ((i : ℕ) (x : X) → f (i, x) ≡ k (i, m x))
+    → list_any f (enumerate_from n xs) ≡ list_any k (enumerate_from n (map m xs))
+any-enumerated_map f k m n [] same = refl
+any-enumerated_map f k m n (x ∷ xs) same =
+    ap (λ b. b || list_any f (enumerate_from (n + 1) xs)) (same n x) ∙ ap (λ b. k (n, m x) || b) (any-enumerated_map f k m (n + 1) xs same)
+
+waits-told : (script : Script) (limits : Limits) (h : List Entry) (me : ℕ) (test : CaseKind → Bool) (told : Instr → Bool) → IsGood script
+    → AllLegal script limits (first_state script) h → ((i : Instr) → offers test i ≡ told i)
+    → partner_waits script (reached script h) everyone me test ≡ partner_told script h me told
+waits-told script limits h me test told good legal same =
+    any-enumerated_map (is_partner script (reached script h) everyone me test) (is_partner_told script h me told) shown 1 (reached script h).goroutines
+    (partner-one script limits h me test told good legal same)
+    ∙ ap (λ (all : Everyone). list_any (is_partner_told script h me told) (enumerate_from 1 all.goroutines)) (everyone-told script limits h good legal)
+
+-- ---- what can be done
+
+-- two comparisons that follow from one another
+same-lt : (a b c d : ℕ) → (a < b → c < d) → (c < d → a < b) → nat_lt a b ≡ nat_lt c d
+same-lt a b c d on back =
+    elim (nat_lt a b) as (λ x. nat_lt a b ≡ x → x ≡ nat_lt c d) [
+      | true ↦ λ e. sym (lt-ltb c d (on (ltb-true a b e)))
+      | false ↦ λ e.
+          elim (nat_lt c d) as (λ y. nat_lt c d ≡ y → false ≡ y) [
+            | true ↦ λ f. let yes : nat_lt a b ≡ true = lt-ltb a b (back (ltb-true c d f)) in let both : false ≡ true = sym e ∙ yes in both
+            | false ↦ λ f. refl
+          ] refl
+    ] refl
+
+some-told : (script : Script) (limits : Limits) (h : List Entry) (c : ℕ) → IsGood script → AllLegal script limits (first_state script) h
+    → nat_lt 0 (item_count (reached script h) c) ≡ nat_lt (taken_told c h) (length (sent_told c h))
+some-told script limits h c good legal =
+    let n : ℕ = item_count (reached script h) c in
+    let k : n + taken_told c h ≡ length (sent_told c h) = count-told script limits c h good legal in
+    same-lt 0 n (taken_told c h) (length (sent_told c h)) (λ l. omega arith) (λ l. omega arith)
+
+room-told : (script : Script) (limits : Limits) (h : List Entry) (c room : ℕ) → IsGood script → AllLegal script limits (first_state script) h
+    → nat_lt (item_count (reached script h) c) room ≡ nat_lt (length (sent_told c h)) (room + taken_told c h)
+room-told script limits h c room good legal =
+    let n : ℕ = item_count (reached script h) c in
+    let k : n + taken_told c h ≡ length (sent_told c h) = count-told script limits c h good legal in
+    same-lt n room (length (sent_told c h)) (room + taken_told c h) (λ l. omega arith) (λ l. omega arith)
+
+gives-told : (script : Script) (limits : Limits) (h : List Entry) (w o : ℕ) (what : Option What) → IsGood script → AllLegal script limits (first_state script) h
+    → is_ready_recv (reached script h) (has_come (reached script h) w) o what ≡ gives_told h (clock_told w h) o what
+gives-told script limits h w o None good legal = refl
+gives-told script limits h w o (Some What.Timer) good legal =
+    ap (λ (due : Option ℕ). is_due due (clock (reached script h) w)) (due-told script limits o h good legal)
+    ∙ ap (λ now. is_due (due_told o h) now) (clock-told script limits w h good legal)
+gives-told script limits h w o (Some (What.AfterFunc func)) good legal = refl
+gives-told script limits h w o (Some (What.Chan cap)) good legal =
+    ap (λ b. b || is_closed (reached script h) o) (some-told script limits h o good legal)
+    ∙ ap (λ b. nat_lt (taken_told o h) (length (sent_told o h)) || b) (closed-told script limits o h good legal)
+gives-told script limits h w o (Some What.Function) good legal = refl
+
+receive-told : (script : Script) (limits : Limits) (h : List Entry) (g w o : ℕ) → IsGood script → AllLegal script limits (first_state script) h
+    → is_ready_case script (reached script h) (has_come (reached script h) w) everyone g (CaseKind.Recv o) ≡ can_receive script h g (clock_told w h) o
+receive-told script limits h g w o good legal =
+    ap (λ b. b || has_partner script (reached script h) everyone g (CaseKind.Recv o)) (gives-told script limits h w o (what_at script o) good legal)
+    ∙ ap (λ b. gives_told h (clock_told w h) o (what_at script o) || (is_chan script o && capacity_of script o == 0 && b))
+    (waits-told script limits h g (ops.sends_to o) (sends_to o) good legal (send-sends o))
+
+send-told : (script : Script) (limits : Limits) (h : List Entry) (g w c v : ℕ) → IsGood script → AllLegal script limits (first_state script) h
+    → is_ready_case script (reached script h) (has_come (reached script h) w) everyone g (CaseKind.Send c v) ≡ can_send script h g c
+send-told script limits h g w c v good legal =
+    ap (λ b. (b || nat_lt (item_count (reached script h) c) (capacity_of script c)) || has_partner script (reached script h) everyone g (CaseKind.Send c v))
+    (closed-told script limits c h good legal)
+    ∙ (ap (λ b. (closed_told c h || b) || has_partner script (reached script h) everyone g (CaseKind.Send c v)) (room-told script limits h c (capacity_of script c) good legal)
+    ∙ ap (λ b. (closed_told c h || nat_lt (length (sent_told c h)) (capacity_of script c + taken_told c h)) || (capacity_of script c == 0 && b))
+    (waits-told script limits h g (receives_from c) (waits_for c) good legal (recv-waits c)))
+
+done-told : (script : Script) (limits : Limits) (h : List Entry) (g w : ℕ) (i : Instr) → IsGood script → AllLegal script limits (first_state script) h
+    → is_ready_instr script (reached script h) (has_come (reached script h) w) everyone g i ≡ can_be_done script h g (clock_told w h) i
+done-told script limits h g w (Instr.Recv o) good legal = receive-told script limits h g w o good legal
+done-told script limits h g w (Instr.Send c v) good legal = send-told script limits h g w c v good legal
+done-told script limits h g w (Instr.LoopTop depth count past) good legal = refl
+done-told script limits h g w (Instr.LoopEnd depth top) good legal = refl
+done-told script limits h g w _ good legal = refl
 
 -- ---- who goes on
 
-at-told : (script : Script) (limits : Limits) (h : List Entry) (w : ℕ) (o : Option Instr) → IsGood script → AllLegal script limits (first_state script) h
-    → (elim o as (λ o. Bool) [ None ↦ false | Some i ↦ is_some (fault script (reached script h) i) || is_ready_instr script (reached script h) w i ])
-    ≡ goes_on_at h (clock_told w h) o
-at-told script limits h w None good legal = refl
-at-told script limits h w (Some i) good legal =
-    ap (λ (o : Option Reason). is_some o || is_ready_instr script (reached script h) w i) (misuse-told script limits h i good legal)
-    ∙ ap (λ b. is_some (misuse_told h i) || b) (done-told script limits h w i good legal)
+at-told : (script : Script) (limits : Limits) (h : List Entry) (g w : ℕ) (o : Option Instr) → IsGood script → AllLegal script limits (first_state script) h
+    → is_ready_at script (reached script h) (has_come (reached script h) w) everyone g o ≡ goes_on_at script h g (clock_told w h) o
+at-told script limits h g w None good legal = refl
+at-told script limits h g w (Some i) good legal =
+    ap (λ (o : Option Reason). is_some o || is_ready_instr script (reached script h) (has_come (reached script h) w) everyone g i) (misuse-told script limits h i good legal)
+    ∙ ap (λ b. is_some (misuse_told h i) || b) (done-told script limits h g w i good legal)
 
-ready-told : (script : Script) (limits : Limits) (h : List Entry) (r : Goroutine) (mode : Mode) → IsGood script → AllLegal script limits (first_state script) h
-    → is_ready_in script (reached script h) r mode ≡ goes_on_in script h (clock_told r.world h) (place_in r.place mode) (wait_in mode)
-ready-told script limits h r Mode.At good legal = at-told script limits h r.world (instr_at script r.place) good legal
-ready-told script limits h r (Mode.Sleeping until) good legal = ap (λ now. nat_le until now) (clock-told script limits r.world h good legal)
-ready-told script limits h r Mode.Ended good legal = refl
+ready-told : (script : Script) (limits : Limits) (h : List Entry) (g : ℕ) (r : Goroutine) (mode : Mode) → IsGood script → AllLegal script limits (first_state script) h
+    → is_ready_in script (reached script h) g r mode ≡ goes_on_in script h g (clock_told r.world h) (place_in r.place mode) (wait_in mode)
+ready-told script limits h g r Mode.At good legal = at-told script limits h g r.world (instr_at script r.place) good legal
+ready-told script limits h g r (Mode.Sleeping until) good legal = ap (λ now. nat_le until now) (clock-told script limits r.world h good legal)
+ready-told script limits h g r Mode.Ended good legal = refl
 
-abbrev ready_in : Script → State → Option Goroutine → Bool
-ready_in script s None = false
-ready_in script s (Some r) = is_ready script s r
+abbrev ready_in : Script → State → ℕ → Option Goroutine → Bool
+ready_in script s g None = false
+ready_in script s g (Some r) = is_ready script s g r
 
-abbrev goes_on_of : Script → List Entry → Option ToldGoroutine → Bool
-goes_on_of script h o = goes_on_in script h (clock_told (world_in o) h) (place_of o) (wait_of o)
+abbrev goes_on_of : Script → List Entry → ℕ → Option ToldGoroutine → Bool
+goes_on_of script h g o = goes_on_in script h g (clock_told (world_in o) h) (place_of o) (wait_of o)
 
 goes-on : (script : Script) (limits : Limits) (h : List Entry) (g : ℕ) → IsGood script → AllLegal script limits (first_state script) h
-    → ready_in script (reached script h) (goroutine_at (reached script h) g) ≡ goes_on_told script g h
+    → ready_in script (reached script h) g (goroutine_at (reached script h) g) ≡ goes_on_told script g h
 goes-on script limits h g good legal =
-    elim (goroutine_at (reached script h) g) as (λ o. ready_in script (reached script h) o ≡ goes_on_of script h (option_map shown o)) [
+    elim (goroutine_at (reached script h) g) as (λ o. ready_in script (reached script h) g o ≡ goes_on_of script h g (option_map shown o)) [
       | None ↦ refl
-      | Some r ↦ ready-told script limits h r r.mode good legal
+      | Some r ↦ ready-told script limits h g r r.mode good legal
     ]
-    ∙ ap (λ (o : Option ToldGoroutine). goes_on_of script h o) (goroutine-told script limits g h good legal)
+    ∙ ap (λ (o : Option ToldGoroutine). goes_on_of script h g o) (goroutine-told script limits g h good legal)
 
 -- ---- AfterFunc timers
 
@@ -103,7 +239,7 @@ pub still-told : (script : Script) (limits : Limits) (h : List Entry) → IsGood
     → IsStill script (reached script h) → IsStillTold script h
 still-told script limits h good legal still = record {
   nobody = λ g. sym (goes-on script limits h g good legal)
-      ∙ elim (goroutine_at (reached script h) g) as (λ o. goroutine_at (reached script h) g ≡ o → ready_in script (reached script h) o ≡ false) [
+      ∙ elim (goroutine_at (reached script h) g) as (λ o. goroutine_at (reached script h) g ≡ o → ready_in script (reached script h) g o ≡ false) [
         | None ↦ λ e. refl
         | Some r ↦ λ e. still.nobody_ready g r e
       ] refl;
@@ -117,7 +253,7 @@ still-told script limits h good legal still = record {
 pub told-still : (script : Script) (limits : Limits) (h : List Entry) → IsGood script → AllLegal script limits (first_state script) h
     → IsStillTold script h → IsStill script (reached script h)
 told-still script limits h good legal still = record {
-  nobody_ready = λ g r e. sym (ap (λ (o : Option Goroutine). ready_in script (reached script h) o) e) ∙ (goes-on script limits h g good legal ∙ still.nobody g);
+  nobody_ready = λ g r e. sym (ap (λ (o : Option Goroutine). ready_in script (reached script h) g o) e) ∙ (goes-on script limits h g good legal ∙ still.nobody g);
   no_func_due = λ t r e func. sym (ap (λ (o : Option Timer). come_in (reached script h) o) e) ∙ (come-told script limits h t good legal ∙ still.no_func t func);
 }
 
@@ -147,13 +283,9 @@ given-enumerated f k m n (x ∷ xs) same =
 sleep-told : (w : ℕ) (r : Goroutine) → sleep_of w r ≡ sleep_in w (shown r)
 sleep-told w r = ap (λ (o : Option ℕ). if r.world == w then o else None) (until-shown r.mode)
 
-receives-waits : (t : ℕ) (i : Instr) → receives t i ≡ waits_for t i
-receives-waits t (Instr.Recv o) = refl
-receives-waits t _ = refl
-
-waits-there : (t : ℕ) (o : Option Instr) → (elim o as (λ o. Bool) [ None ↦ false | Some i ↦ receives t i ]) ≡ waits_at t o
+waits-there : (t : ℕ) (o : Option Instr) → (elim o as (λ o. Bool) [ None ↦ false | Some i ↦ offers (receives_from t) i ]) ≡ waits_at t o
 waits-there t None = refl
-waits-there t (Some i) = receives-waits t i
+waits-there t (Some i) = recv-waits t i
 
 abbrev waits_of : Script → ℕ → ℕ → ToldGoroutine → Bool
 waits_of script w t r = r.world == w && waits_at t (stands_in script r.place r.wait)

@@ -8,7 +8,7 @@ use Rattle.gt_model.specs.Good.{IsGood}
 use Rattle.gt_rules.specs.State.{State}
 use Rattle.gt_rules.specs.Finish.{Legal}
 use Rattle.gt_rules.specs.History.{History}
-use Rattle.gt_laws.specs.Laws.{AtEach, InOrder, InTime, IsFresh, UsesRightly}
+use Rattle.gt_laws.specs.Laws.{AtEach, InOrder, InTime, IsFresh, PassesOn, UsesRightly}
 use Rattle.gt_laws.proofs.GoesOn.{reached}
 use Rattle.gt_laws.proofs.Rows.{Behind, Obeys, Rule, row}
 use Rattle.gt_laws.proofs.Comes.{Comes, each}
@@ -36,3 +36,7 @@ each-fresh = each (λ script limits. IsFresh) (λ script limits front e c. (obey
 pub each-uses_rightly : (script : Script) (limits : Limits) (h : List Entry) (outcome : Outcome) → IsGood script → History script limits h outcome
     → AtEach (UsesRightly script) h
 each-uses_rightly = each (λ script limits. UsesRightly script) (λ script limits front e c. (obeys script limits front e c).uses)
+
+pub each-passes_on : (script : Script) (limits : Limits) (h : List Entry) (outcome : Outcome) → IsGood script → History script limits h outcome
+    → AtEach (PassesOn script) h
+each-passes_on = each (λ script limits. PassesOn script) (λ script limits front e c. (obeys script limits front e c).passes)

@@ -1,5 +1,6 @@
 pub mod Numbers
 pub mod Shown
+pub mod Channels
 pub mod Everyone
 pub mod GoesOn
 pub mod Rows

@@ -1,7 +1,9 @@
 -- At each entry but a finish the laws ask what the machine's rules ask, no more and no less: of what is shown of the laws here alone each kind of entry has a clause.
-use Rattle.std.proofs.Common.{◌≡◌, ℕ, zero, suc, ◌+◌, ◌<◌, ◌≤◌, List, refl, sym, ap, subst, ◌∙◌, Option, None, Some, true, false, not, is_some, IsSome, IsSomeAnd, IsTrue}
-use Rattle.std.proofs.lemmas.Bool.{leb-true, le-leb}
+use Rattle.std.proofs.Common.{◌≡◌, ℕ, zero, suc, ◌+◌, ◌<◌, ◌≤◌, List, [], length, slice_get, refl, sym, ap, subst, ◌∙◌, arith, Option, None, Some, Bool, true, false, not, is_some, IsSome, IsSomeAnd, IsTrue}
+use Rattle.std.proofs.lemmas.Bool.{leb-true, le-leb, or_left, or_right}
+use Rattle.std.proofs.lemmas.List.{drop_all}
 use Rattle.gt_model.specs.declared.script.Script.{Script}
+use Rattle.gt_model.specs.declared.script.CaseKind.{CaseKind}
 use Rattle.gt_model.specs.declared.script.Instr.{Instr}
 use Rattle.gt_model.specs.declared.entry.Entry.{Entry}
 use Rattle.gt_model.specs.declared.entry.Limits.{Limits}
@@ -9,20 +11,24 @@ use Rattle.gt_model.specs.declared.entry.Party.{Party}
 use Rattle.gt_model.specs.declared.entry.Reason.{Reason}
 use Rattle.gt_model.specs.declared.state.Timer.{Timer}
 use Rattle.gt_model.specs.Good.{IsGood}
-use Rattle.gt_rules.specs.State.{State, clock, clock_of, stands_at, sleeps_until, timer_at, due_of, next_number}
-use Rattle.gt_rules.specs.Panics.{fault_at, panic_at, when}
+use Rattle.gt_model.specs.Script.{capacity_of}
+use Rattle.gt_rules.specs.State.{State, Channel, clock, clock_of, stands_at, sleeps_until, timer_at, due_of, next_number, channel_at, items_of, item_count, is_closed, is_open}
+use Rattle.gt_rules.specs.Operations.{operation}
+use Rattle.gt_rules.specs.Panics.{fault_at, panic_at, when, or_else}
 use Rattle.gt_rules.specs.Ready.{is_due}
 use Rattle.gt_rules.specs.declared.change.Setting.{Setting}
+use Rattle.gt_rules.specs.declared.change.Trade.{Trade}
 use Rattle.gt_rules.specs.After.{first_state, timer_world}
-use Rattle.gt_rules.specs.Legal.{May, Does, Receives, operation, due_at, sleep_end, was_set}
+use Rattle.gt_rules.specs.Legal.{May, Does, Operates, due_at, sleep_end, was_set}
 use Rattle.gt_rules.specs.History.{AllLegal}
-use Rattle.gt_facts.proofs.Lookups.{AtOperation, at_operation, is_plain, stands_recv, names-Does}
-use Rattle.gt_facts.proofs.Makers.{Sets, sets, was_made}
+use Rattle.gt_facts.proofs.Lookups.{AtOperation, at_operation, is_plain, stands_recv, stands_send}
+use Rattle.gt_facts.proofs.Makers.{Sets, sets, was_made, Trades, trades-May, IsOpened, is_open-IsOpened}
 use Rattle.gt_facts.proofs.Still.{panic_stands}
-use Rattle.gt_laws.specs.Told.{clock_told, due_told, made_told, now_told, owner_told, started_told, stands_told, until_told}
+use Rattle.gt_laws.specs.Told.{clock_told, due_told, made_told, opened_told, closed_told, sent_told, taken_told, now_told, owner_told, started_told, stands_told, until_told}
 use Rattle.gt_laws.specs.GoesOn.{misuse_told}
-use Rattle.gt_laws.specs.Laws.{InOrder, InTime, IsFresh, UsesRightly}
+use Rattle.gt_laws.specs.Laws.{InOrder, InTime, IsFresh, PassesOn, UsesRightly}
 use Rattle.gt_laws.proofs.Shown.{clock-told, due-told, made-told, started-told}
+use Rattle.gt_laws.proofs.Channels.{closed_in, opened-told, closed-told, kept-told, count-told, drop-first}
 use Rattle.gt_laws.proofs.Everyone.{now-told, owner-told, stands-told, until-told}
 use Rattle.gt_laws.proofs.GoesOn.{reached, misuse-told}
 use Rattle.gt_laws.proofs.Panics.{Panics, panics}
@@ -38,6 +44,7 @@ pub record Obeys (script : Script) (front : List Entry) (e : Entry) : Type 0 whe
   pub time : InTime script front e
   pub fresh : IsFresh front e
   pub uses : UsesRightly script front e
+  pub passes : PassesOn script front e
 
 -- the rule of an entry: that of a finish is no row of May
 abbrev pub Rule : Script → State → Entry → Type 0
@@ -95,11 +102,111 @@ made-once front t h = ap (λ b. when b Reason.Twice) h
 used-made : (front : List Entry) (t : ℕ) → made_told t front ≡ true → when (not (made_told t front)) Reason.Unmade ≡ None
 used-made front t h = ap (λ b. when (not b) Reason.Unmade) h
 
-receives : (script : Script) (s : State) (p : Party) (t : ℕ) → Does script s p.g (Instr.Recv t) → p.case_no ≡ 0 → Receives script s p t
-receives script s p t call plain = record {
-  stands = ap (λ (o : Option Instr). elim o as (λ o. Option ℕ) [ None ↦ None | Some i ↦ operation i p.case_no ]) call.stands ∙ ap (operation (Instr.Recv t)) plain;
+-- the receive from a timer that was made, and from a channel that was
+recv-made : (front : List Entry) (t : ℕ) → made_told t front ≡ true → misuse_told front (Instr.Recv t) ≡ None
+recv-made front t h = ap (λ b. when (not b) Reason.Unmade) (or_left (made_told t front) (opened_told t front) h)
+
+recv-opened : (front : List Entry) (c : ℕ) → opened_told c front ≡ true → misuse_told front (Instr.Recv c) ≡ None
+recv-opened front c h = ap (λ b. when (not b) Reason.Unmade) (or_right (made_told c front) (opened_told c front) h)
+
+-- the use of a channel that was made and not closed
+used-open : (front : List Entry) (c : ℕ) → opened_told c front ≡ true → closed_told c front ≡ false
+    → or_else (when (not (opened_told c front)) Reason.Unmade) (when (closed_told c front) Reason.Closed) ≡ None
+used-open front c made unshut =
+    ap (λ b. or_else (when (not b) Reason.Unmade) (when (closed_told c front) Reason.Closed)) made ∙ ap (λ b. when b Reason.Closed) unshut
+
+-- ---- what the state says of a channel is what is told
+
+opened-there : {script : Script} {limits : Limits} {front : List Entry} (b : Behind script limits front) (c : ℕ) → is_some (channel_at (reached script front) c) ≡ true
+    → opened_told c front ≡ true
+opened-there {script} {limits} {front} b c h = sym (opened-told script limits c front b.good b.before) ∙ h
+
+closed-there : {script : Script} {limits : Limits} {front : List Entry} (b : Behind script limits front) (c : ℕ) (shut : Bool) → is_closed (reached script front) c ≡ shut
+    → closed_told c front ≡ shut
+closed-there {script} {limits} {front} b c shut h = sym (closed-told script limits c front b.good b.before) ∙ h
+
+made-open : (o : Option Channel) → is_some o ≡ true → closed_in o ≡ false → (elim o as (λ o. Bool) [ None ↦ false | Some r ↦ not r.closed ]) ≡ true
+made-open None made unshut = cc
+made-open (Some r) made unshut = ap not unshut
+
+open-there : {script : Script} {limits : Limits} {front : List Entry} (b : Behind script limits front) (c : ℕ) → opened_told c front ≡ true → closed_told c front ≡ false
+    → is_open (reached script front) c ≡ true
+open-there {script} {limits} {front} b c made unshut =
+    made-open (channel_at (reached script front) c) (opened-told script limits c front b.good b.before ∙ made) (closed-told script limits c front b.good b.before ∙ unshut)
+
+closed-made : (o : Option Channel) → closed_in o ≡ true → is_some o ≡ true
+closed-made None h = cc
+closed-made (Some r) h = refl
+
+-- the rooms of a channel
+room-told : {script : Script} {limits : Limits} {front : List Entry} (b : Behind script limits front) (c : ℕ) → item_count (reached script front) c < capacity_of script c
+    → length (sent_told c front) < capacity_of script c + taken_told c front
+room-told {script} {limits} {front} b c h =
+    let n : ℕ = item_count (reached script front) c in
+    let count : n + taken_told c front ≡ length (sent_told c front) = count-told script limits c front b.good b.before in
+    let room : n < capacity_of script c = h in
+    omega arith
+
+told-room : {script : Script} {limits : Limits} {front : List Entry} (b : Behind script limits front) (c : ℕ)
+    → length (sent_told c front) < capacity_of script c + taken_told c front → item_count (reached script front) c < capacity_of script c
+told-room {script} {limits} {front} b c h =
+    let n : ℕ = item_count (reached script front) c in
+    let count : n + taken_told c front ≡ length (sent_told c front) = count-told script limits c front b.good b.before in
+    let room : length (sent_told c front) < capacity_of script c + taken_told c front = h in
+    omega arith
+
+-- its next value: the first one that was sent and not yet received
+next-told : {script : Script} {limits : Limits} {front : List Entry} (b : Behind script limits front) (c : ℕ)
+    → slice_get (items_of (reached script front) c) 0 ≡ slice_get (sent_told c front) (taken_told c front)
+next-told {script} {limits} {front} b c =
+    ap (λ (vs : List ℕ). slice_get vs 0) (kept-told script limits c front b.good b.before).items ∙ drop-first (sent_told c front) (taken_told c front)
+
+drained-told : {script : Script} {limits : Limits} {front : List Entry} (b : Behind script limits front) (c : ℕ) → items_of (reached script front) c ≡ []
+    → taken_told c front ≡ length (sent_told c front)
+drained-told {script} {limits} {front} b c h =
+    let none : item_count (reached script front) c ≡ 0 = ap (λ (vs : List ℕ). length vs) h in
+    let count : item_count (reached script front) c + taken_told c front ≡ length (sent_told c front) = count-told script limits c front b.good b.before in
+    omega arith
+
+told-drained : {script : Script} {limits : Limits} {front : List Entry} (b : Behind script limits front) (c : ℕ) → taken_told c front ≡ length (sent_told c front)
+    → items_of (reached script front) c ≡ []
+told-drained {script} {limits} {front} b c h =
+    let all : length (sent_told c front) ≤ taken_told c front = omega arith in
+    (kept-told script limits c front b.good b.before).items ∙ drop_all (taken_told c front) (sent_told c front) all
+
+-- ---- who is a party of an operation
+
+operates : (script : Script) (s : State) (p : Party) (i : Instr) (kind : CaseKind) → operation i 0 ≡ Some kind → Does script s p.g i → p.case_no ≡ 0 → Operates script s p kind
+operates script s p i kind has call plain = record {
+  stands = ap (λ (o : Option Instr). elim o as (λ o. Option CaseKind) [ None ↦ None | Some i ↦ operation i p.case_no ]) call.stands ∙ (ap (operation i) plain ∙ has);
   calm = call.calm;
 }
+
+-- a plain call of an instruction
+abbrev Plainly : Script → List Entry → Party → Instr → Type 0
+Plainly script front p i = (stands_told script p.g front ≡ Some i) × (p.case_no ≡ 0)
+
+recv-told : {script : Script} {limits : Limits} {front : List Entry} (b : Behind script limits front) (p : Party) (o : ℕ) → Operates script (reached script front) p (CaseKind.Recv o)
+    → Plainly script front p (Instr.Recv o)
+recv-told {script} {limits} {front} b p o call =
+    let at : AtOperation script (reached script front) p (CaseKind.Recv o) = at_operation script (reached script front) p (CaseKind.Recv o) call.stands in
+    (told b p.g (Instr.Recv o) (stands_recv script (reached script front) p o call.stands), is_plain at.instr p.case_no (CaseKind.Recv o) at.has)
+
+send-told : {script : Script} {limits : Limits} {front : List Entry} (b : Behind script limits front) (p : Party) (c v : ℕ)
+    → Operates script (reached script front) p (CaseKind.Send c v) → Plainly script front p (Instr.Send c v)
+send-told {script} {limits} {front} b p c v call =
+    let at : AtOperation script (reached script front) p (CaseKind.Send c v) = at_operation script (reached script front) p (CaseKind.Send c v) call.stands in
+    (told b p.g (Instr.Send c v) (stands_send script (reached script front) p c v call.stands), is_plain at.instr p.case_no (CaseKind.Send c v) at.has)
+
+told-recv : {script : Script} {limits : Limits} {front : List Entry} (b : Behind script limits front) (p : Party) (o : ℕ) → misuse_told front (Instr.Recv o) ≡ None
+    → stands_told script p.g front ≡ Some (Instr.Recv o) → p.case_no ≡ 0 → Operates script (reached script front) p (CaseKind.Recv o)
+told-recv {script} {limits} {front} b p o calm on plain =
+    operates script (reached script front) p (Instr.Recv o) (CaseKind.Recv o) refl (does b p.g (Instr.Recv o) on calm) plain
+
+told-send : {script : Script} {limits : Limits} {front : List Entry} (b : Behind script limits front) (p : Party) (c v : ℕ) → misuse_told front (Instr.Send c v) ≡ None
+    → stands_told script p.g front ≡ Some (Instr.Send c v) → p.case_no ≡ 0 → Operates script (reached script front) p (CaseKind.Send c v)
+told-send {script} {limits} {front} b p c v calm on plain =
+    operates script (reached script front) p (Instr.Send c v) (CaseKind.Send c v) refl (does b p.g (Instr.Send c v) on calm) plain
 
 -- ---- whose time has come
 
@@ -178,9 +285,9 @@ Row script front e = (Rule script (reached script front) e → Obeys script fron
 pub row : {script : Script} {limits : Limits} {front : List Entry} (b : Behind script limits front) (e : Entry) → Row script front e
 row b (Entry.Say g n) = (λ may. assumption (told b g (Instr.Say n) may.stands), λ o. does b g (Instr.Say n) o.order refl)
 row b (Entry.Now g at) =
-    (λ may. record { order = told b g Instr.Now may.0.stands; time = may.1 ∙ now b g; fresh = tt; uses = tt }, λ o. (does b g Instr.Now o.order refl, o.time ∙ sym (now b g)))
+    (λ may. record { order = told b g Instr.Now may.0.stands; time = may.1 ∙ now b g; fresh = tt; uses = tt; passes = tt }, λ o. (does b g Instr.Now o.order refl, o.time ∙ sym (now b g)))
 row b (Entry.Go g child f) = (
-  λ may. record { order = (told b g (Instr.Go f) may.0.stands, may.1 ∙ next b); time = tt; fresh = tt; uses = tt },
+  λ may. record { order = (told b g (Instr.Go f) may.0.stands, may.1 ∙ next b); time = tt; fresh = tt; uses = tt; passes = tt },
   λ o. (does b g (Instr.Go f) o.order.0 refl, o.order.1 ∙ sym (next b)),
 )
 row b (Entry.End g) = (λ may. assumption (told b g Instr.Finish may.stands), λ o. does b g Instr.Finish o.order refl)
@@ -190,11 +297,12 @@ row b (Entry.Sleep g until) = (
     time = tt;
     fresh = tt;
     uses = tt;
+    passes = tt;
   },
   λ o. (o.order.0, does b g (Instr.Sleep o.order.0) o.order.1 refl, o.order.2 ∙ ap (λ time. sleep_end time o.order.0) (sym (now b g))),
 )
 row {script} {limits} {front} b (Entry.Wake g) = (
-  λ may. record { order = some-and (until_told script g front) _ (wakes-told b g may); time = wakes-told b g may; fresh = tt; uses = tt },
+  λ may. record { order = some-and (until_told script g front) _ (wakes-told b g may); time = wakes-told b g may; fresh = tt; uses = tt; passes = tt },
   λ o. told-wakes b g o.time,
 )
 row {script} {limits} {front} b (Entry.New g t due) = (
@@ -203,6 +311,7 @@ row {script} {limits} {front} b (Entry.New g t due) = (
     time = tt;
     fresh = tt;
     uses = made b t (Setting.Made due) (sets script (reached script front) (Entry.New g t due) b.good may);
+    passes = tt;
   },
   λ o. (o.order.0, does b g (Instr.New t o.order.0) o.order.1 (made-once front t o.uses), o.order.2 ∙ ap (λ time. due_at time o.order.0) (sym (now b g))),
 )
@@ -212,6 +321,7 @@ row {script} {limits} {front} b (Entry.Stop g t answer) = (
     time = tt;
     fresh = may.1 ∙ was b t;
     uses = made b t (Setting.Ended None) (sets script (reached script front) (Entry.Stop g t answer) b.good may);
+    passes = tt;
   },
   λ o. (does b g (Instr.Stop t) o.order (used-made front t o.uses), o.fresh ∙ sym (was b t)),
 )
@@ -221,6 +331,7 @@ row {script} {limits} {front} b (Entry.Reset g t answer due) = (
     time = tt;
     fresh = may.2 ∙ was b t;
     uses = made b t (Setting.SetAnew due) (sets script (reached script front) (Entry.Reset g t answer due) b.good may);
+    passes = tt;
   },
   λ o. (
     o.order.0,
@@ -231,21 +342,21 @@ row {script} {limits} {front} b (Entry.Reset g t answer due) = (
 )
 row {script} {limits} {front} b (Entry.TRecv p t due later) = (
   λ may.
-      let at : AtOperation script (reached script front) p t = at_operation script (reached script front) p t may.0.stands in
+      let at : Plainly script front p (Instr.Recv t) = recv-told b p t may.0 in
       record {
-        order = (told b p.g (Instr.Recv t) (stands_recv script (reached script front) p t may.0.stands), is_plain at.instr p.case_no t at.has);
+        order = (at.0, at.1, may.1);
         time = subst (λ time. due ≤ time) (now b p.g) may.3;
         fresh = (sym (due-told script limits t front b.good b.before) ∙ may.2, may.4);
         uses = made b t (Setting.Ended later) (sets script (reached script front) (Entry.TRecv p t due later) b.good may);
+        passes = tt;
       },
-  λ o.
-      let call : Does script (reached script front) p.g (Instr.Recv t) = does b p.g (Instr.Recv t) o.order.0 (used-made front t o.uses) in (
-        receives script (reached script front) p t call o.order.1,
-        names-Does script (reached script front) p.g (Instr.Recv t) b.good call,
-        due-told script limits t front b.good b.before ∙ o.fresh.0,
-        subst (λ time. due ≤ time) (sym (now b p.g)) o.time,
-        o.fresh.1,
-      ),
+  λ o. (
+    told-recv b p t (recv-made front t o.uses) o.order.0 o.order.1,
+    o.order.2,
+    due-told script limits t front b.good b.before ∙ o.fresh.0,
+    subst (λ time. due ≤ time) (sym (now b p.g)) o.time,
+    o.fresh.1,
+  ),
 )
 row {script} {limits} {front} b (Entry.FireFunc t child) = (
   λ may. record {
@@ -253,11 +364,85 @@ row {script} {limits} {front} b (Entry.FireFunc t child) = (
     time = fires-told b t may.1;
     fresh = some-and (due_told t front) _ (fires-told b t may.1);
     uses = made b t (Setting.Ended None) (sets script (reached script front) (Entry.FireFunc t child) b.good may);
+    passes = tt;
   },
   λ o. (o.order.0, told-fires b t o.time, o.order.1 ∙ sym (next b)),
 )
+row {script} {limits} {front} b (Entry.Make g c) = (
+  λ may.
+      let new : Trades script (reached script front) c Trade.Opened = trades-May script (reached script front) (Entry.Make g c) b.good may in
+      record {
+        order = told b g (Instr.Make c) may.stands;
+        time = tt;
+        fresh = tt;
+        uses = sym (opened-told script limits c front b.good b.before) ∙ new.has;
+        passes = tt;
+      },
+  λ o. does b g (Instr.Make c) o.order (ap (λ b. when b Reason.Twice) o.uses),
+)
+row {script} {limits} {front} b (Entry.Send p c v) = (
+  λ may.
+      let is : IsOpened (reached script front) c = is_open-IsOpened (reached script front) c may.1 in
+      let unshut : closed_told c front ≡ false = closed-there b c false is.unshut in
+      record { order = send-told b p c v may.0; time = tt; fresh = tt; uses = (opened-there b c is.made, unshut); passes = (unshut, room-told b c may.2) },
+  λ o. (
+    told-send b p c v (used-open front c o.uses.0 o.uses.1) o.order.0 o.order.1,
+    open-there b c o.uses.0 o.uses.1,
+    told-room b c o.passes.1,
+  ),
+)
+row {script} {limits} {front} b (Entry.Recv p c (Some v)) = (
+  λ may.
+      let at : Plainly script front p (Instr.Recv c) = recv-told b p c may.0 in
+      let takes : Trades script (reached script front) c Trade.Takes = trades-May script (reached script front) (Entry.Recv p c (Some v)) b.good may in
+      record { order = (at.0, at.1, may.1); time = tt; fresh = tt; uses = opened-there b c takes.has.0; passes = sym (next-told b c) ∙ may.2 },
+  λ o. (told-recv b p c (recv-opened front c o.uses) o.order.0 o.order.1, o.order.2, next-told b c ∙ o.passes),
+)
+row {script} {limits} {front} b (Entry.Recv p c None) = (
+  λ may.
+      let at : Plainly script front p (Instr.Recv c) = recv-told b p c may.0 in
+      record {
+        order = (at.0, at.1, may.1);
+        time = tt;
+        fresh = tt;
+        uses = opened-there b c (closed-made (channel_at (reached script front) c) may.2.1);
+        passes = (closed-there b c true may.2.1, drained-told b c may.2.0);
+      },
+  λ o. (
+    told-recv b p c (recv-opened front c o.uses) o.order.0 o.order.1,
+    o.order.2,
+    (told-drained b c o.passes.1, closed-told script limits c front b.good b.before ∙ o.passes.0),
+  ),
+)
+row {script} {limits} {front} b (Entry.Pair from to c v) = (
+  λ may.
+      let is : IsOpened (reached script front) c = is_open-IsOpened (reached script front) c may.2 in
+      let unshut : closed_told c front ≡ false = closed-there b c false is.unshut in
+      let gives : Plainly script front from (Instr.Send c v) = send-told b from c v may.0 in
+      let gets : Plainly script front to (Instr.Recv c) = recv-told b to c may.1 in
+      record { order = (gives.0, gives.1, gets.0, gets.1, may.4); time = tt; fresh = tt; uses = (opened-there b c is.made, unshut); passes = (unshut, may.3) },
+  λ o. (
+    told-send b from c v (used-open front c o.uses.0 o.uses.1) o.order.0 o.order.1,
+    told-recv b to c (recv-opened front c o.uses.0) o.order.2 o.order.3,
+    open-there b c o.uses.0 o.uses.1,
+    o.passes.1,
+    o.order.4,
+  ),
+)
+row {script} {limits} {front} b (Entry.Close g c) = (
+  λ may.
+      let shuts : Trades script (reached script front) c Trade.Shut = trades-May script (reached script front) (Entry.Close g c) b.good may in
+      record {
+        order = told b g (Instr.Close c) may.stands;
+        time = tt;
+        fresh = tt;
+        uses = (opened-there b c shuts.has.0, closed-there b c false shuts.has.1);
+        passes = tt;
+      },
+  λ o. does b g (Instr.Close c) o.order (used-open front c o.uses.0 o.uses.1),
+)
 row {script} {limits} {front} b (Entry.Clock zero to) = (
-  λ may. record { order = tt; time = (subst (λ time. time < to) (clock-told script limits 0 front b.good b.before) may.0, may.1); fresh = tt; uses = tt },
+  λ may. record { order = tt; time = (subst (λ time. time < to) (clock-told script limits 0 front b.good b.before) may.0, may.1); fresh = tt; uses = tt; passes = tt },
   λ o. (subst (λ time. time < to) (sym (clock-told script limits 0 front b.good b.before)) o.time.0, o.time.1),
 )
 row b (Entry.Clock (suc world) to) = (λ may. absurd may, λ o. o.time)
@@ -270,7 +455,8 @@ row {script} {limits} {front} b (Entry.Panic p reason) = (
         time = tt;
         fresh = tt;
         uses = (at.instr, on, sym (misuse-told script limits front at.instr b.good b.before) ∙ at.faulty, at.plain);
+        passes = tt;
       },
   λ o. panic-told b p.g o.uses.0 o.uses.1 ∙ (ap plain_fault o.uses.2 ∙ ap (λ n. Some (n, reason)) (sym o.uses.3)),
 )
-row b (Entry.Finish outcome) = (λ may. record { order = tt; time = tt; fresh = tt; uses = tt }, λ o. tt)
+row b (Entry.Finish outcome) = (λ may. record { order = tt; time = tt; fresh = tt; uses = tt; passes = tt }, λ o. tt)

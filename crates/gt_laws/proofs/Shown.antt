@@ -1,5 +1,5 @@
 -- What the entries of a history tell is what the state after them has: one induction for all that is told, and then each quantity by the parts of a change.
-use Rattle.std.proofs.Common.{◌≡◌, ◌≢◌, ℕ, zero, suc, ◌+◌, ◌<◌, ◌==◌, List, [], ◌∷◌, length, map, set, slice_index, refl, ap, subst, ◌∙◌, arith, if◌then◌else◌, Option, None, Some, Bool, true, false, is_some, IfSome, unwrap_or}
+use Rattle.std.proofs.Common.{◌≡◌, ◌≢◌, ℕ, zero, suc, ◌+◌, ◌<◌, ◌==◌, List, [], ◌∷◌, length, map, set, slice_index, refl, sym, ap, subst, ◌∙◌, arith, if◌then◌else◌, Option, None, Some, Bool, true, false, is_some, IfSome, unwrap_or}
 use Rattle.gt_model.specs.declared.script.Script.{Script}
 use Rattle.gt_model.specs.declared.script.Decl.{Decl}
 use Rattle.gt_model.specs.declared.entry.Entry.{Entry}
@@ -13,10 +13,11 @@ use Rattle.gt_rules.specs.declared.change.Move.{Move}
 use Rattle.gt_rules.specs.declared.change.Setting.{Setting}
 use Rattle.gt_rules.specs.Change.{Change, change_of}
 use Rattle.gt_rules.specs.After.{after, first_state, option_or, with_mover, retimed, with_retimed, with_clock, set_due, set_again}
+use Rattle.gt_rules.specs.Finish.{Legal}
 use Rattle.gt_rules.specs.History.{AllLegal, state_after}
 use Rattle.gt_model.proofs.Items.{at-set_same, at-set_other, at-change_same, at-change_other}
 use Rattle.gt_facts.specs.Formed.{IsFormed}
-use Rattle.gt_facts.proofs.Formed.{formed-first, formed-Legal, length-mover, length-starts}
+use Rattle.gt_facts.proofs.Formed.{formed-first, formed-Legal, length-movers, length-starts}
 use Rattle.gt_facts.proofs.Fits.{Fits, FitsTimer, fits-Legal}
 use Rattle.gt_laws.specs.Told.{told, clock_by, clock_told, due_set, due_by, due_told, makes, made_by, made_told, ending_by, ending_told, entries_by, entries_told, started_told}
 use Rattle.gt_laws.specs.Told as told
@@ -24,17 +25,25 @@ use Rattle.gt_laws.proofs.Numbers.{by-number}
 
 -- ---- all that is told
 
+-- of two who make an entry each is another
+abbrev pub AreTwo : Option (ℕ × Move) → Option (ℕ × Move) → Type 0
+AreTwo mover partner = IfSome partner (λ (p : ℕ × Move). IfSome mover (λ (m : ℕ × Move). p.0 ≢ m.0))
+
+pub two-Legal : (script : Script) (limits : Limits) (s : State) (e : Entry) → Legal script limits s e → AreTwo (change_of e).mover (change_of e).partner
+two-Legal script limits s (Entry.Pair from to c v) legal = λ same. legal.1.4 (sym same)
+two-Legal script limits s _ legal = tt
+
 pub shown-from : {V : Type 0} (script : Script) (limits : Limits) (show : State → V) (by : V → Change → V)
-    → ((s : State) (e : Entry) → IsFormed script s → Fits s (change_of e) → show (after script s e) ≡ by (show s) (change_of e))
+    → ((s : State) (e : Entry) → IsFormed script s → Fits script s (change_of e) → AreTwo (change_of e).mover (change_of e).partner → show (after script s e) ≡ by (show s) (change_of e))
     → (s : State) (h : List Entry) → IsGood script → IsFormed script s → AllLegal script limits s h
     → show (state_after script s h) ≡ told by (show s) h
 shown-from script limits show by one s [] good formed legal = refl
 shown-from script limits show by one s (e ∷ h) good formed legal =
     shown-from script limits show by one (after script s e) h good (formed-Legal script limits s e good formed legal.0) legal.1
-    ∙ ap (λ v. told by v h) (one s e formed (fits-Legal script limits s e good formed legal.0))
+    ∙ ap (λ v. told by v h) (one s e formed (fits-Legal script limits s e good formed legal.0) (two-Legal script limits s e legal.0))
 
 pub shown-told : {V : Type 0} (script : Script) (limits : Limits) (show : State → V) (by : V → Change → V) (first : V)
-    → ((s : State) (e : Entry) → IsFormed script s → Fits s (change_of e) → show (after script s e) ≡ by (show s) (change_of e))
+    → ((s : State) (e : Entry) → IsFormed script s → Fits script s (change_of e) → AreTwo (change_of e).mover (change_of e).partner → show (after script s e) ≡ by (show s) (change_of e))
     → show (first_state script) ≡ first
     → (h : List Entry) → IsGood script → AllLegal script limits (first_state script) h
     → show (state_after script (first_state script) h) ≡ told by first h
@@ -49,17 +58,17 @@ says-ending ending (Some new) = refl
 
 pub ending-told : (script : Script) (limits : Limits) (h : List Entry) → IsGood script → AllLegal script limits (first_state script) h
     → (state_after script (first_state script) h).ending ≡ ending_told h
-ending-told script limits = shown-told script limits (λ (s : State). s.ending) ending_by Ending.Running (λ s e formed fits. says-ending s.ending (change_of e).ending) refl
+ending-told script limits = shown-told script limits (λ (s : State). s.ending) ending_by Ending.Running (λ s e formed fits two. says-ending s.ending (change_of e).ending) refl
 
 pub entries-told : (script : Script) (limits : Limits) (h : List Entry) → IsGood script → AllLegal script limits (first_state script) h
     → (state_after script (first_state script) h).entries ≡ entries_told h
-entries-told script limits = shown-told script limits (λ (s : State). s.entries) entries_by 0 (λ s e formed fits. refl) refl
+entries-told script limits = shown-told script limits (λ (s : State). s.entries) entries_by 0 (λ s e formed fits two. refl) refl
 
 pub started-told : (script : Script) (limits : Limits) (h : List Entry) → IsGood script → AllLegal script limits (first_state script) h
     → length (state_after script (first_state script) h).goroutines ≡ started_told h
 started-told script limits = shown-told script limits (λ (s : State). length s.goroutines) told.started_by 1
-    (λ s e formed fits. length-starts script s (with_mover script s.goroutines (change_of e).mover) (change_of e).starts
-    ∙ ap (λ n. n + length (change_of e).starts) (length-mover script s.goroutines (change_of e).mover)) refl
+    (λ s e formed fits two. length-starts script s (with_mover script (with_mover script s.goroutines (change_of e).mover) (change_of e).partner) (change_of e).starts
+    ∙ ap (λ n. n + length (change_of e).starts) (length-movers script s.goroutines (change_of e).mover (change_of e).partner)) refl
 
 -- ---- clocks
 
@@ -91,7 +100,7 @@ first_clock (suc w) = refl
 
 pub clock-told : (script : Script) (limits : Limits) (w : ℕ) (h : List Entry) → IsGood script → AllLegal script limits (first_state script) h
     → clock (state_after script (first_state script) h) w ≡ clock_told w h
-clock-told script limits w = shown-told script limits (λ (s : State). clock s w) (clock_by w) 0 (λ s e formed fits. says-clock w s.clocks (change_of e).clock fits.clock) (first_clock w)
+clock-told script limits w = shown-told script limits (λ (s : State). clock s w) (clock_by w) 0 (λ s e formed fits two. says-clock w s.clocks (change_of e).clock fits.clock) (first_clock w)
 
 -- ---- timers
 
@@ -170,7 +179,7 @@ none-made show (d ∷ ds) (suc t) = none-made show ds t
 pub due_in-told : (script : Script) (limits : Limits) (t : ℕ) (h : List Entry) → IsGood script → AllLegal script limits (first_state script) h
     → due_in (timer_at (state_after script (first_state script) h) t) ≡ due_told t h
 due_in-told script limits t = shown-told script limits (λ (s : State). due_in (timer_at s t)) (due_by t) None
-    (λ s e formed fits. says-due script s (change_of e).mover t (change_of e).timer fits.timer) (none-made due_in script.decls t)
+    (λ s e formed fits two. says-due script s (change_of e).mover t (change_of e).timer fits.timer) (none-made due_in script.decls t)
 
 pub due-told : (script : Script) (limits : Limits) (t : ℕ) (h : List Entry) → IsGood script → AllLegal script limits (first_state script) h
     → due_of (state_after script (first_state script) h) t ≡ due_told t h
@@ -179,4 +188,4 @@ due-told script limits t h good legal = due-in (timer_at (state_after script (fi
 pub made-told : (script : Script) (limits : Limits) (t : ℕ) (h : List Entry) → IsGood script → AllLegal script limits (first_state script) h
     → is_some (timer_at (state_after script (first_state script) h) t) ≡ made_told t h
 made-told script limits t = shown-told script limits (λ (s : State). is_some (timer_at s t)) (made_by t) false
-    (λ s e formed fits. says-is_made script s (change_of e).mover t (change_of e).timer fits.timer) (none-made is_some script.decls t)
+    (λ s e formed fits two. says-is_made script s (change_of e).mover t (change_of e).timer fits.timer) (none-made is_some script.decls t)

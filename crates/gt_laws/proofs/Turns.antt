@@ -1,5 +1,5 @@
 -- Each goroutine is where its function's code, with the loops written out, has it after as many instructions as it has done.
-use Rattle.std.proofs.Common.{◌≡◌, ℕ, zero, suc, ◌+◌, ◌==◌, List, [], ◌∷◌, ◌++◌, length, drop, refl, sym, ap, subst, ◌∙◌, arith, if◌then◌else◌, slice_get, Option, None, Some, IfSome, option_map, true, false, eqb}
+use Rattle.std.proofs.Common.{◌≡◌, ◌≢◌, ℕ, zero, suc, ◌+◌, List, [], ◌∷◌, ◌++◌, length, drop, refl, sym, ap, subst, ◌∙◌, arith, if◌then◌else◌, slice_get, Option, None, Some, IfSome, option_map, true, false, eqb}
 use Rattle.std.proofs.lemmas.Bool.{eqb-true, eqb-false}
 use Rattle.std.proofs.lemmas.Option.{slice_get_past}
 use Rattle.gt_model.specs.declared.script.Script.{Script}
@@ -28,24 +28,16 @@ use Rattle.gt_facts.proofs.Fits.{Fits, IsLive, fits-Legal}
 use Rattle.gt_facts.proofs.Formed.{formed-first, formed-Legal}
 use Rattle.gt_laws.specs.Told.{ToldGoroutine, place_of, told}
 use Rattle.gt_laws.specs.Laws.{AtEach}
-use Rattle.gt_laws.specs.Unrolled.{InTurn, leads_on, moved_by, moved_told, unrolled_code}
+use Rattle.gt_laws.specs.Unrolled.{InTurn, leads_on, moved_by, moved_with, moved_told, unrolled_code}
 use Rattle.gt_laws.proofs.Comes.{Comes, each}
 use Rattle.gt_laws.proofs.Everyone.{goroutine-told, place_in, shown}
 use Rattle.gt_laws.proofs.GoesOn.{reached}
+use Rattle.gt_laws.proofs.Channels.{drop-first, drop-next}
 use Rattle.gt_laws.proofs.Numbers.{by-number}
+use Rattle.gt_laws.proofs.Shown.{AreTwo, two-Legal}
 use Rattle.gt_laws.proofs.Unrolled.{done, func-stays, IsLeft, left-all, left-first, left-next, left-on}
 
 -- ---- lists
-
-drop-next : {X : Type 0} (xs : List X) (n : ℕ) → drop 1 (drop n xs) ≡ drop (suc n) xs
-drop-next xs zero = refl
-drop-next [] (suc n) = refl
-drop-next (x ∷ xs) (suc n) = drop-next xs n
-
-drop-first : {X : Type 0} (xs : List X) (n : ℕ) → slice_get (drop n xs) 0 ≡ slice_get xs n
-drop-first xs zero = refl
-drop-first [] (suc n) = refl
-drop-first (x ∷ xs) (suc n) = drop-first xs n
 
 numbered-past : {X : Type 0} (xs : List X) (g : ℕ) → g ≡ length xs + 1 → numbered xs g ≡ None
 numbered-past xs zero e = refl
@@ -104,33 +96,50 @@ moved-done script (Move.GoesOn case_no) w n place Mode.At live placed there = tu
 moved-done script (Move.FallsAsleep until) w n place Mode.At live placed there =
     let same : n + 0 ≡ n = omega arith in (subst (IsTurn script place) (sym same) there, placed.1)
 moved-done script Move.Ends w n place Mode.At live placed there = tt
+moved-done script Move.Panics w n place Mode.At live placed there = let same : n + 0 ≡ n = omega arith in subst (IsTurn script place) (sym same) there
 moved-done script (Move.GoesOn case_no) w n place (Mode.Sleeping until) live placed there = turn-next script place n there.0 there.1
 moved-done script (Move.FallsAsleep later) w n place (Mode.Sleeping until) live placed there =
     let same : n + 0 ≡ n = omega arith in (subst (IsTurn script place) (sym same) there.0, there.1)
 moved-done script Move.Ends w n place (Mode.Sleeping until) live placed there = tt
+moved-done script Move.Panics w n place (Mode.Sleeping until) live placed there =
+    let same : n + 0 ≡ n = omega arith in (subst (IsTurn script place) (sym same) there.0, there.1)
 
 -- ---- all goroutines
 
 abbrev AllDone : Script → (ℕ → ℕ) → List Goroutine → Type 0
 AllDone script n gs = (g : ℕ) → HasDone script (n g) (numbered gs g)
 
-abbrev done_after : ℕ → ℕ → Option (ℕ × Move) → ℕ
-done_after g n mover = elim mover [ None ↦ n | Some m ↦ if m.0 == g then n + leads_on m.1 else n ]
-
-mover-done : (script : Script) (s : State) (n : ℕ → ℕ) (mover : Option (ℕ × Move)) → IsFormed script s → IfSome mover (λ (m : ℕ × Move). IsLive s m.0) → AllDone script n s.goroutines
-    → AllDone script (λ g. done_after g (n g) mover) (with_mover script s.goroutines mover)
-mover-done script s n None formed live all g = all g
-mover-done script s n (Some m) formed live all g =
-    let who : IsLive s m.0 = live in
-    let gs : List Goroutine = with_mover script s.goroutines (Some m) in
-    by-number m.0 g (λ b. HasDone script (if b then n g + leads_on m.1 else n g) (numbered gs g))
+-- who moves, where it stands as in a state
+mover-done : (script : Script) (s : State) (n : ℕ → ℕ) (gs : List Goroutine) (m : ℕ × Move) (who : IsLive s m.0) → IsFormed script s → numbered gs m.0 ≡ Some who.who → AllDone script n gs
+    → AllDone script (λ g. moved_with g (n g) (Some m)) (with_mover script gs (Some m))
+mover-done script s n gs m who formed here all g =
+    by-number m.0 g (λ b. HasDone script (if b then n g + leads_on m.1 else n g) (numbered (with_mover script gs (Some m)) g))
     (λ same.
-    let there : HasDone script (n m.0) (Some who.who) = subst (HasDone script (n m.0)) who.there (all m.0) in
+    let there : HasDone script (n m.0) (Some who.who) = subst (HasDone script (n m.0)) here (all m.0) in
     let moves : HasDone script (n m.0 + leads_on m.1) (Some (moved script m.1 who.who)) =
     moved-done script m.1 who.who.world (n m.0) who.who.place who.who.mode who.live (formed.placed m.0 who.who who.there) there in
-    subst (λ k. HasDone script (n k + leads_on m.1) (numbered gs k)) same
-    (subst (HasDone script (n m.0 + leads_on m.1)) (sym (numbered-change_same s.goroutines m.0 (moved script m.1) who.who who.there)) moves))
-    (λ other. subst (HasDone script (n g)) (sym (numbered-change_other s.goroutines m.0 g (moved script m.1) other)) (all g))
+    subst (λ k. HasDone script (n k + leads_on m.1) (numbered (with_mover script gs (Some m)) k)) same
+    (subst (HasDone script (n m.0 + leads_on m.1)) (sym (numbered-change_same gs m.0 (moved script m.1) who.who here)) moves))
+    (λ other. subst (HasDone script (n g)) (sym (numbered-change_other gs m.0 g (moved script m.1) other)) (all g))
+
+first-moved : (script : Script) (s : State) (n : ℕ → ℕ) (m : Option (ℕ × Move)) → IsFormed script s → IfSome m (λ (m : ℕ × Move). IsLive s m.0) → AllDone script n s.goroutines
+    → AllDone script (λ g. moved_with g (n g) m) (with_mover script s.goroutines m)
+first-moved script s n None formed live all = all
+first-moved script s n (Some m) formed live all = let who : IsLive s m.0 = live in mover-done script s n s.goroutines m who formed who.there all
+
+-- who does not move stands as it stood
+unmoved : (script : Script) (gs : List Goroutine) (m : Option (ℕ × Move)) (g : ℕ) → IfSome m (λ (m : ℕ × Move). g ≢ m.0) → numbered (with_mover script gs m) g ≡ numbered gs g
+unmoved script gs None g other = refl
+unmoved script gs (Some m) g other = numbered-change_other gs m.0 g (moved script m.1) other
+
+movers-done : (script : Script) (s : State) (n : ℕ → ℕ) (m p : Option (ℕ × Move)) → IsFormed script s → IfSome m (λ (m : ℕ × Move). IsLive s m.0)
+    → IfSome p (λ (m : ℕ × Move). IsLive s m.0) → AreTwo m p → AllDone script n s.goroutines
+    → AllDone script (λ g. moved_with g (moved_with g (n g) m) p) (with_mover script (with_mover script s.goroutines m) p)
+movers-done script s n m None formed live alive two all = first-moved script s n m formed live all
+movers-done script s n m (Some p) formed live alive two all =
+    let who : IsLive s p.0 = alive in
+    mover-done script s (λ g. moved_with g (n g) m) (with_mover script s.goroutines m) p who formed (unmoved script s.goroutines m p.0 two ∙ who.there)
+    (first-moved script s n m formed live all)
 
 -- ---- who is started
 
@@ -162,11 +171,12 @@ first-done script good = push-done script (λ g. 0) [] (begun script 0 script.ma
 
 -- ---- through a history
 
-after-done : (script : Script) (s : State) (n : ℕ → ℕ) (e : Entry) → IsGood script → IsFormed script s → Fits s (change_of e) → AllDone script n s.goroutines
+after-done : (script : Script) (s : State) (n : ℕ → ℕ) (e : Entry) → IsGood script → IsFormed script s → Fits script s (change_of e)
+    → AreTwo (change_of e).mover (change_of e).partner → AllDone script n s.goroutines
     → AllDone script (λ g. moved_by g (n g) (change_of e)) (after script s e).goroutines
-after-done script s n e good formed fits all =
-    starts-done script s (λ g. moved_by g (n g) (change_of e)) (with_mover script s.goroutines (change_of e).mover) (change_of e).starts good
-    (mover-done script s n (change_of e).mover formed fits.mover all)
+after-done script s n e good formed fits two all =
+    starts-done script s (λ g. moved_by g (n g) (change_of e)) (with_mover script (with_mover script s.goroutines (change_of e).mover) (change_of e).partner) (change_of e).starts good
+    (movers-done script s n (change_of e).mover (change_of e).partner formed fits.mover fits.partner two all)
 
 record IsDone (script : Script) (s : State) (n : ℕ → ℕ) : Type 0 where
   formed : IsFormed script s
@@ -178,7 +188,7 @@ done-from script limits s n [] good legal is = is
 done-from script limits s n (e ∷ h) good legal is =
     done-from script limits (after script s e) (λ g. moved_by g (n g) (change_of e)) h good legal.1 (record {
       formed = formed-Legal script limits s e good is.formed legal.0;
-      all = after-done script s n e good is.formed (fits-Legal script limits s e good is.formed legal.0) is.all;
+      all = after-done script s n e good is.formed (fits-Legal script limits s e good is.formed legal.0) (two-Legal script limits s e legal.0) is.all;
     })
 
 -- ---- the law

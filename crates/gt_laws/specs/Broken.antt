@@ -164,3 +164,72 @@ set_again = Entry.New 1 0 1 ∷ Entry.Reset 1 0 (Some true) 15 ∷ Entry.Clock 0
 
 abbrev pub stale : List Entry
 stale = set_again ++ Entry.TRecv (record { g = 1; case_no = 0 }) 0 1 None ∷ []
+
+-- ---- channels
+
+-- func main / chan c 2 / make c / send c 1 / send c 2 / recv c / recv c / end
+abbrev pub two_values : Script
+two_values = record {
+  decls = (record { name = codes "main"; what = What.Function }) ∷ (record { name = codes "c"; what = What.Chan 2 }) ∷ [];
+  funcs = (record { decl = 0; code = Instr.Make 1 ∷ Instr.Send 1 1 ∷ Instr.Send 1 2 ∷ Instr.Recv 1 ∷ Instr.Recv 1 ∷ Instr.Finish ∷ [] }) ∷ [];
+  main = 0;
+}
+
+-- func main / chan c 1 / make c / send c 1 / send c 2 / end
+abbrev pub one_room : Script
+one_room = record {
+  decls = (record { name = codes "main"; what = What.Function }) ∷ (record { name = codes "c"; what = What.Chan 1 }) ∷ [];
+  funcs = (record { decl = 0; code = Instr.Make 1 ∷ Instr.Send 1 1 ∷ Instr.Send 1 2 ∷ Instr.Finish ∷ [] }) ∷ [];
+  main = 0;
+}
+
+-- func main / chan c 1 / make c / go f / recv c / end; func f / send c 1 / end
+abbrev pub one_passed : Script
+one_passed = record {
+  decls = (record { name = codes "main"; what = What.Function }) ∷ (record { name = codes "c"; what = What.Chan 1 }) ∷ (record { name = codes "f"; what = What.Function }) ∷ [];
+  funcs = (record { decl = 0; code = Instr.Make 1 ∷ Instr.Go 1 ∷ Instr.Recv 1 ∷ Instr.Finish ∷ [] })
+      ∷ (record { decl = 2; code = Instr.Send 1 1 ∷ Instr.Finish ∷ [] }) ∷ [];
+  main = 0;
+}
+
+-- func main / chan c 1 / make c / recv c / end; func main / chan c 1 / make c / close c / send c 1 / end
+abbrev pub one_receive : Script
+one_receive = record {
+  decls = (record { name = codes "main"; what = What.Function }) ∷ (record { name = codes "c"; what = What.Chan 1 }) ∷ [];
+  funcs = (record { decl = 0; code = Instr.Make 1 ∷ Instr.Recv 1 ∷ Instr.Finish ∷ [] }) ∷ [];
+  main = 0;
+}
+
+abbrev pub one_close : Script
+one_close = record {
+  decls = (record { name = codes "main"; what = What.Function }) ∷ (record { name = codes "c"; what = What.Chan 1 }) ∷ [];
+  funcs = (record { decl = 0; code = Instr.Make 1 ∷ Instr.Close 1 ∷ Instr.Send 1 1 ∷ Instr.Finish ∷ [] }) ∷ [];
+  main = 0;
+}
+
+-- the values of main are sent; the second one is received before the first; the first one is received twice
+abbrev pub both_sent : List Entry
+both_sent = Entry.Make 1 1 ∷ Entry.Send (record { g = 1; case_no = 0 }) 1 1 ∷ Entry.Send (record { g = 1; case_no = 0 }) 1 2 ∷ []
+
+abbrev pub overtaken : List Entry
+overtaken = both_sent ++ Entry.Recv (record { g = 1; case_no = 0 }) 1 (Some 2) ∷ []
+
+abbrev pub first_received : List Entry
+first_received = both_sent ++ Entry.Recv (record { g = 1; case_no = 0 }) 1 (Some 1) ∷ []
+
+abbrev pub received_twice : List Entry
+received_twice = first_received ++ Entry.Recv (record { g = 1; case_no = 0 }) 1 (Some 1) ∷ []
+
+-- two values in a channel for one; a value that is passed on past the room of its channel
+abbrev pub overfull : List Entry
+overfull = both_sent
+
+abbrev pub passed_by : List Entry
+passed_by = Entry.Make 1 1 ∷ Entry.Go 1 2 1 ∷ Entry.Pair (record { g = 2; case_no = 0 }) (record { g = 1; case_no = 0 }) 1 1 ∷ []
+
+-- a receive that gives nothing from a channel that is open; a send after the close
+abbrev pub nothing_while_open : List Entry
+nothing_while_open = Entry.Make 1 1 ∷ Entry.Recv (record { g = 1; case_no = 0 }) 1 None ∷ []
+
+abbrev pub sent_after_close : List Entry
+sent_after_close = Entry.Make 1 1 ∷ Entry.Close 1 1 ∷ Entry.Send (record { g = 1; case_no = 0 }) 1 1 ∷ []

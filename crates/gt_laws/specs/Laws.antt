@@ -1,13 +1,13 @@
 -- What each complete history keeps, read from its entries and its script alone. Each law says of each kind of entry what it asks: Unit {0} where nothing.
-use Rattle.std.specs.Prelude.{ℕ, zero, suc, ◌+◌, ◌≡◌, ◌<◌, ◌≤◌, List, ◌∷◌, ◌++◌, true, false, is_some, IsTrue, IsSome, IsSomeAnd}
+use Rattle.std.specs.Prelude.{ℕ, zero, suc, ◌+◌, ◌≡◌, ◌≢◌, ◌<◌, ◌≤◌, List, ◌∷◌, ◌++◌, length, slice_get, true, false, is_some, IsTrue, IsSome, IsSomeAnd}
 use Rattle.std.specs.declared.option.Option.TheVariants.{None, Some}
 use Rattle.gt_model.specs.declared.script.Script.{Script}
 use Rattle.gt_model.specs.declared.script.Instr.{Instr}
 use Rattle.gt_model.specs.declared.entry.Entry.{Entry}
-use Rattle.gt_model.specs.Script.{is_func}
+use Rattle.gt_model.specs.Script.{is_timer, is_func, is_chan, capacity_of}
 use Rattle.gt_model.specs.Times.{greatest_time}
 use Rattle.gt_rules.specs.Legal.{due_at, sleep_end}
-use Rattle.gt_laws.specs.Told.{clock_told, due_told, made_told, now_told, owner_told, stands_told, started_told, until_told}
+use Rattle.gt_laws.specs.Told.{clock_told, due_told, made_told, opened_told, closed_told, sent_told, taken_told, now_told, owner_told, stands_told, started_told, until_told}
 use Rattle.gt_laws.specs.GoesOn.{misuse_told}
 
 -- it holds of each entry of a history, with the entries before it
@@ -28,6 +28,11 @@ InTime script front (Entry.Stop g t was) = Unit {0}
 InTime script front (Entry.Reset g t was due) = Unit {0}
 InTime script front (Entry.TRecv p t due next) = due ≤ now_told script p.g front
 InTime script front (Entry.FireFunc t child) = IsSomeAnd (due_told t front) (λ due. due ≤ clock_told (owner_told script t front) front)
+InTime script front (Entry.Make g c) = Unit {0}
+InTime script front (Entry.Send p c v) = Unit {0}
+InTime script front (Entry.Recv p c v) = Unit {0}
+InTime script front (Entry.Pair from to c v) = Unit {0}
+InTime script front (Entry.Close g c) = Unit {0}
 InTime script front (Entry.Clock zero to) = (clock_told 0 front < to) × (to ≤ greatest_time)
 InTime script front (Entry.Clock (suc world) to) = ⊥
 InTime script front (Entry.Panic p reason) = Unit {0}
@@ -47,13 +52,19 @@ IsFresh front (Entry.Stop g t was) = was ≡ Some (is_some (due_told t front))
 IsFresh front (Entry.Reset g t was due) = was ≡ Some (is_some (due_told t front))
 IsFresh front (Entry.TRecv p t due next) = (due_told t front ≡ Some due) × (next ≡ None)
 IsFresh front (Entry.FireFunc t child) = IsSome (due_told t front)
+IsFresh front (Entry.Make g c) = Unit {0}
+IsFresh front (Entry.Send p c v) = Unit {0}
+IsFresh front (Entry.Recv p c v) = Unit {0}
+IsFresh front (Entry.Pair from to c v) = Unit {0}
+IsFresh front (Entry.Close g c) = Unit {0}
 IsFresh front (Entry.Clock world to) = Unit {0}
 IsFresh front (Entry.Panic p reason) = Unit {0}
 IsFresh front (Entry.Finish outcome) = Unit {0}
 
 -- Each goroutine's calls, once and in order: an entry is the call of the instruction to which the goroutine's earlier entries have led it, made by one
 -- that is awake, and who wakes was asleep. Only AfterFunc timers fire. Who is started has the next number, so no number is given twice. A sleep ends,
--- and a setting is due, as long after the goroutine's clock as the instruction says. A plain call has the case number 0
+-- and a setting is due, as long after the goroutine's clock as the instruction says. A plain call has the case number 0. The value of a timer comes from a
+-- timer, that of a channel from a channel. Where a value passes from one goroutine to another, these are two, who stand at the send and at the receive
 abbrev pub InOrder : Script → List Entry → Entry → Type 0
 InOrder script front (Entry.Say g n) = stands_told script g front ≡ Some (Instr.Say n)
 InOrder script front (Entry.Now g at) = stands_told script g front ≡ Some Instr.Now
@@ -64,14 +75,20 @@ InOrder script front (Entry.Wake g) = IsSome (until_told script g front)
 InOrder script front (Entry.New g t due) = (d : ℕ) × (stands_told script g front ≡ Some (Instr.New t d)) × (due ≡ due_at (now_told script g front) d)
 InOrder script front (Entry.Stop g t was) = stands_told script g front ≡ Some (Instr.Stop t)
 InOrder script front (Entry.Reset g t was due) = (d : ℕ) × (stands_told script g front ≡ Some (Instr.Reset t d)) × (due ≡ due_at (now_told script g front) d)
-InOrder script front (Entry.TRecv p t due next) = (stands_told script p.g front ≡ Some (Instr.Recv t)) × (p.case_no ≡ 0)
+InOrder script front (Entry.TRecv p t due next) = (stands_told script p.g front ≡ Some (Instr.Recv t)) × (p.case_no ≡ 0) × IsTrue (is_timer script t)
 InOrder script front (Entry.FireFunc t child) = IsTrue (is_func script t) × (child ≡ started_told front + 1)
+InOrder script front (Entry.Make g c) = stands_told script g front ≡ Some (Instr.Make c)
+InOrder script front (Entry.Send p c v) = (stands_told script p.g front ≡ Some (Instr.Send c v)) × (p.case_no ≡ 0)
+InOrder script front (Entry.Recv p c v) = (stands_told script p.g front ≡ Some (Instr.Recv c)) × (p.case_no ≡ 0) × IsTrue (is_chan script c)
+InOrder script front (Entry.Pair from to c v) =
+    (stands_told script from.g front ≡ Some (Instr.Send c v)) × (from.case_no ≡ 0) × (stands_told script to.g front ≡ Some (Instr.Recv c)) × (to.case_no ≡ 0) × (from.g ≢ to.g)
+InOrder script front (Entry.Close g c) = stands_told script g front ≡ Some (Instr.Close c)
 InOrder script front (Entry.Clock world to) = Unit {0}
 InOrder script front (Entry.Panic p reason) = IsSome (stands_told script p.g front) × (p.case_no ≡ 0)
 InOrder script front (Entry.Finish outcome) = Unit {0}
 
--- A call is no misuse, and a panic is one: its goroutine stands at an instruction that is a misuse for this reason. So a timer is made once, and
--- used where it was made
+-- A call is no misuse, and a panic is one: its goroutine stands at an instruction that is a misuse for this reason. So a timer and a channel are made
+-- once, and used where they were made; a channel is closed once, and nothing is sent to it then
 abbrev pub UsesRightly : Script → List Entry → Entry → Type 0
 UsesRightly script front (Entry.Say g n) = Unit {0}
 UsesRightly script front (Entry.Now g at) = Unit {0}
@@ -84,7 +101,37 @@ UsesRightly script front (Entry.Stop g t was) = made_told t front ≡ true
 UsesRightly script front (Entry.Reset g t was due) = made_told t front ≡ true
 UsesRightly script front (Entry.TRecv p t due next) = made_told t front ≡ true
 UsesRightly script front (Entry.FireFunc t child) = made_told t front ≡ true
+UsesRightly script front (Entry.Make g c) = opened_told c front ≡ false
+UsesRightly script front (Entry.Send p c v) = (opened_told c front ≡ true) × (closed_told c front ≡ false)
+UsesRightly script front (Entry.Recv p c v) = opened_told c front ≡ true
+UsesRightly script front (Entry.Pair from to c v) = (opened_told c front ≡ true) × (closed_told c front ≡ false)
+UsesRightly script front (Entry.Close g c) = (opened_told c front ≡ true) × (closed_told c front ≡ false)
 UsesRightly script front (Entry.Clock world to) = Unit {0}
 UsesRightly script front (Entry.Panic p reason) =
     (i : Instr) × (stands_told script p.g front ≡ Some i) × (misuse_told front i ≡ Some reason) × (p.case_no ≡ 0)
 UsesRightly script front (Entry.Finish outcome) = Unit {0}
+
+-- The values of a channel come out in the order in which they were sent, each once and none invented, and there are never more in it than its capacity.
+-- Nothing is sent after a close, and a receive gives nothing only after it, when the channel is drained. A channel without room passes a value from one
+-- goroutine to another in one entry
+abbrev pub PassesOn : Script → List Entry → Entry → Type 0
+PassesOn script front (Entry.Say g n) = Unit {0}
+PassesOn script front (Entry.Now g at) = Unit {0}
+PassesOn script front (Entry.Go g child f) = Unit {0}
+PassesOn script front (Entry.End g) = Unit {0}
+PassesOn script front (Entry.Sleep g until) = Unit {0}
+PassesOn script front (Entry.Wake g) = Unit {0}
+PassesOn script front (Entry.New g t due) = Unit {0}
+PassesOn script front (Entry.Stop g t was) = Unit {0}
+PassesOn script front (Entry.Reset g t was due) = Unit {0}
+PassesOn script front (Entry.TRecv p t due next) = Unit {0}
+PassesOn script front (Entry.FireFunc t child) = Unit {0}
+PassesOn script front (Entry.Make g c) = Unit {0}
+PassesOn script front (Entry.Send p c v) = (closed_told c front ≡ false) × (length (sent_told c front) < capacity_of script c + taken_told c front)
+PassesOn script front (Entry.Recv p c (Some v)) = slice_get (sent_told c front) (taken_told c front) ≡ Some v
+PassesOn script front (Entry.Recv p c None) = (closed_told c front ≡ true) × (taken_told c front ≡ length (sent_told c front))
+PassesOn script front (Entry.Pair from to c v) = (closed_told c front ≡ false) × (capacity_of script c ≡ 0)
+PassesOn script front (Entry.Close g c) = Unit {0}
+PassesOn script front (Entry.Clock world to) = Unit {0}
+PassesOn script front (Entry.Panic p reason) = Unit {0}
+PassesOn script front (Entry.Finish outcome) = Unit {0}

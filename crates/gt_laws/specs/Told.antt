@@ -16,6 +16,7 @@ use Rattle.gt_rules.specs.Places.{first_place, place_after}
 use Rattle.gt_rules.specs.declared.change.Move.{Move}
 use Rattle.gt_rules.specs.declared.change.Setting.{Setting}
 use Rattle.gt_rules.specs.declared.change.Start.{Start}
+use Rattle.gt_rules.specs.declared.change.Trade.{Trade}
 use Rattle.gt_rules.specs.Change.{Change, change_of}
 
 -- what these entries make of v, each by its change
@@ -52,6 +53,58 @@ made_by t was c = elim c.timer [ None ↦ was | Some x ↦ if x.0 == t then make
 
 abbrev pub made_told : ℕ → List Entry → Bool
 made_told t h = told (made_by t) false h
+
+-- the values that were sent to channel k and kept there, the first one first
+abbrev pub sends : Trade → List ℕ → List ℕ
+sends Trade.Opened sent = sent
+sends (Trade.Puts v) sent = sent ++ v ∷ []
+sends Trade.Takes sent = sent
+sends Trade.Shut sent = sent
+
+abbrev pub sent_by : ℕ → List ℕ → Change → List ℕ
+sent_by k sent c = elim c.channel [ None ↦ sent | Some x ↦ if x.0 == k then sends x.1 sent else sent ]
+
+abbrev pub sent_told : ℕ → List Entry → List ℕ
+sent_told k h = told (sent_by k) [] h
+
+-- how many of them were received
+abbrev pub takes : Trade → ℕ → ℕ
+takes Trade.Opened taken = taken
+takes (Trade.Puts v) taken = taken
+takes Trade.Takes taken = taken + 1
+takes Trade.Shut taken = taken
+
+abbrev pub taken_by : ℕ → ℕ → Change → ℕ
+taken_by k taken c = elim c.channel [ None ↦ taken | Some x ↦ if x.0 == k then takes x.1 taken else taken ]
+
+abbrev pub taken_told : ℕ → List Entry → ℕ
+taken_told k h = told (taken_by k) 0 h
+
+-- whether channel k was made
+abbrev pub opens : Trade → Bool → Bool
+opens Trade.Opened was = true
+opens (Trade.Puts v) was = was
+opens Trade.Takes was = was
+opens Trade.Shut was = was
+
+abbrev pub opened_by : ℕ → Bool → Change → Bool
+opened_by k was c = elim c.channel [ None ↦ was | Some x ↦ if x.0 == k then opens x.1 was else was ]
+
+abbrev pub opened_told : ℕ → List Entry → Bool
+opened_told k h = told (opened_by k) false h
+
+-- whether channel k was closed
+abbrev pub shuts : Trade → Bool → Bool
+shuts Trade.Opened was = was
+shuts (Trade.Puts v) was = was
+shuts Trade.Takes was = was
+shuts Trade.Shut was = true
+
+abbrev pub closed_by : ℕ → Bool → Change → Bool
+closed_by k was c = elim c.channel [ None ↦ was | Some x ↦ if x.0 == k then shuts x.1 was else was ]
+
+abbrev pub closed_told : ℕ → List Entry → Bool
+closed_told k h = told (closed_by k) false h
 
 -- how a run ends: with main's function, with a panic, or with a finish that gives its outcome
 abbrev pub ending_by : Ending → Change → Ending
@@ -95,11 +148,12 @@ abbrev pub world_in : Option ToldGoroutine → ℕ
 world_in None = 0
 world_in (Some r) = r.world
 
--- a call leads a goroutine to the place after its instruction
+-- a call leads a goroutine to the place after its instruction, a panic nowhere
 abbrev pub led : Script → Move → ToldGoroutine → ToldGoroutine
 led script (Move.GoesOn case_no) r = record r { place = option_map (place_after script) r.place; wait = awake }
 led script (Move.FallsAsleep until) r = record r { wait = asleep until }
 led script Move.Ends r = record r { place = None; wait = awake }
+led script Move.Panics r = r
 
 abbrev pub with_led : Script → List ToldGoroutine → Option (ℕ × Move) → List ToldGoroutine
 with_led script rs None = rs
@@ -129,7 +183,7 @@ with_owned world owners (Some x) = owned world x.0 owners x.1
 
 abbrev pub everyone_by : Script → Everyone → Change → Everyone
 everyone_by script all c = record {
-  goroutines = with_led script all.goroutines c.mover ++ map (begun_by script all) c.starts;
+  goroutines = with_led script (with_led script all.goroutines c.mover) c.partner ++ map (begun_by script all) c.starts;
   owners = with_owned (mover_world all.goroutines c.mover) all.owners c.timer;
 }
 

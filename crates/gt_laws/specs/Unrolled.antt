@@ -1,5 +1,6 @@
 -- Loops repeat their bodies exactly as often as they say: told by the entries and the script alone, with no counter and no next place.
 use Rattle.std.specs.Prelude.{ℕ, zero, suc, ◌+◌, ◌-◌, ◌≡◌, ◌==◌, nat_le, if◌then◌else◌, IfSome, List, [], ◌∷◌, ◌++◌, length, slice_get}
+use Rattle.std.specs.declared.option.Option.{Option}
 use Rattle.std.specs.declared.option.Option.TheVariants.{None, Some}
 use Rattle.gt_model.specs.declared.script.Script.{Script}
 use Rattle.gt_model.specs.declared.script.Instr.{Instr}
@@ -35,15 +36,20 @@ unrolled_code code = unrolled (length code) code 0 (length code)
 
 -- ---- how far a goroutine is
 
--- a move that leads on from an instruction: a sleep does so when it ends
+-- a move that leads on from an instruction: a sleep does so when it ends, and a panic never
 abbrev pub leads_on : Move → ℕ
 leads_on (Move.GoesOn case_no) = 1
 leads_on (Move.FallsAsleep until) = 0
 leads_on Move.Ends = 1
+leads_on Move.Panics = 0
 
--- how many instructions goroutine g has done
+-- how many instructions goroutine g has done, behind the move of one, and behind those of all who make an entry
+abbrev pub moved_with : ℕ → ℕ → Option (ℕ × Move) → ℕ
+moved_with g n None = n
+moved_with g n (Some m) = if m.0 == g then n + leads_on m.1 else n
+
 abbrev pub moved_by : ℕ → ℕ → Change → ℕ
-moved_by g n c = elim c.mover [ None ↦ n | Some m ↦ if m.0 == g then n + leads_on m.1 else n ]
+moved_by g n c = moved_with g (moved_with g n c.mover) c.partner
 
 abbrev pub moved_told : ℕ → List Entry → ℕ
 moved_told g h = told (moved_by g) 0 h

@@ -17,7 +17,7 @@ ghost use Rattle.gt_facts.specs.Quiet.{IsQuiet};
 ghost use Rattle.gt_rules.specs.Finish.{IsIdle};
 ghost use Rattle.gt_facts.specs.Still.{IsStill};
 ghost use Rattle.gt_laws.specs.Told.{ending_told};
-ghost use Rattle.gt_laws.specs.Laws.{AtEach, InOrder, InTime, IsFresh, UsesRightly};
+ghost use Rattle.gt_laws.specs.Laws.{AtEach, InOrder, InTime, IsFresh, PassesOn, UsesRightly};
 ghost use Rattle.gt_laws.specs.Unrolled.{InTurn, unrolled_code};
 ghost use Rattle.gt_laws.specs.Ends.{EndsRightly, EndsWhereStuck, JumpsToLeast};
 ghost use Rattle.gt_laws.specs.GoesOn.{counted_told, IsStillTold, IsStuckTold};
@@ -48,10 +48,19 @@ pub fn no_value_is_stale()
         → IsGood script → History script limits h outcome → AtEach IsFresh h }
 {}
 
-/// A timer is made once and used where it was made: a call that would be a misuse is never made, and each panic is one, for the reason that it gives.
+/// A timer or a channel is made once and used where it was made, and a channel is closed once, with nothing sent to it after: a call that would be a misuse
+/// is never made, and each panic is one, for the reason that it gives.
 pub fn a_panic_is_a_misuse()
     ensures { (script : Script) (limits : Limits) (h : List Entry) (outcome : Outcome)
         → IsGood script → History script limits h outcome → AtEach (UsesRightly script) h }
+{}
+
+/// The values of a channel come out in the order in which they were sent, each once and none invented, and there are never more in it than its capacity.
+/// Nothing is sent after a close, and a receive gives nothing only after it, when the channel is drained. A channel without room passes a value from one
+/// goroutine to another in one entry.
+pub fn values_pass_in_order()
+    ensures { (script : Script) (limits : Limits) (h : List Entry) (outcome : Outcome)
+        → IsGood script → History script limits h outcome → AtEach (PassesOn script) h }
 {}
 
 /// A run ends for its cause: with an exit after the end of main's function, with a panic after a misuse, at its limit, or with a deadlock where
@@ -80,7 +89,7 @@ pub fn a_clock_jumps_to_the_least_time()
 pub fn what_keeps_the_laws_is_a_history()
     ensures { (script : Script) (limits : Limits) (h : List Entry) (outcome : Outcome)
         → IsGood script → AtEach (InOrder script) h → AtEach (InTime script) h → AtEach IsFresh h → AtEach (UsesRightly script) h
-        → AtEach (EndsRightly script limits) h → ending_told h ≡ Ending.Finished outcome → History script limits h outcome }
+        → AtEach (PassesOn script) h → AtEach (EndsRightly script limits) h → ending_told h ≡ Ending.Finished outcome → History script limits h outcome }
 {}
 
 /// Where nothing can go on is told by the entries and the script alone: it is where the machine's state after them stands still and counts no time.
@@ -141,6 +150,17 @@ pub fn a_stale_value_breaks_the_law()
     ensures stale { ¬ AtEach IsFresh broken.stale }
     ensures denied { ¬ AtEach IsFresh broken.denied }
     ensures fires_stopped { ¬ AtEach IsFresh broken.fires_stopped }
+{}
+
+/// A value that comes out before one that was sent earlier is none of a history, nor is one that comes out twice, one too many for the room of its channel,
+/// one that is passed on past that room, a receive that gives nothing from an open channel, or a send after the close.
+pub fn a_value_out_of_order_breaks_the_law()
+    ensures overtaken { ¬ AtEach (PassesOn broken.two_values) broken.overtaken }
+    ensures received_twice { ¬ AtEach (PassesOn broken.two_values) broken.received_twice }
+    ensures overfull { ¬ AtEach (PassesOn broken.one_room) broken.overfull }
+    ensures passed_by { ¬ AtEach (PassesOn broken.one_passed) broken.passed_by }
+    ensures nothing_while_open { ¬ AtEach (PassesOn broken.one_receive) broken.nothing_while_open }
+    ensures sent_after_close { ¬ AtEach (PassesOn broken.one_close) broken.sent_after_close }
 {}
 
 /// A timer that is made twice or stopped before it was made, and a panic without a misuse or for another reason, are no histories.
