@@ -45,25 +45,25 @@ lawful-first script limits good are = record {
 }
 
 -- what a book is seen as, by its parts
-pub seen-is : (b : Inside) (v : BookView) → b.script ≡ v.script → b.limits ≡ v.limits → b.history.items ≡ v.history → state_of b.machine ≡ v.state
-    → schedule_of b.scheduler ≡ v.schedule → seen b ≡ v
+pub seen-is : (b : Inside) (v : BookView) → b.script ≡ v.script → b.limits ≡ v.limits → b.run.history.items ≡ v.history → state_of b.run.machine ≡ v.state
+    → schedule_of b.run.scheduler ≡ v.schedule → seen b ≡ v
 seen-is b v script limits history state schedule =
-    ap (λ x. record { script = x; limits = b.limits; history = b.history.items; state = state_of b.machine; schedule = schedule_of b.scheduler }) script
-    ∙ ap (λ x. record { script = v.script; limits = x; history = b.history.items; state = state_of b.machine; schedule = schedule_of b.scheduler }) limits
-    ∙ ap (λ x. record { script = v.script; limits = v.limits; history = x; state = state_of b.machine; schedule = schedule_of b.scheduler }) history
-    ∙ ap (λ x. record { script = v.script; limits = v.limits; history = v.history; state = x; schedule = schedule_of b.scheduler }) state
+    ap (λ x. record { script = x; limits = b.limits; history = b.run.history.items; state = state_of b.run.machine; schedule = schedule_of b.run.scheduler }) script
+    ∙ ap (λ x. record { script = v.script; limits = x; history = b.run.history.items; state = state_of b.run.machine; schedule = schedule_of b.run.scheduler }) limits
+    ∙ ap (λ x. record { script = v.script; limits = v.limits; history = x; state = state_of b.run.machine; schedule = schedule_of b.run.scheduler }) history
+    ∙ ap (λ x. record { script = v.script; limits = v.limits; history = v.history; state = x; schedule = schedule_of b.run.scheduler }) state
     ∙ ap (λ x. record { script = v.script; limits = v.limits; history = v.history; state = v.state; schedule = x }) schedule
 
 -- a book as it begins
-pub begun-kept : (b : Inside) → IsGood b.script → AreLimits b.limits → b.history.items ≡ [] → b.history.spare ≡ b.limits.entries + 1
-    → state_of b.machine ≡ first_state b.script → b.machine.goroutines.spare ≡ b.limits.entries → schedule_of b.scheduler ≡ first_schedule b.script
-    → capacity b.scheduler ≡ most_goroutines b.limits → IsScheduler b.scheduler → IsKept b
+pub begun-kept : (b : Inside) → IsGood b.script → AreLimits b.limits → b.run.history.items ≡ [] → b.run.history.spare ≡ b.limits.entries + 1
+    → state_of b.run.machine ≡ first_state b.script → b.run.machine.goroutines.spare ≡ b.limits.entries → schedule_of b.run.scheduler ≡ first_schedule b.script
+    → capacity b.run.scheduler ≡ most_goroutines b.limits → IsScheduler b.run.scheduler → IsKept b
 begun-kept b good are empty spare state room schedule places kept =
     let is : seen b ≡ first_view b.script b.limits = seen-is b (first_view b.script b.limits) refl refl empty state schedule in
-    let none : length b.history.items ≡ 0 = ap length empty in
-    let one : length b.machine.goroutines.items ≡ 1 = ap (λ (s : State). length s.goroutines) state in
-    let zero_entries : b.machine.entries ≡ 0 = ap (λ (s : State). s.entries) state in
-    let running : as_number (is_some (outcome_in b.machine.ending)) ≡ 0 = ap (λ (s : State). as_number (is_some (outcome_in s.ending))) state in
+    let none : length b.run.history.items ≡ 0 = ap length empty in
+    let one : length b.run.machine.goroutines.items ≡ 1 = ap (λ (s : State). length s.goroutines) state in
+    let zero_entries : b.run.machine.entries ≡ 0 = ap (λ (s : State). s.entries) state in
+    let running : as_number (is_some (outcome_in b.run.machine.ending)) ≡ 0 = ap (λ (s : State). as_number (is_some (outcome_in s.ending))) state in
     record {
       lawful = subst IsLawful (sym is) (lawful-first b.script b.limits good are);
       rooms = record { history = omega arith; goroutines = omega arith; schedule = places; scheduler = kept; entries = omega arith };
@@ -73,8 +73,8 @@ begun-kept b good are empty spare state room schedule places kept =
 pub record CanEnter (b : Inside) (e : Entry) : Type 0 where
   pub kept : IsKept b
   pub running : outcome_of (seen b) ≡ None
-  pub may : May b.script (state_of b.machine) e
-  pub served : Served (schedule_of b.scheduler) e
+  pub may : May b.script (state_of b.run.machine) e
+  pub served : Served (schedule_of b.run.scheduler) e
 
 -- the same by what is seen of the book
 pub can_enter-seen : (b : Inside) (v : BookView) (e : Entry) → seen b ≡ v → IsKept b → outcome_of v ≡ None → May v.script v.state e
@@ -86,43 +86,43 @@ can_enter-seen b v e is kept running may served = record {
   served = subst (λ (v : BookView). Served v.schedule e) (sym is) served;
 }
 
-pub can_enter-runs : (b : Inside) (e : Entry) → CanEnter b e → IsRunning b.limits (state_of b.machine)
+pub can_enter-runs : (b : Inside) (e : Entry) → CanEnter b e → IsRunning b.limits (state_of b.run.machine)
 can_enter-runs b e can = running-none (seen b) can.kept.lawful can.running
 
 -- what the parts of the book need
-pub can_enter-applies : (b : Inside) (e : Entry) → CanEnter b e → CanApply b.scheduler e
+pub can_enter-applies : (b : Inside) (e : Entry) → CanEnter b e → CanApply b.run.scheduler e
 can_enter-applies b e can =
-    let runs : IsRunning b.limits (state_of b.machine) = can_enter-runs b e can in
-    let room : b.machine.entries < b.limits.entries = runs.room in
-    let few : length b.machine.goroutines.items ≤ b.machine.entries + 1 = can.kept.lawful.formed.few in
-    let as_many : length b.scheduler.statuses.items ≡ length b.machine.goroutines.items = can.kept.lawful.fits.as_many in
-    let places : capacity b.scheduler ≡ b.limits.entries + 1 = can.kept.rooms.schedule in
+    let runs : IsRunning b.limits (state_of b.run.machine) = can_enter-runs b e can in
+    let room : b.run.machine.entries < b.limits.entries = runs.room in
+    let few : length b.run.machine.goroutines.items ≤ b.run.machine.entries + 1 = can.kept.lawful.formed.few in
+    let as_many : length b.run.scheduler.statuses.items ≡ length b.run.machine.goroutines.items = can.kept.lawful.fits.as_many in
+    let places : capacity b.run.scheduler ≡ b.limits.entries + 1 = can.kept.rooms.schedule in
     record {
       kept = can.kept.rooms.scheduler;
-      orderly = orderly-fits b.script (state_of b.machine) (schedule_of b.scheduler) can.kept.lawful.fits;
+      orderly = orderly-fits b.script (state_of b.run.machine) (schedule_of b.run.scheduler) can.kept.lawful.fits;
       served = can.served;
       spare = omega arith;
     }
 
 -- there is room for the entry and for a finish
-pub can_enter-room : (b : Inside) (e : Entry) → CanEnter b e → 1 < b.history.spare
+pub can_enter-room : (b : Inside) (e : Entry) → CanEnter b e → 1 < b.run.history.spare
 can_enter-room b e can =
-    let runs : IsRunning b.limits (state_of b.machine) = can_enter-runs b e can in
-    let room : b.machine.entries < b.limits.entries = runs.room in
-    let all : length b.history.items + b.history.spare ≡ b.limits.entries + 1 = can.kept.rooms.history in
-    let none : as_number (is_some (outcome_in b.machine.ending)) ≡ 0 = ap (λ (o : Option Outcome). as_number (is_some o)) can.running in
-    let count : length b.history.items ≡ b.machine.entries + as_number (is_some (outcome_in b.machine.ending)) = can.kept.rooms.entries in
+    let runs : IsRunning b.limits (state_of b.run.machine) = can_enter-runs b e can in
+    let room : b.run.machine.entries < b.limits.entries = runs.room in
+    let all : length b.run.history.items + b.run.history.spare ≡ b.limits.entries + 1 = can.kept.rooms.history in
+    let none : as_number (is_some (outcome_in b.run.machine.ending)) ≡ 0 = ap (λ (o : Option Outcome). as_number (is_some o)) can.running in
+    let count : length b.run.history.items ≡ b.run.machine.entries + as_number (is_some (outcome_in b.run.machine.ending)) = can.kept.rooms.entries in
     omega arith
 
 -- the parts of a book after an entry
 pub record Applied (b : Inside) (e : Entry) (machine : Machine) (scheduler : Scheduler) (history : Contents Entry) : Type 0 where
-  pub state : state_of machine ≡ after b.script (state_of b.machine) e
-  pub goroutines : length machine.goroutines.items + machine.goroutines.spare ≡ length b.machine.goroutines.items + b.machine.goroutines.spare
-  pub schedule : schedule_of scheduler ≡ scheduled (schedule_of b.scheduler) e
-  pub places : capacity scheduler ≡ capacity b.scheduler
+  pub state : state_of machine ≡ after b.script (state_of b.run.machine) e
+  pub goroutines : length machine.goroutines.items + machine.goroutines.spare ≡ length b.run.machine.goroutines.items + b.run.machine.goroutines.spare
+  pub schedule : schedule_of scheduler ≡ scheduled (schedule_of b.run.scheduler) e
+  pub places : capacity scheduler ≡ capacity b.run.scheduler
   pub kept : IsScheduler scheduler
-  pub items : history.items ≡ b.history.items ++ e ∷ []
-  pub spare : history.spare + 1 ≡ b.history.spare
+  pub items : history.items ≡ b.run.history.items ++ e ∷ []
+  pub spare : history.spare + 1 ≡ b.run.history.spare
 
 -- the parts after a finish
 pub record Finished (script : Script) (outcome : Outcome) (old : Machine) (before : Contents Entry) (machine : Machine) (history : Contents Entry) : Type 0 where
@@ -137,8 +137,8 @@ with_parts b machine scheduler history = record { script = b.script; limits = b.
 entered : (b : Inside) (e : Entry) → CanEnter b e → IsEntered (seen b) e
 entered b e can =
     entered_by (seen b) e can.kept.lawful (can_enter-runs b e can) can.may
-    (fits-entered b.script (state_of b.machine) (schedule_of b.scheduler) e can.kept.lawful.fits can.served)
-    (calm-changed b.script (state_of b.machine) (schedule_of b.scheduler) (change_of e) can.kept.lawful.fits can.served (can.kept.lawful.calm can.running))
+    (fits-entered b.script (state_of b.run.machine) (schedule_of b.run.scheduler) e can.kept.lawful.fits can.served)
+    (calm-changed b.script (state_of b.run.machine) (schedule_of b.run.scheduler) (change_of e) can.kept.lawful.fits can.served (can.kept.lawful.calm can.running))
 
 -- where the run goes on
 seen-applied : (b : Inside) (e : Entry) (machine : Machine) (scheduler : Scheduler) (history : Contents Entry) → Applied b e machine scheduler history
@@ -147,7 +147,7 @@ seen-applied b e machine scheduler history done =
     seen-is (with_parts b machine scheduler history) (with_entries (seen b) (e ∷ [])) refl refl done.items done.state done.schedule
 
 due-applied : (b : Inside) (e : Entry) (machine : Machine) (scheduler : Scheduler) (history : Contents Entry) (o : Option Outcome) → Applied b e machine scheduler history
-    → due_outcome b.limits (state_of machine) ≡ o → due_outcome b.limits (after b.script (state_of b.machine) e) ≡ o
+    → due_outcome b.limits (state_of machine) ≡ o → due_outcome b.limits (after b.script (state_of b.run.machine) e) ≡ o
 due-applied b e machine scheduler history o done due = ap (due_outcome b.limits) (sym done.state) ∙ due
 
 unfinished-none : (ending : Ending) → ((outcome : Outcome) → ending ≡ Ending.Finished outcome → ⊥) → outcome_in ending ≡ None
@@ -159,22 +159,22 @@ unfinished-none (Ending.Finished outcome) h = absurd (h outcome refl)
 none-applied : (b : Inside) (e : Entry) (machine : Machine) (scheduler : Scheduler) (history : Contents Entry) → CanEnter b e → Applied b e machine scheduler history
     → outcome_in machine.ending ≡ None
 none-applied b e machine scheduler history can done =
-    let same : machine.ending ≡ (after b.script (state_of b.machine) e).ending = ap (λ (s : State). s.ending) done.state in
+    let same : machine.ending ≡ (after b.script (state_of b.run.machine) e).ending = ap (λ (s : State). s.ending) done.state in
     unfinished-none machine.ending (λ outcome is. (entered b e can).unfinished outcome (sym same ∙ is))
 
 -- how many entries there are then
 record CountsMore (b : Inside) (machine : Machine) (history : Contents Entry) : Type 0 where
-  pub entries : machine.entries ≡ b.machine.entries + 1
+  pub entries : machine.entries ≡ b.run.machine.entries + 1
   pub items : length history.items ≡ machine.entries
 
 counts-more : (b : Inside) (e : Entry) (machine : Machine) (scheduler : Scheduler) (history : Contents Entry) → CanEnter b e → Applied b e machine scheduler history
     → CountsMore b machine history
 counts-more b e machine scheduler history can done =
-    let counted : IsCounted b.script (state_of b.machine) e = counted-May b.script (state_of b.machine) e can.may in
-    let entries : machine.entries ≡ b.machine.entries + 1 = ap (λ (s : State). s.entries) done.state ∙ counted.more in
-    let none : as_number (is_some (outcome_in b.machine.ending)) ≡ 0 = ap (λ (o : Option Outcome). as_number (is_some o)) can.running in
-    let count : length b.history.items ≡ b.machine.entries + as_number (is_some (outcome_in b.machine.ending)) = can.kept.rooms.entries in
-    let longer : length history.items ≡ length b.history.items + 1 = ap length done.items ∙ length-append b.history.items (e ∷ []) in
+    let counted : IsCounted b.script (state_of b.run.machine) e = counted-May b.script (state_of b.run.machine) e can.may in
+    let entries : machine.entries ≡ b.run.machine.entries + 1 = ap (λ (s : State). s.entries) done.state ∙ counted.more in
+    let none : as_number (is_some (outcome_in b.run.machine.ending)) ≡ 0 = ap (λ (o : Option Outcome). as_number (is_some o)) can.running in
+    let count : length b.run.history.items ≡ b.run.machine.entries + as_number (is_some (outcome_in b.run.machine.ending)) = can.kept.rooms.entries in
+    let longer : length history.items ≡ length b.run.history.items + 1 = ap length done.items ∙ length-append b.run.history.items (e ∷ []) in
     record { entries = entries; items = omega arith }
 
 rooms-applied : (b : Inside) (e : Entry) (machine : Machine) (scheduler : Scheduler) (history : Contents Entry) → CanEnter b e → Applied b e machine scheduler history
@@ -182,9 +182,9 @@ rooms-applied : (b : Inside) (e : Entry) (machine : Machine) (scheduler : Schedu
 rooms-applied b e machine scheduler history can done =
     let more : CountsMore b machine history = counts-more b e machine scheduler history can done in
     let longer : length history.items ≡ machine.entries = more.items in
-    let before : length b.history.items + b.history.spare ≡ b.limits.entries + 1 = can.kept.rooms.history in
-    let spare : history.spare + 1 ≡ b.history.spare = done.spare in
-    let grows : length history.items ≡ length b.history.items + 1 = ap length done.items ∙ length-append b.history.items (e ∷ []) in
+    let before : length b.run.history.items + b.run.history.spare ≡ b.limits.entries + 1 = can.kept.rooms.history in
+    let spare : history.spare + 1 ≡ b.run.history.spare = done.spare in
+    let grows : length history.items ≡ length b.run.history.items + 1 = ap length done.items ∙ length-append b.run.history.items (e ∷ []) in
     let none : as_number (is_some (outcome_in machine.ending)) ≡ 0 =
     ap (λ (o : Option Outcome). as_number (is_some o)) (none-applied b e machine scheduler history can done) in
     record {
@@ -214,10 +214,10 @@ seen-finished : (b : Inside) (e : Entry) (outcome : Outcome) (m : Machine) (sche
     → Applied b e m scheduler h → Finished b.script outcome m h machine history
     → seen (with_parts b machine scheduler history) ≡ with_entries (seen b) (e ∷ Entry.Finish outcome ∷ [])
 seen-finished b e outcome m scheduler h machine history done ends =
-    let state : state_of machine ≡ after b.script (after b.script (state_of b.machine) e) (Entry.Finish outcome) =
+    let state : state_of machine ≡ after b.script (after b.script (state_of b.run.machine) e) (Entry.Finish outcome) =
     ends.state ∙ ap (λ (s : State). after b.script s (Entry.Finish outcome)) done.state in
-    let items : history.items ≡ b.history.items ++ e ∷ Entry.Finish outcome ∷ [] =
-    ends.items ∙ ap (λ (xs : List Entry). xs ++ Entry.Finish outcome ∷ []) done.items ∙ append_assoc b.history.items (e ∷ []) (Entry.Finish outcome ∷ []) in
+    let items : history.items ≡ b.run.history.items ++ e ∷ Entry.Finish outcome ∷ [] =
+    ends.items ∙ ap (λ (xs : List Entry). xs ++ Entry.Finish outcome ∷ []) done.items ∙ append_assoc b.run.history.items (e ∷ []) (Entry.Finish outcome ∷ []) in
     seen-is (with_parts b machine scheduler history) (with_entries (seen b) (e ∷ Entry.Finish outcome ∷ [])) refl refl items state done.schedule
 
 pub enters-finished : (b : Inside) (e : Entry) (outcome : Outcome) (m : Machine) (scheduler : Scheduler) (h : Contents Entry) (machine : Machine) (history : Contents Entry)

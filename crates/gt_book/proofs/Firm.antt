@@ -140,7 +140,7 @@ made-stays s next may o stays h = made-either (is_some (timer_at s o)) (is_some 
 -- the parts of the use of an open channel
 pub record IsOpenChannel (s : State) (c : ℕ) : Type 0 where
   pub made : is_some (channel_at s c) ≡ true
-  pub open : is_closed s c ≡ false
+  pub unshut : is_closed s c ≡ false
 
 open-parts : (o : Option Channel) (closed : Bool) → is_some (or_else (when (is_none o) Reason.Unmade) (when closed Reason.Closed)) ≡ false → (is_some o ≡ true) × (closed ≡ false)
 open-parts None closed h = cc
@@ -148,7 +148,7 @@ open-parts (Some r) true h = cc
 open-parts (Some r) false h = (refl, refl)
 
 pub open-fault : (s : State) (c : ℕ) → is_some (open_fault s c) ≡ false → IsOpenChannel s c
-open-fault s c h = let parts = open-parts (channel_at s c) (is_closed s c) h in record { made = parts.0; open = parts.1 }
+open-fault s c h = let parts = open-parts (channel_at s c) (is_closed s c) h in record { made = parts.0; unshut = parts.1 }
 
 open-none : (o : Option Channel) (closed : Bool) → is_some o ≡ true → closed ≡ false → or_else (when (is_none o) Reason.Unmade) (when closed Reason.Closed) ≡ None
 open-none None closed h k = cc
@@ -156,7 +156,7 @@ open-none (Some r) true h k = cc
 open-none (Some r) false h k = refl
 
 pub open-no_fault : (s : State) (c : ℕ) → IsOpenChannel s c → open_fault s c ≡ None
-open-no_fault s c is = open-none (channel_at s c) (is_closed s c) is.made is.open
+open-no_fault s c is = open-none (channel_at s c) (is_closed s c) is.made is.unshut
 
 -- ---- the partners of one that is parked were its partners before
 
@@ -175,7 +175,7 @@ fault-before script s next may (Instr.Send c v) kind stays e made none =
     let is : CaseKind.Send c v ≡ kind = cc in
     let here : is_some (channel_at s c) ≡ true = subst (λ k. is_some (channel_at s (object_of k)) ≡ true) (sym is) made in
     let after : IsOpenChannel next c = open-fault next c (ap is_some none) in
-    open-no_fault s c (record { made = here; open = unless-true (is_closed s c) (λ shut. never-both (is_closed next c) (stays.closed c shut) after.open) })
+    open-no_fault s c (record { made = here; unshut = unless-true (is_closed s c) (λ shut. never-both (is_closed next c) (stays.closed c shut) after.unshut) })
 fault-before script s next may i kind stays e made none = cc
 
 -- what an operation that passes a test is
@@ -293,9 +293,9 @@ firm-next script s next counts counts' g y (Some (Instr.Recv o)) stays same alon
 firm-next script s next counts counts' g y (Some (Instr.Send c v)) stays same alone h =
     let parts = or-false (is_some (fault script s (Instr.Send c v))) (is_ready_instr script s no_timer counts g (Instr.Send c v)) h in
     let ready = or-false (is_ready_alone script s no_timer (CaseKind.Send c v)) (has_partner script s counts g (CaseKind.Send c v)) parts.1 in
-    let open : IsOpenChannel s c = open-fault s c parts.0 in
+    let here : IsOpenChannel s c = open-fault s c parts.0 in
     let stay : channel_at next c ≡ channel_at s c = stays.same c (same (CaseKind.Send c v) refl) in
-    let faultless : open_fault next c ≡ None = ap (λ (ch : Option Channel). or_else (when (is_none ch) Reason.Unmade) (when (shut_in ch) Reason.Closed)) stay ∙ open-no_fault s c open in
+    let faultless : open_fault next c ≡ None = ap (λ (ch : Option Channel). or_else (when (is_none ch) Reason.Unmade) (when (shut_in ch) Reason.Closed)) stay ∙ open-no_fault s c here in
     both-false (is_some (fault script next (Instr.Send c v))) _ (ap is_some faultless)
     (both-false (is_ready_alone script next no_timer (CaseKind.Send c v)) _ (send-same s next c (capacity_of script c) stay ∙ ready.0) (alone (CaseKind.Send c v) refl))
 firm-next script s next counts counts' g y (Some (Instr.LoopTop depth count past)) stays same alone h = refl

@@ -54,10 +54,10 @@ fits-given script s m fits orderly = record {
 calm-given : (script : Script) (s : State) (m : Schedule) → IsCalm script s m → IsCalm script s (given_back m)
 calm-given script s m calm g waits = calm g (sym (parked-given m g) ∙ waits)
 
-pub kept-given : (b : Inside) (m : Scheduler) → IsKept b → schedule_of m ≡ given_back (schedule_of b.scheduler) → IsOrderly (schedule_of m) → capacity m ≡ capacity b.scheduler
+pub kept-given : (b : Inside) (m : Scheduler) → IsKept b → schedule_of m ≡ given_back (schedule_of b.run.scheduler) → IsOrderly (schedule_of m) → capacity m ≡ capacity b.run.scheduler
     → IsScheduler m → IsKept (with_scheduler b m)
 kept-given b m kept is orderly places scheduler =
-    kept-scheduled b m (given_back (schedule_of b.scheduler)) kept is
-    (fits-given b.script (state_of b.machine) (schedule_of b.scheduler) kept.lawful.fits (subst IsOrderly is orderly))
-    (λ running. calm-given b.script (state_of b.machine) (schedule_of b.scheduler) (kept.lawful.calm running))
+    kept-scheduled b m (given_back (schedule_of b.run.scheduler)) kept is
+    (fits-given b.script (state_of b.run.machine) (schedule_of b.run.scheduler) kept.lawful.fits (subst IsOrderly is orderly))
+    (λ running. calm-given b.script (state_of b.run.machine) (schedule_of b.run.scheduler) (kept.lawful.calm running))
     places scheduler

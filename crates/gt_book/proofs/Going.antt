@@ -55,25 +55,25 @@ lawful-scheduled v m lawful fits calm = record {
 }
 
 abbrev pub with_scheduler : Inside → Scheduler → Inside
-with_scheduler b m = record { script = b.script; limits = b.limits; history = b.history; machine = b.machine; scheduler = m }
+with_scheduler b m = record { script = b.script; limits = b.limits; history = b.history; machine = b.run.machine; scheduler = m }
 
-pub kept-scheduled : (b : Inside) (m : Scheduler) (schedule : Schedule) → IsKept b → schedule_of m ≡ schedule → Fits b.script (state_of b.machine) schedule
-    → (outcome_of (seen b) ≡ None → IsCalm b.script (state_of b.machine) schedule) → capacity m ≡ capacity b.scheduler → IsScheduler m → IsKept (with_scheduler b m)
+pub kept-scheduled : (b : Inside) (m : Scheduler) (schedule : Schedule) → IsKept b → schedule_of m ≡ schedule → Fits b.script (state_of b.run.machine) schedule
+    → (outcome_of (seen b) ≡ None → IsCalm b.script (state_of b.run.machine) schedule) → capacity m ≡ capacity b.run.scheduler → IsScheduler m → IsKept (with_scheduler b m)
 kept-scheduled b m schedule kept is fits calm places scheduler = record {
-  lawful = lawful-scheduled (seen b) (schedule_of m) kept.lawful (subst (Fits b.script (state_of b.machine)) (sym is) fits)
-      (λ running. subst (IsCalm b.script (state_of b.machine)) (sym is) (calm running));
+  lawful = lawful-scheduled (seen b) (schedule_of m) kept.lawful (subst (Fits b.script (state_of b.run.machine)) (sym is) fits)
+      (λ running. subst (IsCalm b.script (state_of b.run.machine)) (sym is) (calm running));
   rooms = record { history = kept.rooms.history; goroutines = kept.rooms.goroutines; schedule = places ∙ kept.rooms.schedule; scheduler = scheduler; entries = kept.rooms.entries };
 }
 
 -- a goroutine was taken, or none was
-pub kept-taken : (b : Inside) (m : Scheduler) (result : Option ℕ) → IsKept b → result ≡ slice_get (schedule_of b.scheduler).run_queue 0
-    → IfNone result (m ≡ b.scheduler) → IfSome result (λ g. schedule_of m ≡ taken (schedule_of b.scheduler) g)
-    → capacity m ≡ capacity b.scheduler → IsScheduler m → IsKept (with_scheduler b m)
+pub kept-taken : (b : Inside) (m : Scheduler) (result : Option ℕ) → IsKept b → result ≡ slice_get (schedule_of b.run.scheduler).run_queue 0
+    → IfNone result (m ≡ b.run.scheduler) → IfSome result (λ g. schedule_of m ≡ taken (schedule_of b.run.scheduler) g)
+    → capacity m ≡ capacity b.run.scheduler → IsScheduler m → IsKept (with_scheduler b m)
 kept-taken b m None kept first unchanged schedule places scheduler = subst (λ (m : Scheduler). IsKept (with_scheduler b m)) (sym unchanged) kept
 kept-taken b m (Some g) kept first unchanged schedule places scheduler =
-    kept-scheduled b m (taken (schedule_of b.scheduler) g) kept schedule
-    (fits-taken b.script (state_of b.machine) (schedule_of b.scheduler) g kept.lawful.fits (sym first))
-    (λ running. calm-taken b.script (state_of b.machine) (schedule_of b.scheduler) g (first-queued (schedule_of b.scheduler) g kept.lawful.fits.queued (sym first)) (kept.lawful.calm running))
+    kept-scheduled b m (taken (schedule_of b.run.scheduler) g) kept schedule
+    (fits-taken b.script (state_of b.run.machine) (schedule_of b.run.scheduler) g kept.lawful.fits (sym first))
+    (λ running. calm-taken b.script (state_of b.run.machine) (schedule_of b.run.scheduler) g (first-queued (schedule_of b.run.scheduler) g kept.lawful.fits.queued (sym first)) (kept.lawful.calm running))
     places scheduler
 
 -- ---- the end in a deadlock
@@ -87,19 +87,19 @@ lawful-deadlock v lawful none idle uncounted =
     tt (λ none. cc)
 
 abbrev pub ended : Inside → Machine → Contents Entry → Inside
-ended b machine history = record { script = b.script; limits = b.limits; history = history; machine = machine; scheduler = b.scheduler }
+ended b machine history = record { script = b.script; limits = b.limits; history = history; machine = machine; scheduler = b.run.scheduler }
 
-pub seen-deadlock : (b : Inside) (machine : Machine) (history : Contents Entry) → Finished b.script Outcome.Deadlock b.machine b.history machine history
+pub seen-deadlock : (b : Inside) (machine : Machine) (history : Contents Entry) → Finished b.script Outcome.Deadlock b.run.machine b.history machine history
     → seen (ended b machine history) ≡ with_entries (seen b) (Entry.Finish Outcome.Deadlock ∷ [])
 seen-deadlock b machine history ends =
     seen-is (ended b machine history) (with_entries (seen b) (Entry.Finish Outcome.Deadlock ∷ [])) refl refl ends.items ends.state refl
 
 pub kept-deadlock : (b : Inside) (machine : Machine) (history : Contents Entry) → IsKept b → outcome_of (seen b) ≡ None
-    → IsIdle b.script (state_of b.machine) → counted b.script (state_of b.machine) 0 ≡ []
-    → Finished b.script Outcome.Deadlock b.machine b.history machine history → IsKept (ended b machine history)
+    → IsIdle b.script (state_of b.run.machine) → counted b.script (state_of b.run.machine) 0 ≡ []
+    → Finished b.script Outcome.Deadlock b.run.machine b.history machine history → IsKept (ended b machine history)
 kept-deadlock b machine history kept none idle uncounted ends = record {
   lawful = subst IsLawful (sym (seen-deadlock b machine history ends)) (lawful-deadlock (seen b) kept.lawful none idle uncounted);
-  rooms = finished-rooms b b.scheduler b.machine b.history Outcome.Deadlock machine history kept.rooms none ends;
+  rooms = finished-rooms b b.run.scheduler b.run.machine b.history Outcome.Deadlock machine history kept.rooms none ends;
 }
 
 -- ---- what a goroutine in hand does
@@ -281,6 +281,6 @@ waits-rightly script s m g t good formed h =
     ] refl step.is
 
 -- the same by what is seen of the book
-pub waits-seen : (b : Inside) (v : BookView) (g t : ℕ) → seen b ≡ v → IsKept b → step_of v.script v.state v.schedule g ≡ Some (Step.Waits t) → WaitsRightly b.script (state_of b.machine) g t
+pub waits-seen : (b : Inside) (v : BookView) (g t : ℕ) → seen b ≡ v → IsKept b → step_of v.script v.state v.schedule g ≡ Some (Step.Waits t) → WaitsRightly b.script (state_of b.run.machine) g t
 waits-seen b v g t is kept step =
-    waits-rightly b.script (state_of b.machine) (schedule_of b.scheduler) g t kept.lawful.good kept.lawful.formed (subst (λ (v : BookView). step_of v.script v.state v.schedule g ≡ Some (Step.Waits t)) (sym is) step)
+    waits-rightly b.script (state_of b.run.machine) (schedule_of b.run.scheduler) g t kept.lawful.good kept.lawful.formed (subst (λ (v : BookView). step_of v.script v.state v.schedule g ≡ Some (Step.Waits t)) (sym is) step)

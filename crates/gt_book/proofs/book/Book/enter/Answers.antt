@@ -14,14 +14,14 @@ apply-requires-2 c =
 pub put-requires : goal.put-requires
 put-requires c =
     let can : CanEnter c.self.inside c.args.entry = can_enter-seen c.self.inside c.args.self.now c.args.entry c.self.view_is c.self.invariant c.requires.running c.requires.may c.requires.served in
-    let room : 1 < c.self.inside.history.spare = can_enter-room c.self.inside c.args.entry can in
+    let room : 1 < c.self.inside.run.history.spare = can_enter-room c.self.inside c.args.entry can in
     omega arith
 
 pub put-requires-in-Some : goal.put-requires-in-Some
 put-requires-in-Some c =
     let can : CanEnter c.self.inside c.args.entry = can_enter-seen c.self.inside c.args.self.now c.args.entry c.self.view_is c.self.invariant c.requires.running c.requires.may c.requires.served in
-    let room : 1 < c.self.inside.history.spare = can_enter-room c.self.inside c.args.entry can in
-    let less : c.put.new.self.spare + 1 ≡ c.self.inside.history.spare = c.put.ensures.spare in
+    let room : 1 < c.self.inside.run.history.spare = can_enter-room c.self.inside c.args.entry can in
+    let less : c.put.new.self.spare + 1 ≡ c.self.inside.run.history.spare = c.put.ensures.spare in
     omega arith
 
 pub invariant_of-self : goal.invariant_of-self

@@ -11,7 +11,7 @@ use Rattle.gt_book.proofs.book.Book.finish_deadlock.Goals as goal
 
 pub invariant_of-self : goal.invariant_of-self
 invariant_of-self c =
-    let ends : Finished c.self.inside.script Outcome.Deadlock c.self.inside.machine c.self.inside.history c.finish.new.self c.put.new.self = record {
+    let ends : Finished c.self.inside.script Outcome.Deadlock c.self.inside.run.machine c.self.inside.run.history c.finish.new.self c.put.new.self = record {
       state = c.finish.ensures.state c.self.inside.script;
       goroutines = c.finish.ensures.room;
       items = c.put.ensures.items;
@@ -24,7 +24,7 @@ invariant_of-self c =
 
 pub returns : goal.returns
 returns c =
-    let ends : Finished c.self.inside.script Outcome.Deadlock c.self.inside.machine c.self.inside.history c.finish.new.self c.put.new.self = record {
+    let ends : Finished c.self.inside.script Outcome.Deadlock c.self.inside.run.machine c.self.inside.run.history c.finish.new.self c.put.new.self = record {
       state = c.finish.ensures.state c.self.inside.script;
       goroutines = c.finish.ensures.room;
       items = c.put.ensures.items;

@@ -7,12 +7,12 @@ use Rattle.gt_book.proofs.book.Book.lawful.Goals as goal
 
 pub returns-clause-few : goal.returns-clause-few
 returns-clause-few c =
-    let room : length c.self.inside.history.items + c.self.inside.history.spare ≡ c.self.inside.limits.entries + 1 = c.self.invariant.rooms.history in
+    let room : length c.self.inside.run.history.items + c.self.inside.run.history.spare ≡ c.self.inside.limits.entries + 1 = c.self.invariant.rooms.history in
     let few : length (seen c.self.inside).history ≤ (seen c.self.inside).limits.entries + 1 = omega arith in
     subst (λ (v : BookView). length v.history ≤ v.limits.entries + 1) c.self.view_is few
 
 pub returns-clause-few_goroutines : goal.returns-clause-few_goroutines
 returns-clause-few_goroutines c =
-    let room : capacity c.self.inside.scheduler ≡ most_goroutines c.self.inside.limits = c.self.invariant.rooms.schedule in
+    let room : capacity c.self.inside.run.scheduler ≡ most_goroutines c.self.inside.limits = c.self.invariant.rooms.schedule in
     let few : length (seen c.self.inside).schedule.statuses ≤ most_goroutines (seen c.self.inside).limits = omega arith in
     subst (λ (v : BookView). length v.schedule.statuses ≤ most_goroutines v.limits) c.self.view_is few

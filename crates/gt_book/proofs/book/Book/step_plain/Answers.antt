@@ -24,21 +24,21 @@ enter-requires-clause-served c =
 
 pub park_at-ticket-requires-clause-orderly : goal.park_at-ticket-requires-clause-orderly
 park_at-ticket-requires-clause-orderly c =
-    orderly-fits c.self.inside.script (state_of c.self.inside.machine) (schedule_of c.self.inside.scheduler) c.self.invariant.lawful.fits
+    orderly-fits c.self.inside.script (state_of c.self.inside.run.machine) (schedule_of c.self.inside.run.scheduler) c.self.invariant.lawful.fits
 
 pub park_at-ticket-requires-clause-declared : goal.park_at-ticket-requires-clause-declared
 park_at-ticket-requires-clause-declared c =
-    let waits : WaitsRightly c.self.inside.script (state_of c.self.inside.machine) c.args.g c.in-Waits.t =
+    let waits : WaitsRightly c.self.inside.script (state_of c.self.inside.run.machine) c.args.g c.in-Waits.t =
     waits-seen c.self.inside c.args.self.now c.args.g c.in-Waits.t c.self.view_is c.self.invariant (search rules) in
     subst (λ n. c.in-Waits.t < n) (sym c.self.invariant.lawful.fits.receivers) waits.within
 
 pub invariant_of-self : goal.invariant_of-self
 invariant_of-self c =
-    let waits : WaitsRightly c.self.inside.script (state_of c.self.inside.machine) c.args.g c.in-Waits.t =
+    let waits : WaitsRightly c.self.inside.script (state_of c.self.inside.run.machine) c.args.g c.in-Waits.t =
     waits-seen c.self.inside c.args.self.now c.args.g c.in-Waits.t c.self.view_is c.self.invariant (search rules) in
     let in_hand : status_of (seen c.self.inside).schedule c.args.g ≡ Some RunStatus.InHand =
     subst (λ (v : BookView). status_of v.schedule c.args.g ≡ Some RunStatus.InHand) (sym c.self.view_is) c.requires in
-    kept-scheduled c.self.inside c.park_at-ticket.new.self (parked_at (schedule_of c.self.inside.scheduler) (plainly c.args.g) c.in-Waits.t) c.self.invariant c.park_at-ticket.ensures.schedule
-    (fits-parked_at c.self.inside.script (state_of c.self.inside.machine) (schedule_of c.self.inside.scheduler) c.args.g c.in-Waits.t c.self.invariant.lawful.fits in_hand waits.stands waits.within)
-    (λ running. calm-parked_at c.self.inside.script (state_of c.self.inside.machine) (schedule_of c.self.inside.scheduler) c.args.g c.in-Waits.t waits.stands waits.made (c.self.invariant.lawful.calm running))
+    kept-scheduled c.self.inside c.park_at-ticket.new.self (parked_at (schedule_of c.self.inside.run.scheduler) (plainly c.args.g) c.in-Waits.t) c.self.invariant c.park_at-ticket.ensures.schedule
+    (fits-parked_at c.self.inside.script (state_of c.self.inside.run.machine) (schedule_of c.self.inside.run.scheduler) c.args.g c.in-Waits.t c.self.invariant.lawful.fits in_hand waits.stands waits.within)
+    (λ running. calm-parked_at c.self.inside.script (state_of c.self.inside.run.machine) (schedule_of c.self.inside.run.scheduler) c.args.g c.in-Waits.t waits.stands waits.made (c.self.invariant.lawful.calm running))
     c.park_at-ticket.ensures.room c.park_at-ticket.ensures.kept
