@@ -1,2 +1,4 @@
 pub mod Machines
 pub mod Codes
+pub mod Channels
+pub mod Applied

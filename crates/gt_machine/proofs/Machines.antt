@@ -1,5 +1,5 @@
 -- Goroutines by number and by place; what stands where in a formed state.
-use Rattle.std.proofs.Common.{◌≡◌, ℕ, zero, suc, ◌-◌, ◌+◌, ◌^◌, ◌<◌, List, [], ◌∷◌, ◌++◌, map, length, refl, sym, ◌∙◌, ap, set, slice_get, Option, None, Some, sub-one, IsSomeAnd, IfSome, is_some, true, arith}
+use Rattle.std.proofs.Common.{◌≡◌, ◌≢◌, ℕ, zero, suc, ◌-◌, ◌+◌, ◌^◌, ◌<◌, List, [], ◌∷◌, ◌++◌, map, length, refl, sym, subst, ◌∙◌, ap, set, slice_get, Option, None, Some, sub-one, IsSomeAnd, IfSome, is_some, true, arith}
 use Rattle.std.specs.Prelude.{replicate}
 use Rattle.std.proofs.lemmas.Option.{slice_get_within}
 use Rattle.std.proofs.Math.ListN.{length-append}
@@ -21,13 +21,14 @@ use Rattle.gt_machine.specs.Places.{LeadsRightly, IsWalkable}
 use Rattle.gt_rules.specs.Change.{change_of}
 use Rattle.gt_rules.specs.Legal.{May}
 use Rattle.gt_facts.specs.Formed.{IsFormed, IsPlacedIn}
-use Rattle.gt_facts.proofs.Fits.{IsLive, FitsTimer, mover-fits, timer-fits}
+use Rattle.gt_facts.proofs.Fits.{IsLive, FitsTimer, fits-May}
 use Rattle.gt_machine.specs.Machine.{IsInside, retimed_in}
 use Rattle.gt_model.specs.declared.entry.Entry.{Entry}
 use Rattle.gt_model.proofs.Tables.{change-set, change_numbered-set}
+use Rattle.gt_model.proofs.Items.{numbered-change_other}
 use Rattle.gt_rules.specs.declared.change.Move.{Move}
 use Rattle.gt_rules.specs.declared.change.Setting.{Setting}
-use Rattle.gt_rules.specs.After.{retimed, number_of, set_due, set_again}
+use Rattle.gt_rules.specs.After.{moved, with_mover, retimed, number_of, set_due, set_again}
 use Rattle.gt_model.proofs.Changes.{length-change_numbered}
 
 -- the item at the place below a number has that number
@@ -77,13 +78,33 @@ inside_there script s g good formed live =
       | Some r ↦ λ e. place_short script r.place r.mode good (formed.placed g r e)
     ] refl
 
+inside_live : (script : Script) (s : State) (m : Option (ℕ × Move)) → IsGood script → IsFormed script s → IfSome m (λ m. IsLive s m.0) → IfSome m (λ m. IsInside s.goroutines m.0)
+inside_live script s None good formed h = tt
+inside_live script s (Some m) good formed h = inside_there script s m.0 good formed h
+
 -- who makes an entry is inside
 pub inside-May : (script : Script) (s : State) (e : Entry) → IsGood script → IsFormed script s → May script s e → IfSome (change_of e).mover (λ m. IsInside s.goroutines m.0)
-inside-May script s e good formed may =
-    elim (change_of e).mover as (λ o. IfSome o (λ m. IsLive s m.0) → IfSome o (λ m. IsInside s.goroutines m.0)) [
-      | None ↦ λ h. tt
-      | Some m ↦ λ h. inside_there script s m.0 good formed h
-    ] (mover-fits script s e may)
+inside-May script s e good formed may = inside_live script s (change_of e).mover good formed (fits-May script s e good formed may).mover
+
+-- of two who make an entry the receiver is another one than the sender, so it is still inside once the sender has moved on
+apart-May : (script : Script) (s : State) (e : Entry) → May script s e → IfSome (change_of e).partner (λ p. IfSome (change_of e).mover (λ m. p.0 ≢ m.0))
+apart-May script s (Entry.Pair from to c v) may = λ same. may.4 (sym same)
+apart-May script s (Entry.Finish outcome) may = tt
+apart-May script s _ may = tt
+
+inside_moved : (script : Script) (gs : List Goroutine) (mover : Option (ℕ × Move)) (g : ℕ) → IfSome mover (λ m. g ≢ m.0) → IsInside gs g → IsInside (with_mover script gs mover) g
+inside_moved script gs None g other h = h
+inside_moved script gs (Some m) g other h =
+    subst (λ o. IsSomeAnd o (λ (r : Goroutine). r.place.at < 2 ^ 32 - 1)) (sym (numbered-change_other gs m.0 g (moved script m.1) other)) h
+
+pub partner-May : (script : Script) (s : State) (e : Entry) → IsGood script → IsFormed script s → May script s e
+    → IfSome (change_of e).partner (λ p. IsInside (with_mover script s.goroutines (change_of e).mover) p.0)
+partner-May script s e good formed may =
+    elim (change_of e).partner
+    as (λ o. IfSome o (λ p. IfSome (change_of e).mover (λ m. p.0 ≢ m.0)) → IfSome o (λ p. IsInside s.goroutines p.0) → IfSome o (λ p. IsInside (with_mover script s.goroutines (change_of e).mover) p.0)) [
+      | None ↦ λ other h. tt
+      | Some p ↦ λ other h. inside_moved script s.goroutines (change_of e).mover p.0 other h
+    ] (apart-May script s e may) (inside_live script s (change_of e).partner good formed (fits-May script s e good formed may).partner)
 
 some-within : (ts : List (Option Timer)) (t : ℕ) → is_some (at ts t) ≡ true → t < length ts
 some-within [] t h = cc
@@ -101,7 +122,7 @@ within-May script s e good formed may =
     elim (change_of e).timer as (λ o. IfSome o (λ x. FitsTimer s x.0 x.1) → IfSome o (λ x. x.0 < length s.timers)) [
       | None ↦ λ h. tt
       | Some x ↦ λ h. within-fits s x.0 x.1 h
-    ] (timer-fits script s e good formed may)
+    ] (fits-May script s e good formed may).timer
 
 -- ---- the first timers
 

@@ -1,14 +1,28 @@
 -- The state that a machine's fields mean.
-use Rattle.std.specs.Prelude.{ℕ, ◌<◌, ◌-◌, ◌^◌, IsSomeAnd, List, [], ◌∷◌, ◌++◌}
+use Rattle.std.specs.Prelude.{◌≡◌, ℕ, ◌<◌, ◌-◌, ◌^◌, Bool, false, IsSome, IsSomeAnd, List, [], ◌∷◌, ◌++◌, length, map, slice_get}
+use Rattle.std.specs.Option.{option_map}
 use Rattle.std.specs.declared.option.Option.{Option}
 use Rattle.std.specs.declared.option.Option.TheVariants.{None, Some}
+use Rattle.gt_model.specs.declared.script.Script.{Script}
+use Rattle.gt_model.specs.declared.script.Decl.{Decl}
+use Rattle.gt_model.specs.declared.script.What.{What}
 use Rattle.gt_model.specs.declared.state.Goroutine.{Goroutine}
 use Rattle.gt_model.specs.declared.state.Timer.{Timer}
 use Rattle.gt_rules.specs.declared.change.Setting.{Setting}
+use Rattle.gt_rules.specs.declared.change.Trade.{Trade}
 use Rattle.gt_rules.specs.After.{set_due, set_again}
-use Rattle.gt_model.specs.Tables.{numbered}
-use Rattle.gt_rules.specs.State.{State}
+use Rattle.gt_model.specs.Tables.{numbered, flatten}
+use Rattle.gt_rules.specs.State.{State, Channel}
+use Rattle.gt_chan.specs.Channel as chan
 use Rattle.gt_machine.specs.declared.machine.Machine.{Machine}
+
+-- the channel that a machine's one means, by its world, its items and whether it is closed: none while it is unmade
+abbrev pub channel_by : Option ℕ → List ℕ → Bool → Option Channel
+channel_by None items closed = None
+channel_by (Some world) items closed = Some (record { world = world; items = items; closed = closed })
+
+abbrev pub channel_of : chan.Channel → Option Channel
+channel_of ch = channel_by ch.world ch.items ch.closed
 
 abbrev pub state_of : Machine → State
 state_of m = record {
@@ -16,8 +30,21 @@ state_of m = record {
   entries = m.entries;
   goroutines = m.goroutines.items;
   timers = m.timers.items;
+  channels = map channel_of m.channels.items;
   ending = m.ending;
 }
+
+-- how many values a declaration's channel keeps at most; what is no channel keeps none
+abbrev pub capacity_in : What → ℕ
+capacity_in (What.Chan cap) = cap
+capacity_in _ = 0
+
+abbrev pub capacities : List chan.Channel → List ℕ
+capacities chs = map (λ (ch : chan.Channel). ch.capacity) chs
+
+-- there is one channel for each declaration, in their order, and it has the capacity that is declared
+pub record HasChannels (script : Script) (m : Machine) : Type 0 where
+  pub declared : capacities m.channels.items ≡ map (λ (d : Decl). capacity_in d.what) script.decls
 
 -- a goroutine that is there, at a place that leaves room to move on
 abbrev pub IsInside : List Goroutine → ℕ → Type 0
@@ -33,3 +60,18 @@ abbrev pub retimed_in : ℕ → Setting → Option Timer → Option Timer
 retimed_in world (Setting.Made due) was = Some (record { world = world; due = Some due; period = 0 })
 retimed_in world (Setting.SetAnew due) was = set_again due 0 was
 retimed_in world (Setting.Ended due) was = set_due due was
+
+-- A channel of which this may become: it is made once, and used once it is made; one that keeps one item more is open and has room for it
+abbrev pub MayTrade : Trade → chan.Channel → Type 0
+MayTrade Trade.Opened ch = ch.world ≡ None
+MayTrade (Trade.Puts v) ch = IsSome ch.world × (ch.closed ≡ false) × (length ch.items < ch.capacity)
+MayTrade Trade.Takes ch = IsSome ch.world
+MayTrade Trade.Shut ch = IsSome ch.world
+
+-- the channel at this place is one
+abbrev pub IsTradable : List chan.Channel → ℕ → Trade → Type 0
+IsTradable chs c trade = IsSomeAnd (slice_get chs c) (MayTrade trade)
+
+-- the channel that a look-up found, if it is made
+abbrev pub made_in : Option chan.Channel → Option Channel
+made_in ch = flatten (option_map channel_of ch)

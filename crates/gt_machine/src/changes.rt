@@ -1,13 +1,14 @@
-//! What becomes of one goroutine, and of one timer.
+//! What becomes of one goroutine, of one timer, and of one channel.
 
 ghost use Rattle.std.specs.Prelude.{◌≡◌, ◌<◌, ◌-◌, ◌^◌, Some};
 ghost use Rattle.gt_model.specs.Good.{IsGood};
 ghost use Rattle.gt_rules.specs.After as after;
-ghost use Rattle.gt_machine.specs.Machine.{retimed_in};
+ghost use Rattle.gt_machine.specs.Machine.{retimed_in, channel_of, MayTrade};
 
 use crate::places::{first_place, place_after};
+use gt_chan::Chan;
 use gt_model::{Goroutine, Mode, Script, Timer};
-use gt_rules::{Move, Setting};
+use gt_rules::{Move, Setting, Trade};
 
 /// A goroutine of a world at the beginning of a function.
 pub fn begun(script: &Script, world: u32, f: u32) -> Goroutine
@@ -34,6 +35,7 @@ pub fn move_goroutine(script: &Script, r: &mut Goroutine, how: Move)
         }
         Move::FallsAsleep { until } => r.mode = Mode::Sleeping { until },
         Move::Ends => r.mode = Mode::Ended,
+        Move::Panics => {}
     }
 }
 
@@ -67,5 +69,23 @@ pub fn retimed(world: u32, was: Option<Timer>, setting: Setting) -> Option<Timer
         }),
         Setting::SetAnew { due } => set_anew(was, due, 0),
         Setting::Ended { next } => with_due(was, next),
+    }
+}
+
+/// What becomes of a channel, by somebody of a world. It is changed where it stands, with its items.
+pub fn trade_channel(world: u32, ch: &mut Chan, how: Trade)
+    requires { MayTrade how ch.old }
+    ensures state { channel_of ch.new ≡ after.traded world how (channel_of ch.old) }
+    ensures capacity { ch.new.capacity ≡ ch.old.capacity }
+{
+    match how {
+        Trade::Opened => ch.make(world),
+        Trade::Puts { v } => ch.put(v),
+        Trade::Takes => {
+            let _first = ch.take();
+        }
+        Trade::Shut => {
+            let _step = ch.close();
+        }
     }
 }

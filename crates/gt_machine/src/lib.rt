@@ -1,5 +1,5 @@
-//! The state of the one-thread machine in tables whose memory is taken once: clocks, goroutines and timers, found by their places, and how far the run
-//! is. Each entry does to the tables what it does to the state.
+//! The state of the one-thread machine in tables whose memory is taken once: clocks, goroutines, timers and channels, found by their places, and how far
+//! the run is. Each entry does to the tables what it does to the state.
 #![tactic(auto)]
 
 mod changes;
@@ -7,4 +7,5 @@ mod lookups;
 mod machine;
 mod places;
 
+pub use lookups::{capacity, is_chan};
 pub use machine::Machine;

@@ -2,7 +2,9 @@
 
 ghost use Rattle.std.specs.Prelude.{◌≡◌, [], MatchOption};
 ghost use Rattle.std.specs.Option.{option_copied, option_map};
-ghost use Rattle.gt_model.specs.Script.{code_of, instr_at, func_of};
+ghost use Rattle.gt_model.specs.Script.{code_of, instr_at, func_of, capacity_of};
+ghost use Rattle.gt_model.specs.Script as names;
+ghost use Rattle.gt_machine.specs.Machine.{capacity_in};
 
 use gt_model::{Decl, Instr, Place, Script, What};
 
@@ -39,4 +41,37 @@ pub fn function_of(script: &Script, t: u32) -> u32
         ) => *func,
         _ => 0,
     }
+}
+
+/// How many values the channel of this declaration keeps at most; 0 where the declaration is no channel.
+pub fn capacity(script: &Script, c: u32) -> u32
+    ensures { result ≡ capacity_of script.now c }
+{
+    match script.decls.as_slice().get(c as usize) {
+        Some(decl) => declared_capacity(decl.what),
+        None => 0,
+    }
+}
+
+/// How many values a channel that is declared so keeps at most; 0 where it is no channel.
+pub fn declared_capacity(what: What) -> u32
+    ensures { result ≡ capacity_in what }
+{
+    match what {
+        What::Chan { cap } => cap,
+        _ => 0,
+    }
+}
+
+/// Whether a declaration is a channel.
+pub fn is_chan(script: &Script, o: u32) -> bool
+    ensures { result ≡ names.is_chan script.now o }
+{
+    matches!(
+        script.decls.as_slice().get(o as usize),
+        Some(Decl {
+            what: What::Chan { .. },
+            ..
+        })
+    )
 }

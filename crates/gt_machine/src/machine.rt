@@ -1,26 +1,33 @@
 //! The tables.
 
-ghost use Rattle.std.specs.Prelude.{ℕ, ◌≡◌, ◌+◌, ◌<◌, ◌≤◌, IfOk, IfSome, IsSome, IsSomeAnd, Some, length, ◌^◌, ◌-◌, ◌++◌, ◌∷◌, [], replicate};
+ghost use Rattle.std.specs.Prelude.{ℕ, ◌≡◌, ◌+◌, ◌<◌, ◌≤◌, IfOk, IfSome, IsSome, IsSomeAnd, Some, length, ◌^◌, ◌-◌, ◌++◌, ◌∷◌, [], nat_lt, slice_get, map, replicate};
 ghost use Rattle.std.specs.Option.{option_copied, option_map};
 ghost use Rattle.gt_model.specs.Tables.{numbered};
 ghost use Rattle.gt_model.specs.Good.{IsGood};
+ghost use Rattle.gt_model.specs.Script.{capacity_of};
+ghost use Rattle.gt_model.specs.declared.script.Decl.{Decl};
 ghost use Rattle.gt_rules.specs.State as at;
 ghost use Rattle.gt_rules.specs.Panics as panics;
 ghost use Rattle.gt_rules.specs.After as after;
 ghost use Rattle.gt_rules.specs.Legal.{May};
 ghost use Rattle.gt_rules.specs.Change.{started};
 ghost use Rattle.gt_facts.specs.Formed.{IsFormed};
-ghost use Rattle.gt_machine.specs.Machine.{state_of, IsInside, with_new};
+ghost use Rattle.gt_chan.specs.Channel as chan;
+ghost use Rattle.gt_machine.specs.Machine.{state_of, IsInside, IsTradable, HasChannels, with_new, made_in, capacity_in, capacities};
 ghost use Rattle.gt_machine.specs.Outcomes as outcomes;
 ghost use Rattle.gt_machine.specs.Places.{placed_at};
 
-use crate::changes::{begun, move_goroutine, retimed};
-use crate::lookups::{function_of, instr_at};
+use crate::changes::{begun, move_goroutine, retimed, trade_channel};
+use crate::lookups::{capacity, declared_capacity, function_of, instr_at};
+use gt_chan::Chan;
 use gt_model::{
-    Ending, Entry, Goroutine, Instr, Limits, Mode, NoMemory, Outcome, Reason, Script, Timer,
+    Decl, Ending, Entry, Goroutine, Instr, Limits, Mode, NoMemory, Outcome, Reason, Script, Timer,
 };
 use gt_room::Room;
-use gt_rules::{Move, Setting, Start, clock_of, ending_of, mover_of, start_of, timer_of};
+use gt_rules::{
+    Move, Setting, Start, Trade, channel_of, clock_of, ending_of, mover_of, partner_of, start_of,
+    timer_of,
+};
 use std::alloc::Global;
 
 /// The state of the machine.
@@ -34,6 +41,8 @@ pub struct Machine {
     pub goroutines: Room<Goroutine>,
     /// The timers by declaration; none is unmade.
     pub timers: Vec<Option<Timer>>,
+    /// The channels by declaration, with room for as many values as they keep at most; what is no channel stays unmade.
+    pub channels: Vec<Chan>,
     /// How far the run is.
     pub ending: Ending,
 }
@@ -45,23 +54,41 @@ fn unmade(alloc: Global, n: usize) -> Result<Vec<Option<Timer>>, NoMemory>
     vec![in alloc; None; n].map_err(|_| NoMemory)
 }
 
+/// A channel for each declaration, none of them made. They wait in no lists here, so the number of their list is 0.
+fn unmade_channels(alloc: Global, decls: &[Decl]) -> Result<Vec<Chan>, NoMemory>
+    ensures { IfOk result (λ channels. channels.items ≡ map (λ (d : Decl). chan.unmade (capacity_in d.what) 0) decls.now) }
+{
+    let mut channels = Vec::with_capacity(alloc, decls.len()).map_err(|_| NoMemory)?;
+    for decl in decls {
+        let channel = Chan::with_room(alloc, declared_capacity(decl.what), 0).map_err(
+            |_| NoMemory,
+        )?;
+        channels.push_reserved(channel);
+    }
+    Ok(channels)
+}
+
 impl Machine {
-    /// The first state of a script, with room for the goroutines of a run of so many entries. It takes their memory here.
+    /// The first state of a script, with room for the goroutines of a run of so many entries, and for the values that channels keep. It takes their
+    /// memory here.
     pub fn begin(alloc: Global, script: &Script, most: u64) -> Result<Machine, NoMemory>
         requires good { IsGood script.now }
         requires few { most ≤ 200000 }
         ensures state { IfOk result (λ m. state_of m ≡ after.first_state script.now) }
         ensures room { IfOk result (λ m. m.goroutines.spare ≡ most) }
+        ensures channels { IfOk result (λ m. HasChannels script.now m) }
     {
         let clocks = vec![in alloc; 0].map_err(|_| NoMemory)?;
         let mut goroutines = Room::with_room(alloc, most as usize + 1).map_err(|_| NoMemory)?;
         goroutines.put(begun(script, 0, script.main));
         let timers = unmade(alloc, script.decls.as_slice().len())?;
+        let channels = unmade_channels(alloc, script.decls.as_slice())?;
         Ok(Machine {
             clocks,
             entries: 0,
             goroutines,
             timers,
+            channels,
             ending: Ending::Running,
         })
     }
@@ -73,14 +100,18 @@ impl Machine {
         requires may { May script.now (state_of self.old) entry.now }
         requires room { 0 < self.old.goroutines.spare }
         requires few { self.old.entries < 200000 }
+        requires channels { HasChannels script.now self.old }
         ensures state { state_of self.new ≡ after.after script.now (state_of self.old) entry.now }
         ensures room { length self.new.goroutines.items + self.new.goroutines.spare
             ≡ length self.old.goroutines.items + self.old.goroutines.spare }
+        ensures channels { HasChannels script.now self.new }
     {
         let mover = mover_of(entry);
         let begins = self.started(script, start_of(entry));
         self.retime(script, mover, timer_of(entry));
+        self.trade(mover, channel_of(entry));
         self.move_on(script, mover);
+        self.move_on(script, partner_of(entry));
         self.start(begins);
         self.move_clock(clock_of(entry));
         self.end(ending_of(entry));
@@ -91,6 +122,7 @@ impl Machine {
     pub fn finish(&mut self, outcome: Outcome)
         ensures state { (script : _) → state_of self.new ≡ after.after script (state_of self.old) (Entry.Finish outcome) }
         ensures room { self.new.goroutines ≡ self.old.goroutines }
+        ensures channels { self.new.channels ≡ self.old.channels }
     {
         self.ending = Ending::Finished(outcome);
     }
@@ -118,6 +150,7 @@ impl Machine {
           timers = after.with_retimed script.now (state_of self.old) mover (state_of self.old).timers change;
         } }
         ensures room { self.new.goroutines ≡ self.old.goroutines }
+        ensures channels { self.new.channels ≡ self.old.channels }
     {
         let Some((t, setting)) = change else {
             return;
@@ -126,7 +159,23 @@ impl Machine {
         self.timers[t as usize] = retimed(world, self.timers[t as usize], setting);
     }
 
-    /// What becomes of who makes the entry.
+    /// What becomes of a channel, by who makes the entry.
+    fn trade(&mut self, mover: Option<(u32, Move)>, change: Option<(u32, Trade)>)
+        requires { IfSome change (λ x. IsTradable self.old.channels.items x.0 x.1) }
+        ensures state { state_of self.new ≡ record (state_of self.old) {
+          channels = after.with_traded (state_of self.old) mover (state_of self.old).channels change;
+        } }
+        ensures room { self.new.goroutines ≡ self.old.goroutines }
+        ensures channels { capacities self.new.channels.items ≡ capacities self.old.channels.items }
+    {
+        let Some((c, how)) = change else {
+            return;
+        };
+        let world = self.mover_world(mover);
+        trade_channel(world, &mut self.channels[c as usize], how);
+    }
+
+    /// What becomes of one who makes the entry.
     fn move_on(&mut self, script: &Script, mover: Option<(u32, Move)>)
         requires good { IsGood script.now }
         requires inside { IfSome mover (λ x. IsInside self.old.goroutines.items x.0) }
@@ -135,6 +184,7 @@ impl Machine {
         } }
         ensures many { length self.new.goroutines.items ≡ length self.old.goroutines.items }
         ensures spare { self.new.goroutines.spare ≡ self.old.goroutines.spare }
+        ensures channels { self.new.channels ≡ self.old.channels }
     {
         if let Some((g, how)) = mover {
             move_goroutine(script, self.goroutines.at_mut(g as usize - 1), how);
@@ -149,6 +199,7 @@ impl Machine {
         } }
         ensures room { length self.new.goroutines.items + self.new.goroutines.spare
             ≡ length self.old.goroutines.items + self.old.goroutines.spare }
+        ensures channels { self.new.channels ≡ self.old.channels }
     {
         if let Some(r) = begins {
             self.goroutines.put(r);
@@ -160,6 +211,7 @@ impl Machine {
         requires { IfSome clock (λ x. x.0 < length self.old.clocks.items) }
         ensures state { state_of self.new ≡ record (state_of self.old) { clocks = after.with_clock (state_of self.old).clocks clock } }
         ensures room { self.new.goroutines ≡ self.old.goroutines }
+        ensures channels { self.new.channels ≡ self.old.channels }
     {
         if let Some((world, at)) = clock {
             self.clocks[world as usize] = at;
@@ -170,6 +222,7 @@ impl Machine {
     fn end(&mut self, ending: Option<Ending>)
         ensures state { state_of self.new ≡ record (state_of self.old) { ending = after.option_or (state_of self.old).ending ending } }
         ensures room { self.new.goroutines ≡ self.old.goroutines }
+        ensures channels { self.new.channels ≡ self.old.channels }
     {
         if let Some(ending) = ending {
             self.ending = ending;
@@ -199,6 +252,61 @@ impl Machine {
             Some(timer) => *timer,
             None => None,
         }
+    }
+
+    /// The channel of declaration c; none where it was not made.
+    fn channel(&self, c: u32) -> Option<&Chan>
+        ensures state { made_in (option_copied result) ≡ at.channel_at (state_of self.now) c }
+        ensures made { IfSome result (λ channel. IsSome channel.now.world) }
+    {
+        match self.channels.get(c as usize) {
+            Some(channel) if channel.world().is_some() => Some(channel),
+            _ => None,
+        }
+    }
+
+    /// Whether the timer or the channel of declaration o was made.
+    pub fn is_made(&self, o: u32) -> bool
+        ensures { result ≡ at.is_made (state_of self.now) o }
+    {
+        self.timer(o).is_some() || self.channel(o).is_some()
+    }
+
+    /// Whether channel c is closed; false where it was not made.
+    pub fn is_closed(&self, c: u32) -> bool
+        ensures { result ≡ at.is_closed (state_of self.now) c }
+    {
+        match self.channel(c) {
+            Some(channel) => channel.is_closed(),
+            None => false,
+        }
+    }
+
+    /// The value that was sent first of those that channel c keeps; none where it keeps none, or was not made.
+    pub fn first_item(&self, c: u32) -> Option<u32>
+        ensures { result ≡ slice_get (at.items_of (state_of self.now) c) 0 }
+    {
+        match self.channel(c) {
+            Some(channel) => channel.first(),
+            None => None,
+        }
+    }
+
+    /// How many values channel c keeps; 0 where it was not made.
+    pub fn item_count(&self, c: u32) -> usize
+        ensures { result ≡ at.item_count (state_of self.now) c }
+    {
+        match self.channel(c) {
+            Some(channel) => channel.len(),
+            None => 0,
+        }
+    }
+
+    /// Whether channel c keeps fewer values than its declaration lets it keep. One that was not made keeps none.
+    pub fn has_room(&self, script: &Script, c: u32) -> bool
+        ensures { result ≡ nat_lt (at.item_count (state_of self.now) c) (capacity_of script.now c) }
+    {
+        self.item_count(c) < capacity(script, c) as usize
     }
 
     /// The world of goroutine g; 0 where no goroutine has that number.
@@ -277,8 +385,20 @@ impl Machine {
             Instr::New { t, .. } => when(self.timer(t).is_some(), Reason::Twice),
             Instr::Stop { t } => when(self.timer(t).is_none(), Reason::Unmade),
             Instr::Reset { t, .. } => when(self.timer(t).is_none(), Reason::Unmade),
-            Instr::Recv { o } => when(self.timer(o).is_none(), Reason::Unmade),
+            Instr::Recv { o } => when(!self.is_made(o), Reason::Unmade),
+            Instr::Make { c } => when(self.channel(c).is_some(), Reason::Twice),
+            Instr::Send { c, .. } | Instr::Close { c } => self.open_fault(c),
             _ => None,
+        }
+    }
+
+    /// Why the use of channel c panics: it was not made, or it was closed; none where it is open.
+    fn open_fault(&self, c: u32) -> Option<Reason>
+        ensures { result ≡ panics.open_fault (state_of self.now) c }
+    {
+        match self.channel(c) {
+            None => Some(Reason::Unmade),
+            Some(channel) => when(channel.is_closed(), Reason::Closed),
         }
     }
 

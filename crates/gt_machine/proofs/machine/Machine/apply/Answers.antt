@@ -1,26 +1,56 @@
-use Rattle.std.proofs.Common.{◌≡◌, refl, ◌+◌, ap, sym, subst, length, IfSome}
+use Rattle.std.proofs.Common.{◌≡◌, ◌∙◌, refl, ap, sym, subst, IfSome, List}
+use Rattle.gt_model.specs.declared.state.Goroutine.{Goroutine}
 use Rattle.gt_rules.specs.State.{State}
-use Rattle.gt_machine.specs.Machine.{state_of, IsInside}
-use Rattle.gt_machine.proofs.Machines.{inside-May, within-May}
+use Rattle.gt_rules.specs.Change.{change_of}
+use Rattle.gt_rules.specs.After.{with_mover}
+use Rattle.gt_machine.specs.Machine.{state_of, IsInside, IsTradable}
+use Rattle.gt_machine.proofs.Machines.{inside-May, within-May, partner-May}
+use Rattle.gt_machine.proofs.Channels.{tradable-May}
+use Rattle.gt_machine.proofs.Applied.{applied}
 use Rattle.gt_machine.proofs.machine.Machine.apply.Goals as goal
 
 pub retime-requires : goal.retime-requires
 retime-requires c =
     rw c.timer_of.ensures (within-May c.args.script.now (state_of c.args.self.now) c.args.entry.now c.requires.good c.requires.formed c.requires.may)
 
+pub trade-requires : goal.trade-requires
+trade-requires c =
+    let same : c.retime.new.self.channels.items ≡ c.args.self.now.channels.items = rw c.retime.ensures.channels refl in
+    subst (λ chs. IfSome c.channel_of.result (λ x. IsTradable chs x.0 x.1)) (sym same)
+    (rw c.channel_of.ensures (tradable-May c.args.script.now c.args.self.now c.args.entry.now c.requires.good c.requires.formed c.requires.may c.requires.channels))
+
 pub move_on-requires-clause-inside : goal.move_on-requires-clause-inside
 move_on-requires-clause-inside c =
-    let same : c.retime.new.self.goroutines.items ≡ c.args.self.now.goroutines.items = ap (λ (s : State). s.goroutines) c.retime.ensures.state in
+    let retimed : c.retime.new.self.goroutines.items ≡ c.args.self.now.goroutines.items = ap (λ (s : State). s.goroutines) c.retime.ensures.state in
+    let same : c.trade.new.self.goroutines.items ≡ c.args.self.now.goroutines.items = ap (λ (s : State). s.goroutines) c.trade.ensures.state ∙ retimed in
     subst (λ gs. IfSome c.mover_of-mover.result (λ x. IsInside gs x.0)) (sym same)
     (rw c.mover_of-mover.ensures (inside-May c.args.script.now (state_of c.args.self.now) c.args.entry.now c.requires.good c.requires.formed c.requires.may))
 
-pub returns-clause-room : goal.returns-clause-room
-returns-clause-room c =
-    let retimed : c.retime.new.self.goroutines ≡ c.args.self.now.goroutines = c.retime.ensures.room in
-    let many : length c.move_on.new.self.goroutines.items ≡ length c.retime.new.self.goroutines.items = c.move_on.ensures.many in
-    let spare : c.move_on.new.self.goroutines.spare ≡ c.retime.new.self.goroutines.spare = c.move_on.ensures.spare in
-    let room : length c.start.new.self.goroutines.items + c.start.new.self.goroutines.spare ≡ length c.move_on.new.self.goroutines.items + c.move_on.new.self.goroutines.spare =
-    c.start.ensures.room in
-    let clock : c.move_clock.new.self.goroutines ≡ c.start.new.self.goroutines = c.move_clock.ensures.room in
-    let end : c.end.new.self.goroutines ≡ c.move_clock.new.self.goroutines = c.end.ensures.room in
-    rw (end, clock, room, many, spare, retimed) refl
+pub move_on-requires-2-clause-inside : goal.move_on-requires-2-clause-inside
+move_on-requires-2-clause-inside c =
+    let before : List Goroutine = c.args.self.now.goroutines.items in
+    let retimed : c.retime.new.self.goroutines.items ≡ before = ap (λ (s : State). s.goroutines) c.retime.ensures.state in
+    let traded : c.trade.new.self.goroutines.items ≡ before = ap (λ (s : State). s.goroutines) c.trade.ensures.state ∙ retimed in
+    let moved : c.move_on.new.self.goroutines.items ≡ with_mover c.args.script.now c.trade.new.self.goroutines.items c.mover_of-mover.result =
+    ap (λ (s : State). s.goroutines) c.move_on.ensures.state in
+    let same : c.move_on.new.self.goroutines.items ≡ with_mover c.args.script.now before (change_of c.args.entry.now).mover =
+    moved ∙ (ap (λ gs. with_mover c.args.script.now gs c.mover_of-mover.result) traded ∙ ap (λ m. with_mover c.args.script.now before m) c.mover_of-mover.ensures) in
+    subst (λ gs. IfSome c.partner_of.result (λ x. IsInside gs x.0)) (sym same)
+    (rw c.partner_of.ensures (partner-May c.args.script.now (state_of c.args.self.now) c.args.entry.now c.requires.good c.requires.formed c.requires.may))
+
+pub returns-clause-state : goal.returns-clause-state
+returns-clause-state c =
+    applied c.args.script.now c.args.entry.now (state_of c.args.self.now) (state_of c.retime.new.self) (state_of c.trade.new.self) (state_of c.move_on.new.self)
+    (state_of c.move_on-2.new.self) (state_of c.start.new.self) (state_of c.move_clock.new.self) (state_of c.end.new.self)
+    c.mover_of-mover.result c.partner_of.result c.timer_of.result c.channel_of.result c.start_of.result c.started-begins.result c.clock_of.result c.ending_of.result c.requires.may
+    (record {
+      mover = c.mover_of-mover.ensures;
+      partner = c.partner_of.ensures;
+      timer = c.timer_of.ensures;
+      channel = c.channel_of.ensures;
+      starts = c.start_of.ensures;
+      clock = c.clock_of.ensures;
+      ending = c.ending_of.ensures;
+    })
+    c.started-begins.ensures c.retime.ensures.state c.trade.ensures.state c.move_on.ensures.state c.move_on-2.ensures.state c.start.ensures.state c.move_clock.ensures.state
+    c.end.ensures.state
