@@ -12,3 +12,8 @@ pub mod Deadlocks
 pub mod Starts
 pub mod Limited
 pub mod Loops
+pub mod SendsClosed
+pub mod Pairs
+pub mod Buffers
+pub mod Orders
+pub mod NobodySends

@@ -20,6 +20,11 @@ ghost use Rattle.gt_examples.specs.Deadlocks as deadlocks;
 ghost use Rattle.gt_examples.specs.Starts as starts;
 ghost use Rattle.gt_examples.specs.Limited as limited;
 ghost use Rattle.gt_examples.specs.Loops as loops;
+ghost use Rattle.gt_examples.specs.SendsClosed as sends_closed;
+ghost use Rattle.gt_examples.specs.Pairs as pairs;
+ghost use Rattle.gt_examples.specs.Buffers as buffers;
+ghost use Rattle.gt_examples.specs.Orders as orders;
+ghost use Rattle.gt_examples.specs.NobodySends as nobody_sends;
 
 /// main sleeps for 5 ms and looks at the clock.
 pub fn sleeps_and_looks()
@@ -165,4 +170,79 @@ pub fn limit_comes_early()
 /// An entry where the limit has been reached.
 pub fn passes_its_limit()
     ensures { IsVerdict limited.script limited.limits limited.late (Verdict.Illegal 3) }
+{}
+
+/// A value is sent to a channel that was closed.
+pub fn sends_to_a_closed_channel()
+    ensures history { History sends_closed.script default_limits sends_closed.history Outcome.Panic }
+    ensures jumps { AllJump sends_closed.script 0 (first_state sends_closed.script) sends_closed.history }
+{}
+
+/// A channel that was closed keeps a value that is sent to it.
+pub fn closed_channel_keeps_a_value()
+    ensures { IsVerdict sends_closed.script default_limits sends_closed.keeps_it (Verdict.Illegal 3) }
+{}
+
+/// A channel that keeps no values passes one from a goroutine to another.
+pub fn pairs()
+    ensures history { History pairs.script default_limits pairs.history Outcome.Exit }
+    ensures jumps { AllJump pairs.script 0 (first_state pairs.script) pairs.history }
+{}
+
+/// A channel that keeps no values keeps one.
+pub fn keeps_a_value_without_room()
+    ensures { IsVerdict pairs.script default_limits pairs.keeps_it (Verdict.Illegal 3) }
+{}
+
+/// A deadlock while one goroutine sends to a channel from which another one receives.
+pub fn deadlock_beside_a_partner()
+    ensures { IsVerdict pairs.script default_limits pairs.deadlock_beside_a_partner (Verdict.Illegal 3) }
+{}
+
+/// A channel gives the values that it keeps in their order, also once it was closed; then a receive gives none.
+pub fn buffers()
+    ensures history { History buffers.script default_limits buffers.history Outcome.Exit }
+    ensures jumps { AllJump buffers.script 0 (first_state buffers.script) buffers.history }
+{}
+
+/// The second value is received before it was sent.
+pub fn receives_the_second_value_first()
+    ensures { IsVerdict buffers.script default_limits buffers.second_first (Verdict.Illegal 4) }
+{}
+
+/// A value is sent to a channel that has no room.
+pub fn sends_past_the_capacity()
+    ensures { IsVerdict buffers.script default_limits buffers.past_its_capacity (Verdict.Illegal 4) }
+{}
+
+/// A value passes from a goroutine to another by a channel that keeps values.
+pub fn pairs_past_a_buffer()
+    ensures { IsVerdict buffers.script default_limits buffers.passed_by (Verdict.Illegal 3) }
+{}
+
+/// A receive gives none where the channel is open.
+pub fn receives_none_from_an_open_channel()
+    ensures { IsVerdict buffers.script default_limits buffers.gives_none (Verdict.Illegal 3) }
+{}
+
+/// A value is received a second time.
+pub fn receives_a_value_twice()
+    ensures { IsVerdict buffers.script default_limits buffers.first_twice (Verdict.Illegal 5) }
+{}
+
+/// A channel that keeps two values gives the first one first.
+pub fn keeps_their_order()
+    ensures history { History orders.script default_limits orders.history Outcome.Exit }
+    ensures jumps { AllJump orders.script 0 (first_state orders.script) orders.history }
+{}
+
+/// A channel that keeps two values gives the second one first.
+pub fn gives_the_second_value_first()
+    ensures { IsVerdict orders.script default_limits orders.second_first (Verdict.Illegal 4) }
+{}
+
+/// A receive from a channel to which nobody sends waits for ever.
+pub fn waits_for_nobody()
+    ensures history { History nobody_sends.script default_limits nobody_sends.history Outcome.Deadlock }
+    ensures jumps { AllJump nobody_sends.script 0 (first_state nobody_sends.script) nobody_sends.history }
 {}

@@ -1,4 +1,4 @@
--- What holds of each item of a list holds of one; a goroutine where it stands, and what it names there, and one that sleeps.
+-- What holds of each item of a list holds of one, and an item of a numbered list has its number; a goroutine where it stands, what it names and wants there, and one that sleeps.
 use Rattle.std.proofs.Common.{◌≡◌, ℕ, zero, suc, ◌+◌, ◌-◌, arith, subst, List, [], ◌∷◌, refl, ap, slice_get, None, Some, option_map, Bool, true, false, eqb-true, ◌||◌, IsSomeAnd, ◌∙◌, Option}
 use Rattle.std.specs.List.{list_any, list_all, enumerate_from}
 use Rattle.std.proofs.lemmas.Bool.{and_parts}
@@ -232,10 +232,10 @@ pub send-Does : (script : Script) (s : State) (p : Party) (c v : ℕ) → Operat
 send-Does script s p c v h = record { stands = stands_send script s p c v h.stands; calm = h.calm }
 
 -- and who does a receive or a send operates so, as a plain party
-abbrev pub plain : ℕ → Party
-plain g = record { g = g; case_no = 0 }
+abbrev pub plainly : ℕ → Party
+plainly g = record { g = g; case_no = 0 }
 
-pub does-Operates : (script : Script) (s : State) (g : ℕ) (i : Instr) (kind : CaseKind) → operation i 0 ≡ Some kind → Does script s g i → Operates script s (plain g) kind
+pub does-Operates : (script : Script) (s : State) (g : ℕ) (i : Instr) (kind : CaseKind) → operation i 0 ≡ Some kind → Does script s g i → Operates script s (plainly g) kind
 does-Operates script s g i kind has does =
-    let there : operation_at script s (plain g) ≡ operation i 0 = ap (λ (o : Option Instr). elim o as (λ o. Option CaseKind) [ None ↦ None | Some i ↦ operation i 0 ]) does.stands in
+    let there : operation_at script s (plainly g) ≡ operation i 0 = ap (λ (o : Option Instr). elim o as (λ o. Option CaseKind) [ None ↦ None | Some i ↦ operation i 0 ]) does.stands in
     record { stands = there ∙ has; calm = does.calm }

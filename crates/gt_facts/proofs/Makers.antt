@@ -25,7 +25,7 @@ use Rattle.gt_rules.specs.declared.change.Start.{Start}
 use Rattle.gt_rules.specs.Change.{change_of, sleeps, takes, goes_on}
 use Rattle.gt_rules.specs.Legal.{May, Does, Operates, Gives, due_at, sleep_end, was_set}
 use Rattle.gt_rules.specs.Finish.{IsIdle}
-use Rattle.gt_facts.proofs.Lookups.{names-Does, send-Does, plain, does-Operates, receives-recv, SendsTo, sends-send}
+use Rattle.gt_facts.proofs.Lookups.{names-Does, send-Does, plainly, does-Operates, receives-recv, SendsTo, sends-send}
 use Rattle.gt_facts.proofs.Partners.{Partner, partner}
 
 -- ---- times
@@ -291,16 +291,16 @@ timer-not script s g w t idle now does timer ready =
       | None ↦ λ is come. cc
       | Some due ↦ λ is come.
           let here : due ≤ clock_of s g = subst (λ now. due ≤ now) (sym now) (leb-true due (clock s w) come) in
-          idle (Entry.TRecv (plain g) t due None) (does-Operates script s g (Instr.Recv t) (CaseKind.Recv t) refl does, timer, is, here, refl)
+          idle (Entry.TRecv (plainly g) t due None) (does-Operates script s g (Instr.Recv t) (CaseKind.Recv t) refl does, timer, is, here, refl)
     ] refl ready
 
 -- the receive from a channel that keeps values, or is closed
 keeps-not : (script : Script) (s : State) (g c : ℕ) (items : List ℕ) → IsIdle script s → Does script s g (Instr.Recv c) → IsTrue (is_chan script c) → items_of s c ≡ items
     → (nat_lt 0 (length items) || is_closed s c) ≡ true → ⊥
 keeps-not script s g c [] idle does chan is ready =
-    idle (Entry.Recv (plain g) c None) (does-Operates script s g (Instr.Recv c) (CaseKind.Recv c) refl does, chan, (is, ready))
+    idle (Entry.Recv (plainly g) c None) (does-Operates script s g (Instr.Recv c) (CaseKind.Recv c) refl does, chan, (is, ready))
 keeps-not script s g c (v ∷ rest) idle does chan is ready =
-    idle (Entry.Recv (plain g) c (Some v)) (does-Operates script s g (Instr.Recv c) (CaseKind.Recv c) refl does, chan, ap (λ (items : List ℕ). slice_get items 0) is)
+    idle (Entry.Recv (plainly g) c (Some v)) (does-Operates script s g (Instr.Recv c) (CaseKind.Recv c) refl does, chan, ap (λ (items : List ℕ). slice_get items 0) is)
 
 gives-not : (script : Script) (s : State) (g w o : ℕ) (what : What) → IsIdle script s → clock_of s g ≡ clock s w → Does script s g (Instr.Recv o) → what_at script o ≡ Some what
     → is_ready_recv s (has_come s w) o (Some what) ≡ true → ⊥
@@ -323,14 +323,14 @@ send-not script s g c v idle does ready =
     let unshut : is_closed s c ≡ false = is.unshut in
     either-not (is_closed s c) (nat_lt (item_count s c) (capacity_of script c)) ready (λ shut. cc)
     (λ room.
-    idle (Entry.Send (plain g) c v)
+    idle (Entry.Send (plainly g) c v)
     (does-Operates script s g (Instr.Send c v) (CaseKind.Send c v) refl does, is.is, ltb-true (item_count s c) (capacity_of script c) room))
 
 -- a sender and a receiver at a channel that keeps no values
 pair-not : (script : Script) (s : State) (from to c v : ℕ) → IsIdle script s → Does script s from (Instr.Send c v) → Does script s to (Instr.Recv c) → capacity_of script c ≡ 0
     → from ≢ to → ⊥
 pair-not script s from to c v idle sends gets none other =
-    idle (Entry.Pair (plain from) (plain to) c v) (
+    idle (Entry.Pair (plainly from) (plainly to) c v) (
       does-Operates script s from (Instr.Send c v) (CaseKind.Send c v) refl sends,
       does-Operates script s to (Instr.Recv c) (CaseKind.Recv c) refl gets,
       (opened script s from c (Instr.Send c v) refl sends).is,

@@ -1,7 +1,8 @@
 -- A program is idle exactly where it stands still: who is ready has an entry that may come next, and who is not has none.
 use Rattle.std.proofs.Common.{◌≡◌, ℕ, zero, suc, ◌≤◌, refl, sym, ap, subst, ◌∙◌, Option, None, Some, Bool, true, false, ◌||◌, ◌==◌, ◌≢◌, is_some, IsTrue, IsSomeAnd}
 use Rattle.std.specs.Option.{option_map}
-use Rattle.std.proofs.lemmas.Bool.{leb-true, le-leb, eq-eqb, or_left, or_right, and_from}
+use Rattle.std.proofs.lemmas.Bool.{leb-true, le-leb, eq-eqb, and_from}
+pub use Rattle.std.proofs.lemmas.Bool.{or_left, or_right}
 use Rattle.gt_model.specs.declared.script.Script.{Script}
 use Rattle.gt_model.specs.declared.script.Instr.{Instr}
 use Rattle.gt_model.specs.declared.entry.Entry.{Entry}
