@@ -1,5 +1,5 @@
 -- A change by an entry leaves nobody parked who is firmly ready, but at the channel that it changes.
-use Rattle.std.proofs.Common.{◌≡◌, ◌≢◌, ℕ, zero, suc, ◌+◌, List, [], ◌∷◌, ◌++◌, length, eqb, ◌==◌, refl, sym, ap, subst, ◌∙◌, arith, Option, None, Some, Bool, true, false, not, ◌||◌, ◌&&◌, is_some, is_none, IsTrue, inl, inr}
+use Rattle.std.proofs.Common.{◌≡◌, ◌≢◌, ℕ, zero, suc, ◌+◌, List, [], ◌∷◌, ◌++◌, length, slice_get, eqb, ◌==◌, refl, sym, ap, subst, ◌∙◌, arith, Option, None, Some, Bool, true, false, not, ◌||◌, ◌&&◌, is_some, is_none, IsTrue, inl, inr}
 use Rattle.std.specs.List.{list_all, enumerate_from}
 use Rattle.std.proofs.lemmas.Bool.{cases_eq, eq-eqb, eqb-true, and_parts, and_from}
 use Rattle.std.proofs.Math.ListN.{length-append}

@@ -1,5 +1,5 @@
 -- A run under way with one more entry is under way, and with the finish that is due then its book is lawful.
-use Rattle.std.proofs.Common.{cond, ◌≡◌, ◌≢◌, ◌+◌, ◌<◌, ◌≤◌, List, [], ◌∷◌, refl, sym, ap, subst, ◌∙◌, arith, append_assoc, append-nil, ◌==◌, eqb, if◌then◌else◌, Option, None, Some, Bool, true, false, MatchOption}
+use Rattle.std.proofs.Common.{cond, ◌≡◌, ◌≢◌, ◌+◌, ◌<◌, ◌≤◌, List, [], ◌∷◌, refl, sym, ap, subst, ◌∙◌, arith, append_assoc, append-nil, ◌++◌, ◌==◌, eqb, if◌then◌else◌, Option, None, Some, Bool, true, false, MatchOption}
 use Rattle.std.proofs.lemmas.Bool.{eqb-false, eqb-true}
 use Rattle.gt_model.specs.declared.script.Script.{Script}
 use Rattle.gt_model.specs.declared.entry.Entry.{Entry}
