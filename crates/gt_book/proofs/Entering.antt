@@ -193,9 +193,9 @@ pub with_entries-more : (b : BookView) (h k : List Entry) → with_entries (with
 with_entries-more b h k =
     ap (λ x. record { script = b.script; limits = b.limits; history = x; state = state_after b.script (state_after b.script b.state h) k; schedule = schedule_after (schedule_after b.schedule h) k })
     (append_assoc b.history h k)
-    ∙ (ap (λ x. record { script = b.script; limits = b.limits; history = b.history ++ h ++ k; state = x; schedule = schedule_after (schedule_after b.schedule h) k })
+    ∙ (ap (λ x. record { script = b.script; limits = b.limits; history = b.history ++ (h ++ k); state = x; schedule = schedule_after (schedule_after b.schedule h) k })
     (sym (state_after-more b.script b.state h k))
-    ∙ ap (λ x. record { script = b.script; limits = b.limits; history = b.history ++ h ++ k; state = state_after b.script b.state (h ++ k); schedule = x })
+    ∙ ap (λ x. record { script = b.script; limits = b.limits; history = b.history ++ (h ++ k); state = state_after b.script b.state (h ++ k); schedule = x })
     (sym (schedule_after-more b.schedule h k)))
 
 pub all_legal-more : (script : Script) (limits : Limits) (s : State) (h k : List Entry) → AllLegal script limits s h → AllLegal script limits (state_after script s h) k → AllLegal script limits s (h ++ k)
