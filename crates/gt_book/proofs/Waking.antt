@@ -19,7 +19,9 @@ use Rattle.gt_rules.specs.Panics.{fault, fault_at, when, or_else, open_fault, pa
 use Rattle.gt_rules.specs.Ready.{is_ready_alone, is_ready_recv, is_ready_at, is_ready_instr, has_partner, no_timer}
 use Rattle.gt_rules.specs.Legal.{May, Operates, Gives, operation_at}
 use Rattle.gt_rules.specs.Finish.{IsRunning}
-use Rattle.gt_rules.specs.History.{AllLegal}
+use Rattle.gt_rules.specs.History.{AllLegal, state_after}
+use Rattle.gt_rules.specs.After.{after}
+use Rattle.gt_rules.specs.declared.change.Trade.{Trade}
 use Rattle.gt_rules.specs.Change.{change_of, takes}
 use Rattle.gt_facts.specs.Formed.{IsFormed, IsFormedChannel}
 use Rattle.gt_facts.proofs.Lookups.{AtOperation, at_operation, is_recv, is_send, is_plain}
@@ -27,19 +29,21 @@ use Rattle.gt_facts.proofs.Makers.{gives-ready}
 use Rattle.gt_machine.specs.Machine.{state_of}
 use Rattle.gt_machine.specs.Outcomes.{due_outcome}
 use Rattle.gt_schedule.specs.Counts.{as_number, often}
-use Rattle.gt_schedule.specs.Schedule.{Schedule, plainly, object_of, parties_at, status_of, is_in_hand, is_parked, Served}
+use Rattle.gt_schedule.specs.Schedule.{Schedule, plainly, object_of, parties_at, status_of, is_in_hand, is_parked, scheduled, Served}
 use Rattle.gt_schedule.specs.Scheduler.{schedule_of}
 use Rattle.gt_book.specs.declared.run.Run.{Run}
 use Rattle.gt_book.specs.Steps.{value_of}
 use Rattle.gt_book.specs.Woken.{receiver_goes, sender_goes, or_next, woken_receiver, woken_sender, next_woken}
 use Rattle.gt_book.specs.Calm.{IsCalm, IsCalmBut}
-use Rattle.gt_book.specs.Run.{seen_of, IsUnderWay, IsKeptRun, CanMake, Makes, CanWake, Wakes}
-use Rattle.gt_book.specs.View.{BookView, Fits, AreWoken, NoneFirm, is_waiting, is_at, is_parked_at, is_firm_at, with_entries}
+use Rattle.gt_book.specs.declared.book.Book.TheInside.{Inside}
+use Rattle.gt_book.specs.Book.{seen, IsKept}
+use Rattle.gt_book.specs.Run.{seen_of, IsUnderWay, IsKeptRun, CanMake, Makes, CanWake, Wakes, CanEnter, Entered, Ends}
+use Rattle.gt_book.specs.View.{BookView, Fits, AreWoken, NoneFirm, Enters, is_waiting, is_at, is_parked_at, is_firm_at, with_entries, finish_due, outcome_of}
 use Rattle.gt_book.proofs.Firm.{firm_on, stood, firm-stood, never-both, unless-true, both-false, or-false, panic-standing, calm-standing, IsOpenChannel, open-no_fault}
 use Rattle.gt_book.proofs.Fitting.{first-waiting, first-sending}
 use Rattle.gt_book.proofs.Stays.{trades_at}
-use Rattle.gt_book.proofs.Calm.{plain-firm, calm_but-again}
-use Rattle.gt_book.proofs.Entering.{legal-May, way-running, with_entries-more, no-entries, all_legal-more, woken-more}
+use Rattle.gt_book.proofs.Calm.{plain-firm, calm-but, calm-entered, calm_but-again}
+use Rattle.gt_book.proofs.Entering.{IsCounted, counted-May, legal-May, running-none, way-lawful, way-running, with_entries-more, no-entries, all_legal-more, woken-more}
 
 -- ---- who stands at an operation of a channel
 
@@ -147,7 +151,7 @@ module _ (script : Script) (s : State) (m : Schedule) (c : ℕ) (good : IsGood s
         | Some r ↦ λ e h. (formed.chans c r e).named
       ] refl made
 
-  declared : c < length script.decls
+  pub declared : c < length script.decls
   declared = chan_declared script c chan
 
   -- who is parked goes on
@@ -323,6 +327,28 @@ pub record Waking (script : Script) (limits : Limits) (old now : Run) (c : ℕ) 
 pub waking-first : (script : Script) (limits : Limits) (r : Run) (c : ℕ) → CanWake script limits r c → Waking script limits r r c
 waking-first script limits r c can = record { woken = []; legal = tt; each_woken = tt; is = no-entries (seen_of script limits r); can = can }
 
+-- the channel has its lists
+pub record HasLists (m : Schedule) (c : ℕ) : Type 0 where
+  pub receivers : c < length m.receivers
+  pub senders : c < length m.senders
+
+pub waking-lists : (script : Script) (limits : Limits) (old now : Run) (c : ℕ) → Waking script limits old now c → HasLists (schedule_of now.scheduler) c
+waking-lists script limits old now c w =
+    let within : c < length script.decls =
+    declared script (state_of now.machine) (schedule_of now.scheduler) c w.can.kept.way.sound.good w.can.kept.way.sound.formed w.can.kept.way.sound.fits w.can.but in
+    record {
+      receivers = subst (λ n. c < n) (sym w.can.kept.way.sound.fits.receivers) within;
+      senders = subst (λ n. c < n) (sym w.can.kept.way.sound.fits.senders) within;
+    }
+
+pub waking-less : (script : Script) (limits : Limits) (old now new : Run) (c : ℕ) (e : Entry) → CanMake script limits now e → Makes script limits now e new
+    → limits.entries - new.machine.entries < limits.entries - now.machine.entries
+waking-less script limits old now new c e can makes =
+    let counted : IsCounted script (state_of now.machine) e = counted-May script (state_of now.machine) e can.may in
+    let more : new.machine.entries ≡ now.machine.entries + 1 = ap (λ (b : BookView). b.state.entries) makes.is ∙ counted.more in
+    let room : now.machine.entries < limits.entries = can.running.room in
+    omega arith
+
 module _ (script : Script) (limits : Limits) (old now : Run) (c : ℕ) (e : Entry) (w : Waking script limits old now c) (next : next_woken script (state_of now.machine) (schedule_of now.scheduler) c ≡ Some e)
     (none : due_outcome limits (state_of now.machine) ≡ None) where
   goes : IsWoken script (state_of now.machine) (schedule_of now.scheduler) c e
@@ -373,4 +399,90 @@ wakes-due script limits old now c outcome w due = record {
   is = w.is;
   kept = w.can.kept;
   calm = λ none. let both : Some outcome ≡ None = sym due ∙ none in cc;
+}
+
+-- whether an outcome is due, by the test of it
+pub none-due : (limits : Limits) (r : Run) (due : Option Outcome) (none : Bool) → due ≡ due_outcome limits (state_of r.machine) → is_some due ≡ not none → none ≡ true
+    → due_outcome limits (state_of r.machine) ≡ None
+none-due limits r None none is e h = sym is
+none-due limits r (Some outcome) none is e h = let none_not : true ≡ not true = e ∙ ap not h in cc
+
+pub some-due : (limits : Limits) (r : Run) (due : Option Outcome) (none : Bool) → due ≡ due_outcome limits (state_of r.machine) → is_some due ≡ not none → none ≡ false
+    → (outcome : Outcome) × (due_outcome limits (state_of r.machine) ≡ Some outcome)
+some-due limits r None none is e h = let some_not : false ≡ not false = e ∙ ap not h in cc
+some-due limits r (Some outcome) none is e h = (outcome, sym is)
+
+-- ---- an entry with those that it wakes
+
+module _ (script : Script) (limits : Limits) (old mid : Run) (e : Entry) (can : CanEnter script limits old e) (makes : Makes script limits old e mid) where
+  first-legal : AllLegal script limits (state_of old.machine) (e ∷ [])
+  first-legal = (legal-May script limits (state_of old.machine) e can.can.running can.can.may, tt)
+
+  state-is : state_of mid.machine ≡ after script (state_of old.machine) e
+  state-is = ap (λ (b : BookView). b.state) makes.is
+
+  schedule-is : schedule_of mid.scheduler ≡ scheduled (schedule_of old.scheduler) e
+  schedule-is = ap (λ (b : BookView). b.schedule) makes.is
+
+  pub entered-alone : (change_of e).channel ≡ None → Entered script limits old e mid
+  entered-alone none = record {
+    woken = [];
+    legal = first-legal;
+    each_woken = tt;
+    is = makes.is;
+    kept = makes.kept;
+    calm = λ due. subst (λ (b : BookView). IsCalm script b.state b.schedule) (sym makes.is)
+        (calm-entered script (state_of old.machine) (schedule_of old.scheduler) e can.can.kept.way.sound.good can.can.may can.can.kept.way.sound.fits can.can.served none can.calm);
+  }
+
+  pub can-wake : (c : ℕ) (x : Trade) → (change_of e).channel ≡ Some (c, x) → CanWake script limits mid c
+  can-wake c x is = record {
+    kept = makes.kept;
+    but = subst (λ (b : BookView). IsCalmBut script b.state b.schedule (λ o. eqb o c)) (sym makes.is)
+        (calm-but script (state_of old.machine) (schedule_of old.scheduler) e c x can.can.kept.way.sound.good can.can.kept.way.sound.formed can.can.may can.can.kept.way.sound.fits can.can.served is can.calm);
+  }
+
+  pub entered-woken : (new : Run) → Wakes script limits mid new → Entered script limits old e new
+  entered-woken new w = record {
+    woken = w.woken;
+    legal = (first-legal.0, subst (λ s. AllLegal script limits s w.woken) state-is w.legal);
+    each_woken = subst (λ s. AreWoken script s (scheduled (schedule_of old.scheduler) e) w.woken) state-is
+        (subst (λ m. AreWoken script (state_of mid.machine) m w.woken) schedule-is w.each_woken);
+    is = w.is ∙ (ap (λ b. with_entries b w.woken) makes.is ∙ with_entries-more (seen_of script limits old) (e ∷ []) w.woken);
+    kept = w.kept;
+    calm = w.calm;
+  }
+
+-- ---- the book
+
+-- a book in which an entry may come
+pub can_enter-seen : (b : Inside) (v : BookView) (e : Entry) → seen b ≡ v → IsKept b → outcome_of v ≡ None → May v.script v.state e → Served v.schedule e
+    → CanEnter b.script b.limits b.run e
+can_enter-seen b v e is kept none may served =
+    let unfinished : outcome_of (seen b) ≡ None = subst (λ (v : BookView). outcome_of v ≡ None) (sym is) none in
+    record {
+      can = record {
+        kept = record { way = way-lawful (seen b) kept.lawful unfinished; rooms = kept.rooms };
+        running = running-none (seen b) kept.lawful unfinished;
+        may = subst (λ (v : BookView). May v.script v.state e) (sym is) may;
+        served = subst (λ (v : BookView). Served v.schedule e) (sym is) served;
+      };
+      calm = kept.lawful.calm unfinished;
+    }
+
+pub kept-ends : (b : Inside) (mid new : Run) → Ends b.script b.limits mid new → IsKept (record { script = b.script; limits = b.limits; run = new })
+kept-ends b mid new ends = record { lawful = ends.lawful; rooms = ends.rooms }
+
+pub enters-ends : (b : Inside) (e : Entry) (mid new : Run) → Entered b.script b.limits b.run e mid → Ends b.script b.limits mid new
+    → Enters (seen b) e (seen (record { script = b.script; limits = b.limits; run = new }))
+enters-ends b e mid new entered ends = record {
+  woken = entered.woken;
+  legal = entered.legal;
+  each_woken = entered.each_woken;
+  is =
+      let state : state_of mid.machine ≡ (with_entries (seen b) (e ∷ entered.woken)).state = ap (λ (v : BookView). v.state) entered.is in
+      ends.is
+      ∙ (ap (λ s. with_entries (seen_of b.script b.limits mid) (finish_due b.limits s)) state
+      ∙ (ap (λ v. with_entries v (finish_due b.limits (state_after b.script (state_of b.run.machine) (e ∷ entered.woken)))) entered.is
+      ∙ with_entries-more (seen b) (e ∷ entered.woken) (finish_due b.limits (state_after b.script (state_of b.run.machine) (e ∷ entered.woken)))));
 }
