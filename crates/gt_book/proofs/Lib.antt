@@ -4,6 +4,7 @@ pub mod Fitting
 pub mod Stays
 pub mod Calm
 pub mod Books
+pub mod Meeting
 pub mod Going
 pub mod Giving
 pub mod Counting
