@@ -1,5 +1,5 @@
 -- A change by an entry leaves nobody parked who is firmly ready, but at the channel that it changes.
-use Rattle.std.proofs.Common.{◌≡◌, ◌≢◌, ℕ, zero, suc, ◌+◌, List, [], ◌∷◌, ◌++◌, length, eqb, ◌==◌, refl, sym, ap, subst, ◌∙◌, arith, Option, None, Some, Bool, true, false, not, ◌||◌, ◌&&◌, is_some, is_none, IsTrue, inl, inr}
+use Rattle.std.proofs.Common.{◌≡◌, ◌≢◌, ℕ, zero, suc, ◌+◌, List, [], ◌∷◌, ◌++◌, length, slice_get, eqb, ◌==◌, refl, sym, ap, subst, ◌∙◌, arith, Option, None, Some, Bool, true, false, not, ◌||◌, ◌&&◌, is_some, is_none, IsTrue, inl, inr}
 use Rattle.std.specs.List.{list_all, enumerate_from}
 use Rattle.std.proofs.lemmas.Bool.{cases_eq, eq-eqb, eqb-true, and_parts, and_from}
 use Rattle.std.proofs.Math.ListN.{length-append}
@@ -179,7 +179,7 @@ pub record CanPark (script : Script) (s : State) (m : Schedule) (g : ℕ) (kind 
   pub alone : is_ready_alone script s no_timer kind ≡ false
   pub partner : has_partner script s (is_waiting m) g kind ≡ false
 
-plain-firm : (script : Script) (s : State) (counts : ℕ → Bool) (g : ℕ) (i : Instr) (kind : CaseKind) → operation i 0 ≡ Some kind → fault script s i ≡ None
+pub plain-firm : (script : Script) (s : State) (counts : ℕ → Bool) (g : ℕ) (i : Instr) (kind : CaseKind) → operation i 0 ≡ Some kind → fault script s i ≡ None
     → is_ready_alone script s no_timer kind ≡ false → has_partner script s counts g kind ≡ false → firm_on script s counts g (Some i) ≡ false
 plain-firm script s counts g (Instr.Recv o) kind has none alone partner =
     let is : CaseKind.Recv o ≡ kind = cc in

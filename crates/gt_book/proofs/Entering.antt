@@ -1,5 +1,5 @@
--- A lawful book with one more entry, and the finish that is due then, is lawful.
-use Rattle.std.proofs.Common.{cond, ◌≡◌, ◌≢◌, ◌+◌, ◌<◌, ◌≤◌, List, [], ◌∷◌, refl, sym, ap, subst, ◌∙◌, arith, append_assoc, ◌==◌, eqb, if◌then◌else◌, Option, None, Some, Bool, true, false, MatchOption}
+-- A run under way with one more entry is under way, and with the finish that is due then its book is lawful.
+use Rattle.std.proofs.Common.{cond, ◌≡◌, ◌≢◌, ◌+◌, ◌<◌, ◌≤◌, List, [], ◌∷◌, refl, sym, ap, subst, ◌∙◌, arith, append_assoc, append-nil, ◌++◌, ◌==◌, eqb, if◌then◌else◌, Option, None, Some, Bool, true, false, MatchOption}
 use Rattle.std.proofs.lemmas.Bool.{eqb-false, eqb-true}
 use Rattle.gt_model.specs.declared.script.Script.{Script}
 use Rattle.gt_model.specs.declared.entry.Entry.{Entry}
@@ -15,12 +15,12 @@ use Rattle.gt_model.specs.Good.{IsGood, AreLimits}
 use Rattle.gt_facts.specs.Formed.{IsFormed}
 use Rattle.gt_facts.proofs.Histories.{AllLegal-append, state_after-append}
 use Rattle.gt_facts.proofs.Formed.{formed-after, formed-finish}
-use Rattle.gt_schedule.specs.Schedule.{scheduled}
-use Rattle.gt_book.specs.View.{BookView, IsLawful, Fits, NoneFirm, Enters, with_entries, finish_by, outcome_of}
+use Rattle.gt_schedule.specs.Schedule.{Schedule, scheduled, schedule_after, Served}
+use Rattle.gt_book.specs.View.{BookView, IsLawful, Fits, NoneFirm, AreWoken, with_entries, outcome_of}
+use Rattle.gt_book.specs.Run.{IsSound, IsUnderWay}
 use Rattle.gt_machine.specs.Outcomes.{due_outcome, outcome_in}
 use Rattle.gt_rules.specs.Change.{change_of}
-use Rattle.gt_book.proofs.Fitting.{fits-changed}
-use Rattle.gt_book.proofs.Calm.{IsCalm}
+use Rattle.gt_book.proofs.Fitting.{fits-changed, fits-entered}
 
 -- an entry that may come while the run goes on is legal
 pub legal-May : (script : Script) (limits : Limits) (s : State) (e : Entry) → IsRunning limits s → May script s e → Legal script limits s e
@@ -40,15 +40,6 @@ pub counted-May : (script : Script) (s : State) (e : Entry) → May script s e �
 counted-May script s (Entry.End g) may = record { more = refl; unfinished = λ outcome is e. cond_ending (eqb g 1) s.ending outcome is e }
 counted-May script s (Entry.Finish outcome) may = absurd may
 counted-May script s _ may = record { more = refl; unfinished = λ outcome is e. cc }
-
--- all that a lawful book keeps, but that the run goes on or has its outcome, and that nobody parked is firmly ready while it goes on
-pub record IsSound (b : BookView) : Type 0 where
-  pub good : IsGood b.script
-  pub limits : AreLimits b.limits
-  pub legal : AllLegal b.script b.limits (first_state b.script) b.history
-  pub reached : state_after b.script (first_state b.script) b.history ≡ b.state
-  pub formed : IsFormed b.script b.state
-  pub fits : Fits b.script b.state b.schedule
 
 pub lawful-sound : (b : BookView) → IsSound b → MatchOption (outcome_of b) (IsRunning b.limits b.state) (λ outcome. Unit {0}) → (outcome_of b ≡ None → NoneFirm b) → IsLawful b
 lawful-sound b sound goes calm = record {
@@ -122,20 +113,6 @@ due-Finishes script limits s outcome due =
     none_some : {o : Outcome} → None ≡ Some o → Finishes script limits s outcome
     none_some {o} e = cc
 
--- an entry, and then an outcome that is due
-pub with_entries-finish : (b : BookView) (e : Entry) (outcome : Outcome)
-    → with_entries (with_entries b (e ∷ [])) (Entry.Finish outcome ∷ []) ≡ with_entries b (e ∷ Entry.Finish outcome ∷ [])
-with_entries-finish b e outcome =
-    ap (λ (h : List Entry). record (with_entries b (e ∷ Entry.Finish outcome ∷ [])) { history = h }) (append_assoc b.history (e ∷ []) (Entry.Finish outcome ∷ []))
-
--- A lawful book with an entry that may come, while the run goes on
-pub record IsEntered (b : BookView) (e : Entry) : Type 0 where
-  pub sound : IsSound (with_entries b (e ∷ []))
-  pub few : (after b.script b.state e).entries ≤ b.limits.entries
-  pub unfinished : (outcome : Outcome) → (after b.script b.state e).ending ≡ Ending.Finished outcome → ⊥
-  pub legal : Legal b.script b.limits b.state e
-  pub calm : NoneFirm (with_entries b (e ∷ []))
-
 pub sound-lawful : (b : BookView) → IsLawful b → IsSound b
 sound-lawful b lawful = record {
   good = lawful.good;
@@ -150,54 +127,81 @@ pub running-none : (b : BookView) → IsLawful b → outcome_of b ≡ None → I
 running-none b lawful none =
     subst (λ (o : Option Outcome). MatchOption o (IsRunning b.limits b.state) (λ outcome. Unit {0})) none lawful.goes
 
-pub entered_by : (b : BookView) (e : Entry) → IsLawful b → IsRunning b.limits b.state → May b.script b.state e
-    → Fits b.script (after b.script b.state e) (scheduled b.schedule e) → IsCalm b.script (after b.script b.state e) (scheduled b.schedule e) → IsEntered b e
-entered_by b e lawful running may fits calm =
+-- ---- a run under way
+
+pub way-lawful : (b : BookView) → IsLawful b → outcome_of b ≡ None → IsUnderWay b
+way-lawful b lawful none =
+    let running : IsRunning b.limits b.state = running-none b lawful none in
+    let room : b.state.entries < b.limits.entries = running.room in
+    record { sound = sound-lawful b lawful; few = omega arith; unfinished = none }
+
+unfinished-none : (ending : Ending) → ((outcome : Outcome) → ending ≡ Ending.Finished outcome → ⊥) → outcome_in ending ≡ None
+unfinished-none Ending.Running h = refl
+unfinished-none Ending.MainEnded h = refl
+unfinished-none Ending.Panicked h = refl
+unfinished-none (Ending.Finished outcome) h = absurd (h outcome refl)
+
+none-unfinished : (ending : Ending) → outcome_in ending ≡ None → (outcome : Outcome) → ending ≡ Ending.Finished outcome → ⊥
+none-unfinished ending none outcome is = let some : outcome_in ending ≡ Some outcome = ap outcome_in is in cc
+
+-- with an entry that may come it is under way still
+pub way-more : (b : BookView) (e : Entry) → IsUnderWay b → IsRunning b.limits b.state → May b.script b.state e → Served b.schedule e → IsUnderWay (with_entries b (e ∷ []))
+way-more b e way running may served =
     let counted : IsCounted b.script b.state e = counted-May b.script b.state e may in
     let legal : Legal b.script b.limits b.state e = legal-May b.script b.limits b.state e running may in
     let more : (after b.script b.state e).entries ≡ b.state.entries + 1 = counted.more in
     let room : b.state.entries < b.limits.entries = running.room in
     record {
-      sound = sound-more b e (sound-lawful b lawful) legal (formed-after b.script b.state e lawful.good lawful.formed may) fits;
+      sound = sound-more b e way.sound legal (formed-after b.script b.state e way.sound.good way.sound.formed may) (fits-entered b.script b.state b.schedule e way.sound.fits served);
       few = omega arith;
-      unfinished = λ outcome. counted.unfinished outcome running.ending;
-      legal = legal;
-      calm = calm;
+      unfinished = unfinished-none (after b.script b.state e).ending (λ outcome. counted.unfinished outcome running.ending);
     }
 
--- where no outcome is due, the book is lawful and the run goes on
-pub lawful-goes_on : (b : BookView) (e : Entry) → IsEntered b e → due_outcome b.limits (after b.script b.state e) ≡ None → IsLawful (with_entries b (e ∷ []))
-lawful-goes_on b e entered none =
-    let s : State = after b.script b.state e in
-    let running : IsRunning b.limits s = goes_on b.limits s entered.few entered.unfinished none in
-    lawful-sound (with_entries b (e ∷ [])) entered.sound
-    (subst (λ (ending : Ending). MatchOption (outcome_in ending) (IsRunning b.limits s) (λ outcome. Unit {0})) (sym running.ending) running)
-    (λ none. entered.calm)
+-- where no outcome is due it goes on
+pub way-running : (b : BookView) → IsUnderWay b → due_outcome b.limits b.state ≡ None → IsRunning b.limits b.state
+way-running b way none = goes_on b.limits b.state way.few (none-unfinished b.state.ending way.unfinished) none
 
--- where an outcome is due, the book that ends with it is lawful
-pub lawful-finishes : (b : BookView) (e : Entry) (outcome : Outcome) → IsEntered b e → due_outcome b.limits (after b.script b.state e) ≡ Some outcome
-    → IsLawful (with_entries b (e ∷ Entry.Finish outcome ∷ []))
-lawful-finishes b e outcome entered due =
-    let s : State = after b.script b.state e in
-    let one : BookView = with_entries b (e ∷ []) in
-    let finished : IsSound (with_entries one (Entry.Finish outcome ∷ [])) =
-    sound-more one (Entry.Finish outcome) entered.sound (due-Finishes b.script b.limits s outcome due)
-    (formed-finish b.script s outcome entered.sound.formed) (fits-changed b.script s (scheduled b.schedule e) (change_of (Entry.Finish outcome)) entered.sound.fits tt) in
-    subst IsLawful (with_entries-finish b e outcome) (lawful-sound (with_entries one (Entry.Finish outcome ∷ [])) finished tt (λ none. cc))
+pub lawful-way : (b : BookView) → IsUnderWay b → due_outcome b.limits b.state ≡ None → NoneFirm b → IsLawful b
+lawful-way b way none calm =
+    let running : IsRunning b.limits b.state = way-running b way none in
+    lawful-sound b way.sound
+    (subst (λ (ending : Ending). MatchOption (outcome_in ending) (IsRunning b.limits b.state) (λ outcome. Unit {0})) (sym running.ending) running)
+    (λ none. calm)
 
-pub enters-finishes : (b : BookView) (e : Entry) (outcome : Outcome) → IsEntered b e → due_outcome b.limits (after b.script b.state e) ≡ Some outcome
-    → Enters b e (with_entries b (e ∷ Entry.Finish outcome ∷ []))
-enters-finishes b e outcome entered due = record {
-  woken = [];
-  legal = (entered.legal, tt);
-  each_woken = tt;
-  is = ap (λ (o : Option Outcome). with_entries b (e ∷ finish_by o)) (sym due);
-}
+-- where one is due, the book that ends with it is lawful
+pub lawful-finishes : (b : BookView) (outcome : Outcome) → IsUnderWay b → due_outcome b.limits b.state ≡ Some outcome → IsLawful (with_entries b (Entry.Finish outcome ∷ []))
+lawful-finishes b outcome way due =
+    let finished : IsSound (with_entries b (Entry.Finish outcome ∷ [])) =
+    sound-more b (Entry.Finish outcome) way.sound (due-Finishes b.script b.limits b.state outcome due)
+    (formed-finish b.script b.state outcome way.sound.formed) (fits-changed b.script b.state b.schedule (change_of (Entry.Finish outcome)) way.sound.fits (tt, tt)) in
+    lawful-sound (with_entries b (Entry.Finish outcome ∷ [])) finished tt (λ none. cc)
 
-pub enters-goes_on : (b : BookView) (e : Entry) → IsEntered b e → due_outcome b.limits (after b.script b.state e) ≡ None → Enters b e (with_entries b (e ∷ []))
-enters-goes_on b e entered none = record {
-  woken = [];
-  legal = (entered.legal, tt);
-  each_woken = tt;
-  is = ap (λ (o : Option Outcome). with_entries b (e ∷ finish_by o)) (sym none);
-}
+-- ---- entries one after another
+
+pub state_after-more : (script : Script) (s : State) (h k : List Entry) → state_after script s (h ++ k) ≡ state_after script (state_after script s h) k
+state_after-more script s [] k = refl
+state_after-more script s (x ∷ h) k = state_after-more script (after script s x) h k
+
+schedule_after-more : (m : Schedule) (h k : List Entry) → schedule_after m (h ++ k) ≡ schedule_after (schedule_after m h) k
+schedule_after-more m [] k = refl
+schedule_after-more m (x ∷ h) k = schedule_after-more (scheduled m x) h k
+
+pub no-entries : (b : BookView) → b ≡ with_entries b []
+no-entries b = ap (λ h. record { script = b.script; limits = b.limits; history = h; state = b.state; schedule = b.schedule }) (sym (append-nil b.history))
+
+pub with_entries-more : (b : BookView) (h k : List Entry) → with_entries (with_entries b h) k ≡ with_entries b (h ++ k)
+with_entries-more b h k =
+    ap (λ x. record { script = b.script; limits = b.limits; history = x; state = state_after b.script (state_after b.script b.state h) k; schedule = schedule_after (schedule_after b.schedule h) k })
+    (append_assoc b.history h k)
+    ∙ (ap (λ x. record { script = b.script; limits = b.limits; history = b.history ++ (h ++ k); state = x; schedule = schedule_after (schedule_after b.schedule h) k })
+    (sym (state_after-more b.script b.state h k))
+    ∙ ap (λ x. record { script = b.script; limits = b.limits; history = b.history ++ (h ++ k); state = state_after b.script b.state (h ++ k); schedule = x })
+    (sym (schedule_after-more b.schedule h k)))
+
+pub all_legal-more : (script : Script) (limits : Limits) (s : State) (h k : List Entry) → AllLegal script limits s h → AllLegal script limits (state_after script s h) k → AllLegal script limits s (h ++ k)
+all_legal-more script limits s [] k all next = next
+all_legal-more script limits s (x ∷ h) k all next = (all.0, all_legal-more script limits (after script s x) h k all.1 next)
+
+pub woken-more : (script : Script) (s : State) (m : Schedule) (h k : List Entry) → AreWoken script s m h → AreWoken script (state_after script s h) (schedule_after m h) k → AreWoken script s m (h ++ k)
+woken-more script s m [] k all next = next
+woken-more script s m (x ∷ h) k all next = (all.0, woken-more script (after script s x) (scheduled m x) h k all.1 next)

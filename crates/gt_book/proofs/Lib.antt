@@ -5,6 +5,7 @@ pub mod Stays
 pub mod Calm
 pub mod Books
 pub mod Meeting
+pub mod Waking
 pub mod Going
 pub mod Giving
 pub mod Counting

@@ -7,7 +7,7 @@ use Rattle.gt_model.specs.declared.entry.Entry.{Entry}
 use Rattle.gt_model.specs.declared.entry.Limits.{Limits}
 use Rattle.gt_model.specs.Good.{IsGood, AreLimits}
 use Rattle.gt_rules.specs.State.{State}
-use Rattle.gt_rules.specs.After.{first_state}
+use Rattle.gt_rules.specs.After.{after, first_state}
 use Rattle.gt_rules.specs.Legal.{May}
 use Rattle.gt_rules.specs.Finish.{IsRunning}
 use Rattle.gt_rules.specs.History.{AllLegal, state_after}
@@ -15,7 +15,7 @@ use Rattle.gt_facts.specs.Formed.{IsFormed}
 use Rattle.gt_machine.specs.Machine.{state_of, HasChannels}
 use Rattle.gt_machine.specs.Outcomes.{due_outcome, outcome_in}
 use Rattle.gt_schedule.specs.Counts.{as_number}
-use Rattle.gt_schedule.specs.Schedule.{most_goroutines, Served}
+use Rattle.gt_schedule.specs.Schedule.{most_goroutines, scheduled, Served}
 use Rattle.gt_schedule.specs.Scheduler.{schedule_of, capacity, IsScheduler}
 use Rattle.gt_book.specs.declared.run.Run.{Run}
 use Rattle.gt_book.specs.View.{BookView, IsLawful, Fits, NoneFirm, AreWoken, with_entries, outcome_of, finish_due}
@@ -82,6 +82,20 @@ pub record Wakes (script : Script) (limits : Limits) (old new : Run) : Type 0 wh
   pub legal : AllLegal script limits (state_of old.machine) woken
   pub each_woken : AreWoken script (state_of old.machine) (schedule_of old.scheduler) woken
   pub is : seen_of script limits new ≡ with_entries (seen_of script limits old) woken
+  pub kept : IsKeptRun script limits new
+  pub calm : due_outcome limits (state_of new.machine) ≡ None → NoneFirm (seen_of script limits new)
+
+-- a run in which an entry may come: nobody who is parked could go on
+pub record CanEnter (script : Script) (limits : Limits) (r : Run) (e : Entry) : Type 0 where
+  pub can : CanMake script limits r e
+  pub calm : NoneFirm (seen_of script limits r)
+
+-- the entry was made, and those of whom it woke
+pub record Entered (script : Script) (limits : Limits) (old : Run) (e : Entry) (new : Run) : Type 0 where
+  pub woken : List Entry
+  pub legal : AllLegal script limits (state_of old.machine) (e ∷ woken)
+  pub each_woken : AreWoken script (after script (state_of old.machine) e) (scheduled (schedule_of old.scheduler) e) woken
+  pub is : seen_of script limits new ≡ with_entries (seen_of script limits old) (e ∷ woken)
   pub kept : IsKeptRun script limits new
   pub calm : due_outcome limits (state_of new.machine) ≡ None → NoneFirm (seen_of script limits new)
 

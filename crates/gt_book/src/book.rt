@@ -28,7 +28,6 @@ use crate::step::{Step, next_step};
 use gt_machine::Machine;
 use gt_model::{CAP, CaseKind, Entry, Instr, Limits, NoMemory, Outcome, Party, Script};
 use gt_room::Room;
-use gt_rules::channel_of;
 use gt_schedule::{RunStatus, Scheduler, Ticket, most_goroutines};
 use std::alloc::Global;
 use std::marker::Model;
@@ -375,10 +374,7 @@ impl Book {
         requires served { Served self.old.schedule entry }
         ensures { Enters self.old entry self.new }
     {
-        self.run.make(&self.script, entry);
-        if let Some((c, _)) = channel_of(&entry) {
-            self.run.wake(&self.script, self.limits, c);
-        }
+        self.run.enter(&self.script, self.limits, entry);
         self.run.end(self.limits);
     }
 }

@@ -3,12 +3,13 @@
 ghost use Rattle.gt_model.specs.declared.entry.Entry.{Entry};
 ghost use Rattle.gt_model.specs.declared.entry.Limits.{Limits};
 ghost use Rattle.gt_model.specs.declared.script.Script.{Script};
-ghost use Rattle.gt_book.specs.Run.{CanMake, Makes, CanWake, Wakes, CanEnd, Ends};
+ghost use Rattle.gt_book.specs.Run.{CanMake, Makes, CanWake, Wakes, CanEnter, Entered, CanEnd, Ends};
 
 use crate::channels::next_woken;
 use gt_machine::Machine;
 use gt_model::{Entry, Limits, Script};
 use gt_room::Room;
+use gt_rules::channel_of;
 use gt_schedule::Scheduler;
 
 /// The entries that a run has made, the state after them, and who runs and who waits.
@@ -21,7 +22,7 @@ pub struct Run {
 
 impl Run {
     /// Makes an entry.
-    pub fn make(&mut self, script: &Script, entry: Entry)
+    fn make(&mut self, script: &Script, entry: Entry)
         requires { (limits : Limits) × CanMake script.now limits self.old entry }
         ensures { (limits : Limits) → CanMake script.now limits self.old entry → Makes script.now limits self.old entry self.new }
     {
@@ -31,7 +32,7 @@ impl Run {
     }
 
     /// Lets those go on that wait at a channel and can, until none can or the run is to end.
-    pub fn wake(&mut self, script: &Script, limits: Limits, c: u32)
+    fn wake(&mut self, script: &Script, limits: Limits, c: u32)
         requires { CanWake script.now limits self.old c }
         ensures { Wakes script.now limits self.old self.new }
     {
@@ -40,6 +41,17 @@ impl Run {
                 return;
             };
             self.make(script, entry);
+        }
+    }
+
+    /// Makes an entry, and those of whoever goes on by it at its channel.
+    pub fn enter(&mut self, script: &Script, limits: Limits, entry: Entry)
+        requires { CanEnter script.now limits self.old entry }
+        ensures { Entered script.now limits self.old entry self.new }
+    {
+        self.make(script, entry);
+        if let Some((c, _)) = channel_of(&entry) {
+            self.wake(script, limits, c);
         }
     }
 

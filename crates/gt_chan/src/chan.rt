@@ -184,7 +184,8 @@ impl Chan {
         }
     }
 
-    /// Closes the channel. Those that wait stay in their lists.
+    /// Closes the channel, which keeps its items (The Go Programming Language Specification, "Close"). Those that wait stay in
+    /// their lists.
     pub fn close(&mut self) -> CloseStep
         requires { IsSome self.old.world }
         ensures step { result ≡ close_step self.old.closed }

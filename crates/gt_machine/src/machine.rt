@@ -54,7 +54,7 @@ fn unmade(alloc: Global, n: usize) -> Result<Vec<Option<Timer>>, NoMemory>
     vec![in alloc; None; n].map_err(|_| NoMemory)
 }
 
-/// A channel for each declaration, none of them made. They wait in no lists here, so the number of their list is 0.
+/// A channel for each declaration, none of them made. Who waits is found in the goroutines, and not in lists, so the number of each one's list is 0.
 fn unmade_channels(alloc: Global, decls: &[Decl]) -> Result<Vec<Chan>, NoMemory>
     ensures { IfOk result (λ channels. channels.items ≡ map (λ (d : Decl). chan.unmade (capacity_in d.what) 0) decls.now) }
 {

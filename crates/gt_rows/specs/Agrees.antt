@@ -18,9 +18,10 @@ of_declaration script id = slice_get script.decls id
 abbrev pub kind_of_what : What → Option RecKind
 kind_of_what What.Timer = Some RecKind.Timer
 kind_of_what (What.AfterFunc f) = Some RecKind.Func
+kind_of_what (What.Chan cap) = None
 kind_of_what What.Function = None
 
--- the kind of the record of a number; a function has none
+-- the kind of the record of a number; a function and a channel have none
 abbrev pub kind_by : Script → ℕ → Option RecKind
 kind_by script id = elim (of_declaration script id) [ None ↦ Some RecKind.Sleep | Some decl ↦ kind_of_what decl.what ]
 

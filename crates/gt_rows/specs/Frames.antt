@@ -11,16 +11,17 @@ use Rattle.gt_rules.specs.declared.change.Setting.{Setting}
 use Rattle.gt_schedule.specs.declared.status.RunStatus.{RunStatus}
 use Rattle.gt_schedule.specs.Schedule.{is_parked}
 
--- the due time that a timer has by its setting, and the end of the sleep that a goroutine has by its move
+-- the due time that a timer has by its setting, and the end of the sleep that a goroutine has by its move, where it had this one before
 abbrev pub due_after : Setting → Option ℕ
 due_after (Setting.Made due) = Some due
 due_after (Setting.SetAnew due) = Some due
 due_after (Setting.Ended next) = next
 
-abbrev pub until_after : Move → Option ℕ
-until_after (Move.GoesOn case_no) = None
-until_after (Move.FallsAsleep until) = Some until
-until_after Move.Ends = None
+abbrev pub until_after : Move → Option ℕ → Option ℕ
+until_after (Move.GoesOn case_no) before = None
+until_after (Move.FallsAsleep until) before = Some until
+until_after Move.Ends before = None
+until_after Move.Panics before = before
 
 abbrev pub timer_touched : Option (ℕ × Setting) → ℕ → Option ℕ → Option ℕ
 timer_touched None t before = before
@@ -28,11 +29,11 @@ timer_touched (Some c) t before = cond (t == c.0) (due_after c.1) before
 
 abbrev pub sleep_touched : Option (ℕ × Move) → ℕ → Option ℕ → Option ℕ
 sleep_touched None g before = before
-sleep_touched (Some x) g before = cond (g == x.0) (until_after x.1) before
+sleep_touched (Some x) g before = cond (g == x.0) (until_after x.1 before) before
 
 -- the due time of the record of a number, where there are n declarations and it had this one before
 abbrev pub touched : Change → ℕ → ℕ → Option ℕ → Option ℕ
-touched c n id before = cond (nat_lt id n) (timer_touched c.timer id before) (sleep_touched c.mover (id - n) before)
+touched c n id before = cond (nat_lt id n) (timer_touched c.timer id before) (sleep_touched c.partner (id - n) (sleep_touched c.mover (id - n) before))
 
 -- a new setting has its own period, and an end leaves the old one
 abbrev pub period_after : Setting → ℕ → ℕ → ℕ
@@ -58,11 +59,16 @@ abbrev pub status_turned : ℕ → Move → Option RunStatus → Option RunStatu
 status_turned parks (Move.GoesOn case_no) before = cond (is_parked before) (Some RunStatus.Queued) before
 status_turned parks (Move.FallsAsleep until) before = Some (RunStatus.Parked parks)
 status_turned parks Move.Ends before = Some RunStatus.Ended
+status_turned parks Move.Panics before = before
 
 -- somebody else moves, or nobody
 abbrev pub IsUnmoved : Option (ℕ × Move) → ℕ → Type 0
 IsUnmoved None g = Unit {0}
 IsUnmoved (Some x) g = g ≢ x.0
+
+-- neither who makes the entry nor its partner
+abbrev pub IsApart : Change → ℕ → Type 0
+IsApart c g = IsUnmoved c.mover g × IsUnmoved c.partner g
 
 -- who does not move stays, or is to run: it was parked and is woken, or it begins
 abbrev pub StaysOrRuns : Option RunStatus → Option RunStatus → Type 0

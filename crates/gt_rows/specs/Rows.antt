@@ -60,7 +60,7 @@ sets _ = None
 
 -- a goroutine stands at an instruction that sets this timer, unless it panics
 abbrev pub SetsAt : BookView → ℕ → ℕ → Type 0
-SetsAt b g t = elim (stands_at b.script b.state g) [ None ↦ ⊥ | Some i ↦ sets (step_of_instr b.state g i) ≡ Some t ]
+SetsAt b g t = elim (stands_at b.script b.state g) [ None ↦ ⊥ | Some i ↦ sets (step_of_instr b.script b.state b.schedule g i) ≡ Some t ]
 
 -- the heap that has to be told of a due time, where it has the record under a later one
 abbrev pub note_of : Rec → ℕ → ℕ → Option ℕ
@@ -95,6 +95,7 @@ SetsBy old g new reply (Some (Step.Needs (TimerOp.Stop t))) = ⊥
 SetsBy old g new reply (Some (Step.Needs (TimerOp.Enrolled ticket))) = ⊥
 SetsBy old g new reply (Some (Step.Needs (TimerOp.Sleep d))) = ⊥
 SetsBy old g new reply (Some (Step.Waits t)) = ⊥
+SetsBy old g new reply (Some (Step.Parks kind)) = ⊥
 SetsBy old g new reply (Some Step.Nowhere) = ⊥
 SetsBy old g new reply None = ⊥
 
@@ -124,6 +125,7 @@ SleepsBy old g new reply (Some (Step.Needs (TimerOp.Stop t))) = ⊥
 SleepsBy old g new reply (Some (Step.Needs (TimerOp.Enrolled ticket))) = ⊥
 SleepsBy old g new reply (Some (Step.Makes e)) = ⊥
 SleepsBy old g new reply (Some (Step.Waits t)) = ⊥
+SleepsBy old g new reply (Some (Step.Parks kind)) = ⊥
 SleepsBy old g new reply (Some Step.Nowhere) = ⊥
 SleepsBy old g new reply None = ⊥
 
@@ -154,6 +156,7 @@ StopsBy old g new reply (Some (Step.Needs (TimerOp.Set t d anew))) = ⊥
 StopsBy old g new reply (Some (Step.Needs (TimerOp.Enrolled ticket))) = ⊥
 StopsBy old g new reply (Some (Step.Needs (TimerOp.Sleep d))) = ⊥
 StopsBy old g new reply (Some (Step.Waits t)) = ⊥
+StopsBy old g new reply (Some (Step.Parks kind)) = ⊥
 StopsBy old g new reply (Some Step.Nowhere) = ⊥
 StopsBy old g new reply None = ⊥
 

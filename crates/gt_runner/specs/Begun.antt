@@ -9,10 +9,11 @@ use Rattle.gt_rec.specs.Rec.{Rec, BitsRight}
 use Rattle.gt_rec.specs.Changes.{unset_rec}
 use Rattle.gt_room.specs.Contents.{Contents}
 
--- a function's record is never set; its kind is none of its number's
+-- the records of a function and of a channel are never set; their kind is none of their numbers'
 abbrev pub kind_at : What → RecKind
 kind_at What.Timer = RecKind.Timer
 kind_at (What.AfterFunc f) = RecKind.Func
+kind_at (What.Chan cap) = RecKind.Func
 kind_at What.Function = RecKind.Func
 
 -- each declaration has a record with nothing set

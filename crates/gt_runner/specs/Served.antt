@@ -8,7 +8,7 @@ use Rattle.gt_rules.specs.State.{State, stands_at}
 use Rattle.gt_rec.specs.declared.RecKind.{RecKind}
 use Rattle.gt_rec.specs.Rec.{Rec, needs_heap, has_channel}
 use Rattle.gt_lazy.specs.Slots.{LazyHeap, slot_with}
-use Rattle.gt_model.specs.Script.{is_timer}
+use Rattle.gt_model.specs.Script.{is_timer, is_chan}
 use Rattle.gt_schedule.specs.Counts.{times}
 use Rattle.gt_schedule.specs.declared.status.RunStatus.{RunStatus}
 use Rattle.gt_schedule.specs.Schedule.{Schedule, status_of, marks_at, mark_count, most_goroutines}
@@ -63,12 +63,12 @@ noted_at noted r = noted_with noted (early_due r)
 -- ---- marks
 
 -- the timers at whose receive an instruction waits
-abbrev pub timers_of : Instr → List ℕ
-timers_of (Instr.Recv o) = o ∷ []
-timers_of _ = []
+abbrev pub timers_of : Script → Instr → List ℕ
+timers_of script (Instr.Recv o) = cond (is_chan script o) [] (o ∷ [])
+timers_of script _ = []
 
 abbrev pub awaited_by : Script → State → ℕ → List ℕ
-awaited_by script s g = elim (stands_at script s g) [ None ↦ [] | Some i ↦ timers_of i ]
+awaited_by script s g = elim (stands_at script s g) [ None ↦ [] | Some i ↦ timers_of script i ]
 
 -- who is parked is marked at the timers at which it waits; who is to be taken may have a mark still; nobody else has one
 abbrev pub MarkFits : List ℕ → List ℕ → Option RunStatus → Type 0

@@ -17,13 +17,13 @@ use std::alloc::Global;
 /// The number of the heap.
 const HEAP: u32 = 0;
 
-/// The kind of the record of a declaration. A function's is never set.
+/// The kind of the record of a declaration. A function's and a channel's are never set.
 fn kind_of(what: &What) -> RecKind
     ensures { result ≡ kind_at what.now }
 {
     match what {
         What::Timer => RecKind::Timer,
-        What::AfterFunc { .. } | What::Function => RecKind::Func,
+        What::AfterFunc { .. } | What::Chan { .. } | What::Function => RecKind::Func,
     }
 }
 

@@ -101,6 +101,48 @@ const RUNS: &[(&str, &str, Outcome)] = &[
         "new g1 t 1000000000\npanic g1 twice\npanic\n",
         Outcome::Panic,
     ),
+    // a send to a channel that was closed, and one that waits when it is closed
+    (
+        "chan c 1\nfunc main\nmake c\nclose c\nsend c 1\nend\n",
+        "make g1 c\nclose g1 c\npanic g1 closed\npanic\n",
+        Outcome::Panic,
+    ),
+    (
+        "chan c 0\nfunc main\nmake c\ngo b\nsleep 1ms\nclose c\nend\nfunc b\nsend c 1\nend\n",
+        "make g1 c\ngo g1 g2 b\nsleep g1 1000000\nclock 0 1000000\nwake g1\nclose g1 c\npanic g2 closed\npanic\n",
+        Outcome::Panic,
+    ),
+    // a channel without room passes a value from one goroutine to the other
+    (
+        "chan c 0\nfunc main\nmake c\ngo b\nrecv c\nsend c 8\nend\nfunc b\nsend c 7\nrecv c\nend\n",
+        "make g1 c\ngo g1 g2 b\npair g2 g1 c 7\npair g1 g2 c 8\nend g1\nexit\n",
+        Outcome::Exit,
+    ),
+    // a full channel keeps its senders waiting, an empty one its receivers
+    (
+        "chan c 1\nfunc main\nmake c\ngo b\nsleep 1ms\nrecv c\nrecv c\nrecv c\nend\nfunc b\nsend c 1\nsend c 2\nclose c\nend\n",
+        "make g1 c\ngo g1 g2 b\nsleep g1 1000000\nsend g2 c 1\nclock 0 1000000\nwake g1\nrecv g1 c 1\nsend g2 c 2\n\
+         recv g1 c 2\nclose g2 c\nrecv g1 c -\nend g2\nend g1\nexit\n",
+        Outcome::Exit,
+    ),
+    // a close lets all go on that wait to receive, the longest waiting first
+    (
+        "chan c 0\nfunc main\nmake c\ngo b\ngo b\nsleep 1ms\nclose c\nsleep 1ms\nend\nfunc b\nrecv c\nend\n",
+        "make g1 c\ngo g1 g2 b\ngo g1 g3 b\nsleep g1 1000000\nclock 0 1000000\nwake g1\nclose g1 c\nrecv g2 c -\n\
+         recv g3 c -\nsleep g1 2000000\nend g2\nend g3\nclock 0 2000000\nwake g1\nend g1\nexit\n",
+        Outcome::Exit,
+    ),
+    // nobody sends
+    (
+        "chan c 0\nfunc main\nmake c\nrecv c\nend\n",
+        "make g1 c\ndeadlock\n",
+        Outcome::Deadlock,
+    ),
+    (
+        "chan c 0\nfunc main\nrecv c\nend\n",
+        "panic g1 unmade\npanic\n",
+        Outcome::Panic,
+    ),
 ];
 
 #[test]
@@ -184,6 +226,28 @@ fn the_limit_ends_a_run(rt: HostRuntime) -> Result<(), Fail> {
         assert_eq!(rt; status, Status::Done(outcome), "{count}");
         assert_eq!(rt; written.as_slice(), trace.as_bytes(), "{count}");
     }
+    Ok(())
+}
+
+/// An AfterFunc timer that sets itself anew goes on for ever, while main waits at a channel.
+#[test]
+fn a_timer_goes_on_beside_a_channel(rt: HostRuntime) -> Result<(), Fail> {
+    let script = "gotime script 1\nafterfunc f again\nchan c 0\nfunc main\nmake c\nnew f 1ms\nrecv c\nend\n\
+        func again\nreset f 1ms\nend\n";
+    let mut trace = String::from_str(rt.alloc(), "make g1 c\nnew g1 f 1000000\n")?;
+    for n in 1..13_u64 {
+        let g = n + 1;
+        let now = n * 1_000_000;
+        let next = now + 1_000_000;
+        let round = format!(in rt.alloc();
+            "clock 0 {now}\nfire f g{g}\nreset g{g} f false {next}\nend g{g}\n"
+        )?;
+        trace.push_str(round.as_str())?;
+    }
+    trace.push_str("limit\n")?;
+    let (status, written) = answer(rt.alloc(), ["sim", "-l", "50"].as_slice(), script)?;
+    assert_eq!(rt; status, Status::Done(Outcome::Limit));
+    assert_eq!(rt; written.as_slice(), trace.as_bytes());
     Ok(())
 }
 

@@ -1,6 +1,6 @@
 use Rattle.std.proofs.Common.{rules, ◌≡◌, ◌+◌, []}
 use Rattle.gt_rules.specs.After.{first_state}
-use Rattle.gt_machine.specs.Machine.{state_of}
+use Rattle.gt_machine.specs.Machine.{state_of, HasChannels}
 use Rattle.gt_schedule.specs.Schedule.{first_schedule, most_goroutines}
 use Rattle.gt_schedule.specs.Scheduler.{schedule_of, capacity, IsScheduler}
 use Rattle.gt_book.proofs.Books.{begun-kept}
@@ -12,13 +12,16 @@ invariant_of-result c =
     let spare : c.in_ok-history.history.spare ≡ c.args.limits.entries + 1 = search rules in
     let state : state_of c.in_ok-machine.machine ≡ first_state c.args.script = search rules in
     let room : c.in_ok-machine.machine.goroutines.spare ≡ c.args.limits.entries = search rules in
+    let channels : HasChannels c.args.script c.in_ok-machine.machine = search rules in
     let schedule : schedule_of c.in_ok-scheduler.scheduler ≡ first_schedule c.args.script = search rules in
     let places : capacity c.in_ok-scheduler.scheduler ≡ most_goroutines c.args.limits = search rules in
     let kept : IsScheduler c.in_ok-scheduler.scheduler = search rules in
     begun-kept (record {
       script = c.args.script;
       limits = c.args.limits;
-      history = c.in_ok-history.history;
-      machine = c.in_ok-machine.machine;
-      scheduler = c.in_ok-scheduler.scheduler;
-    }) c.requires.good c.requires.limits empty spare state room schedule places kept
+      run = record {
+        history = c.in_ok-history.history;
+        machine = c.in_ok-machine.machine;
+        scheduler = c.in_ok-scheduler.scheduler;
+      };
+    }) c.requires.good c.requires.limits empty spare state channels room schedule places kept

@@ -1,0 +1,22 @@
+use Rattle.std.proofs.Common.{◌≡◌, ◌∙◌, sym, Some, None}
+use Rattle.gt_rules.specs.Change.{change_of}
+use Rattle.gt_book.specs.Run.{Makes}
+use Rattle.gt_book.proofs.Waking.{entered-alone, entered-woken, can-wake}
+use Rattle.gt_book.proofs.run.Run.enter.Goals as goal
+
+pub make-requires : goal.make-requires
+make-requires c = (c.args.limits, c.requires.can)
+
+pub wake-requires : goal.wake-requires
+wake-requires c =
+    can-wake c.args.script.now c.args.limits c.args.self.now c.make.new.self c.args.entry c.requires (c.make.ensures c.args.limits c.requires.can) c.in-Some.c c.in-Some.field-0-1
+    (sym c.channel_of.ensures ∙ c.in-Some.is)
+
+pub returns-in-Some : goal.returns-in-Some
+returns-in-Some c =
+    entered-woken c.args.script.now c.args.limits c.args.self.now c.make.new.self c.args.entry c.requires (c.make.ensures c.args.limits c.requires.can) c.wake.new.self c.wake.ensures
+
+pub returns-in_default : goal.returns-in_default
+returns-in_default c =
+    entered-alone c.args.script.now c.args.limits c.args.self.now c.make.new.self c.args.entry c.requires (c.make.ensures c.args.limits c.requires.can)
+    (sym c.channel_of.ensures ∙ c.in_default.is)
