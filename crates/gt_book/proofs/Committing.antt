@@ -6,12 +6,14 @@ use Rattle.gt_model.specs.declared.script.Script.{Script}
 use Rattle.gt_model.specs.declared.script.Instr.{Instr}
 use Rattle.gt_model.specs.declared.entry.Outcome.{Outcome}
 use Rattle.gt_model.specs.declared.entry.Reason.{Reason}
-use Rattle.gt_rules.specs.State.{State, goroutine_at, timer_at, stands, stands_at, clock, clock_of, due_of, sleeps_until}
+use Rattle.gt_rules.specs.State.{State, timer_at, channel_at, clock, clock_of, due_of, sleeps_until}
 use Rattle.gt_model.specs.Script.{is_timer, is_func}
 use Rattle.gt_model.specs.declared.state.Timer.{Timer}
 use Rattle.gt_rules.specs.Ready.{is_due}
-use Rattle.gt_rules.specs.Panics.{fault, fault_at, panic_of, panic_at, when}
-use Rattle.gt_rules.specs.Legal.{May, Does, Receives, operation, operation_at, due_at, sleep_end}
+use Rattle.gt_model.specs.declared.script.CaseKind.{CaseKind}
+use Rattle.gt_rules.specs.Operations.{operation, receives_from}
+use Rattle.gt_rules.specs.Panics.{fault, when}
+use Rattle.gt_rules.specs.Legal.{May, Does, Operates, operation_at, due_at, sleep_end}
 use Rattle.gt_model.specs.declared.entry.Party.{Party}
 use Rattle.gt_schedule.specs.declared.status.RunStatus.{RunStatus}
 use Rattle.gt_book.specs.declared.step.Step.{Step}
@@ -19,12 +21,14 @@ use Rattle.gt_book.specs.declared.answers.Op.{Op}
 use Rattle.gt_book.specs.declared.answers.TimerOp.{TimerOp}
 use Rattle.gt_schedule.specs.Schedule.{Schedule, Served, status_of, is_in_hand, is_parked, parties_at}
 use Rattle.gt_book.specs.Steps.{step_of, step_or_panic, step_of_instr, set_instr, set_entry, is_receiving, is_late, is_gone, MayCommit}
-use Rattle.gt_book.specs.View.{BookView, IsLawful, outcome_of, is_parked_at, is_at_receive}
+use Rattle.gt_book.specs.View.{BookView, IsLawful, outcome_of, is_at, is_parked_at}
 use Rattle.gt_facts.proofs.Within.{timer_within}
-use Rattle.gt_facts.proofs.Lookups.{Asleep, sleeper, AtOperation, at_operation}
+use Rattle.gt_facts.proofs.Lookups.{Asleep, sleeper, AtOperation, at_operation, is_recv}
 use Rattle.gt_facts.proofs.Formed.{world_of-zero}
+use Rattle.gt_book.proofs.Firm.{calm-standing}
 use Rattle.gt_book.proofs.Fitting.{first-waiting, asleep-parked}
-use Rattle.gt_book.proofs.Going.{IsStep, step-is, in_hand-goes}
+use Rattle.gt_book.proofs.Meeting.{at-receives, recv-is, send-is}
+use Rattle.gt_book.proofs.Going.{IsStep, step-is, in_hand-goes, parked-goes}
 use Rattle.gt_book.proofs.Setting.{instr-set}
 
 -- an operation that is not late for its goroutine is not gone while the run goes on
@@ -37,36 +41,19 @@ one_clock b g lawful = ap (clock b.state) (world_of-zero b.script b.state g lawf
 
 -- ---- what time brings
 
--- who stands at an instruction without a fault makes no panic
-calm-standing : (script : Script) (s : State) (g : ℕ) (i : Instr) → stands_at script s g ≡ Some i → fault script s i ≡ None → panic_at script s g ≡ None
-calm-standing script s g i e faultless =
-    elim (goroutine_at s g) as (λ o. (elim o [ None ↦ None | Some r ↦ stands script r ]) ≡ Some i → (elim o [ None ↦ None | Some r ↦ panic_of script s r ]) ≡ None) [
-      | None ↦ λ h. refl
-      | Some r ↦ λ h.
-          let here : panic_of script s r ≡ fault_at script s i = ap (λ (o : Option Instr). elim o [ None ↦ None | Some i ↦ fault_at script s i ]) h in
-          here ∙ ap (λ (o : Option Reason). elim o [ None ↦ None | Some reason ↦ Some (0, reason) ]) faultless
-    ] e
-
 -- a timer that is set was made
-set-made : (s : State) (t at : ℕ) → due_of s t ≡ Some at → is_none (timer_at s t) ≡ false
+set-made : (s : State) (t at : ℕ) → due_of s t ≡ Some at → is_some (timer_at s t) ≡ true
 set-made s t at e =
-    elim (timer_at s t) as (λ o. (elim o [ None ↦ None | Some r ↦ r.due ]) ≡ Some at → is_none o ≡ false) [
+    elim (timer_at s t) as (λ o. (elim o [ None ↦ None | Some r ↦ r.due ]) ≡ Some at → is_some o ≡ true) [
       | None ↦ λ h. cc
       | Some r ↦ λ h. refl
     ] e
 
--- who stands at a receive from t
-at_receive-operation : (script : Script) (s : State) (p : Party) (t : ℕ) → is_at_receive script s p t ≡ true → operation_at script s p ≡ Some t
-at_receive-operation script s p t h =
-    elim (operation_at script s p) as (λ o. (elim o [ None ↦ false | Some o ↦ eqb o t ]) ≡ true → o ≡ Some t) [
-      | None ↦ λ k. cc
-      | Some o ↦ λ k. ap Some (eqb-true o t k)
-    ] h
-
-operation-faultless : (script : Script) (s : State) (i : Instr) (n t : ℕ) → operation i n ≡ Some t → is_none (timer_at s t) ≡ false → fault script s i ≡ None
-operation-faultless script s (Instr.Recv o) zero t e made = let is : o ≡ t = cc in ap (λ b. when b Reason.Unmade) (ap (λ o. is_none (timer_at s o)) is ∙ made)
-operation-faultless script s (Instr.Recv o) (suc n) t e made = cc
-operation-faultless script s _ n t e made = cc
+-- who stands at the receive of a timer that was made makes no misuse
+operation-faultless : (script : Script) (s : State) (i : Instr) (n t : ℕ) → operation i n ≡ Some (CaseKind.Recv t) → is_some (timer_at s t) ≡ true → fault script s i ≡ None
+operation-faultless script s i n t e made =
+    let is : i ≡ Instr.Recv t = is_recv i n t e in
+    ap (fault script s) is ∙ ap (λ b. when (not (b || is_some (channel_at s t))) Reason.Unmade) made
 
 left-true : (a b : Bool) → (a && b) ≡ true → a ≡ true
 left-true true b h = refl
@@ -76,34 +63,27 @@ right-true : (a b : Bool) → (a && b) ≡ true → b ≡ true
 right-true true b h = h
 right-true false b h = cc
 
-parked-goes : (o : Option RunStatus) → is_parked o ≡ true → IsTrue (is_in_hand o || is_parked o)
-parked-goes o h = either (is_in_hand o) (is_parked o) h
-  where
-    either : (a b : Bool) → b ≡ true → (a || b) ≡ true
-    either true b h = refl
-    either false b h = h
-
 -- who is parked at a receive from a timer may receive its tick that has come
 pub may-receive : (b : BookView) (t at : ℕ) (p : Party) → IsLawful b → outcome_of b ≡ None → IsTrue (is_timer b.script t) → due_of b.state t ≡ Some at
-    → at ≤ clock b.state 0 → is_parked_at b.script b.state b.schedule p t ≡ true
+    → at ≤ clock b.state 0 → is_parked_at b.script b.state b.schedule p (receives_from t) ≡ true
     → MayCommit b (Op.TRecv p t at None) × (is_gone b (Op.TRecv p t at None) ≡ false)
 may-receive b t at p lawful running timer set due parked =
-    let waits : is_parked (status_of b.schedule p.g) ≡ true = left-true (is_parked (status_of b.schedule p.g)) (is_at_receive b.script b.state p t) parked in
-    let there : is_at_receive b.script b.state p t ≡ true = right-true (is_parked (status_of b.schedule p.g)) (is_at_receive b.script b.state p t) parked in
-    let stands : operation_at b.script b.state p ≡ Some t = at_receive-operation b.script b.state p t there in
-    let on : AtOperation b.script b.state p t = at_operation b.script b.state p t stands in
+    let waits : is_parked (status_of b.schedule p.g) ≡ true = left-true (is_parked (status_of b.schedule p.g)) (is_at b.script b.state p (receives_from t)) parked in
+    let there : is_at b.script b.state p (receives_from t) ≡ true = right-true (is_parked (status_of b.schedule p.g)) (is_at b.script b.state p (receives_from t)) parked in
+    let stands : operation_at b.script b.state p ≡ Some (CaseKind.Recv t) = at-receives b.script b.state p t there in
+    let on : AtOperation b.script b.state p (CaseKind.Recv t) = at_operation b.script b.state p (CaseKind.Recv t) stands in
     let goes : IsTrue (is_in_hand (status_of b.schedule p.g) || is_parked (status_of b.schedule p.g)) = parked-goes (status_of b.schedule p.g) waits in
     let receiving : is_receiving b.script b.state b.schedule p t ≡ true = rw (goes, there) refl in
-    let receives : Receives b.script b.state p t = record {
+    let receives : Operates b.script b.state p (CaseKind.Recv t) = record {
       stands = stands;
       calm = calm-standing b.script b.state p.g on.instr on.stands (operation-faultless b.script b.state on.instr p.case_no t on.has (set-made b.state t at set));
     } in
     let come : at ≤ clock_of b.state p.g = subst (λ now. at ≤ now) (sym (one_clock b p.g lawful)) due in
-    (((receives, timer, set, come, refl), goes, tt), not_gone b (Op.TRecv p t at None) running (ap not receiving))
+    (((receives, timer, set, come, refl), (goes, tt), tt), not_gone b (Op.TRecv p t at None) running (ap not receiving))
 
 -- who waits longest at a timer is parked there
 pub parked-first : (b : BookView) (t : ℕ) (p : Party) → IsLawful b → IsTrue (is_timer b.script t) → slice_get (parties_at b.schedule.receivers t) 0 ≡ Some p
-    → is_parked_at b.script b.state b.schedule p t ≡ true
+    → is_parked_at b.script b.state b.schedule p (receives_from t) ≡ true
 parked-first b t p lawful timer first =
     let below : t < length b.state.timers = timer_within b.script b.state t lawful.formed timer in
     let declared : t < length b.script.decls = subst (λ (n : ℕ). t < n) lawful.formed.timers below in
@@ -114,7 +94,7 @@ pub may-fire : (b : BookView) (t at : ℕ) → IsLawful b → outcome_of b ≡ N
     → MayCommit b (Op.Fire t) × (is_gone b (Op.Fire t) ≡ false)
 may-fire b t at lawful running func set due =
     let made : IsSomeAnd (timer_at b.state t) (λ (r : Timer). IsTrue (is_due r.due (clock b.state r.world))) = due-made (timer_at b.state t) refl set in
-    (((func, made, refl), tt, tt), not_gone b (Op.Fire t) running refl)
+    (((func, made, refl), (tt, tt), tt), not_gone b (Op.Fire t) running refl)
   where
     due-made : (o : Option Timer) → timer_at b.state t ≡ o → (elim o as (λ o. Option ℕ) [ None ↦ None | Some r ↦ r.due ]) ≡ Some at
         → IsSomeAnd o (λ (r : Timer). IsTrue (is_due r.due (clock b.state r.world)))
@@ -131,20 +111,20 @@ may-wake b g at lawful running time due =
     let come : at ≤ clock_of b.state g = subst (λ now. at ≤ now) (sym (one_clock b g lawful)) due in
     let may : IsSomeAnd (sleeps_until b.state g) (λ until. until ≤ clock_of b.state g) = subst (λ o. IsSomeAnd o (λ until. until ≤ clock_of b.state g)) (sym time) come in
     let a : Asleep b.state g = sleeper b.state g (λ until. until ≤ clock_of b.state g) may in
-    ((may, parked-goes (status_of b.schedule g) (asleep-parked b.script b.state b.schedule g lawful.fits a), tt), not_gone b (Op.Wake g) running (ap (λ o. not (is_some o)) time))
+    ((may, (parked-goes (status_of b.schedule g) (asleep-parked b.script b.state b.schedule g lawful.fits a), tt), tt), not_gone b (Op.Wake g) running (ap (λ o. not (is_some o)) time))
 
 -- ---- what a goroutine asks for
 
 -- the instruction without a panic of a step that asks for a timer operation
-record Asks (script : Script) (s : State) (g : ℕ) (op : TimerOp) : Type 0 where
+record Asks (script : Script) (s : State) (m : Schedule) (g : ℕ) (op : TimerOp) : Type 0 where
   instr : Instr
   does : Does script s g instr
-  is : step_of_instr s g instr ≡ Step.Needs op
+  is : step_of_instr script s m g instr ≡ Step.Needs op
 
-needs-asks : (script : Script) (s : State) (m : Schedule) (g : ℕ) (op : TimerOp) → step_of script s m g ≡ Some (Step.Needs op) → Asks script s g op
+needs-asks : (script : Script) (s : State) (m : Schedule) (g : ℕ) (op : TimerOp) → step_of script s m g ≡ Some (Step.Needs op) → Asks script s m g op
 needs-asks script s m g op h =
-    let step : IsStep script s g (Step.Needs op) = step-is script s m g (Step.Needs op) h in
-    elim (fault script s step.instr) as (λ o. fault script s step.instr ≡ o → step_or_panic s g step.instr o ≡ Step.Needs op → Asks script s g op) [
+    let step : IsStep script s m g (Step.Needs op) = step-is script s m g (Step.Needs op) h in
+    elim (fault script s step.instr) as (λ o. fault script s step.instr ≡ o → step_or_panic script s m g step.instr o ≡ Step.Needs op → Asks script s m g op) [
       | None ↦ λ q k. record {
         instr = step.instr;
         does = record { stands = step.stands; calm = calm-standing script s g step.instr step.stands q };
@@ -158,22 +138,24 @@ record Sleeps (d : ℕ) (i : Instr) : Type 0 where
   is : i ≡ Instr.Sleep d
   ends : (now : ℕ) → sleep_end now d ≡ Some (due_at now d)
 
-instr-sleeps : (s : State) (g d : ℕ) (i : Instr) → step_of_instr s g i ≡ Step.Needs (TimerOp.Sleep d) → Sleeps d i
-instr-sleeps s g d (Instr.Sleep zero) h = cc
-instr-sleeps s g d (Instr.Sleep (suc e)) h =
+instr-sleeps : (script : Script) (s : State) (m : Schedule) (g d : ℕ) (i : Instr) → step_of_instr script s m g i ≡ Step.Needs (TimerOp.Sleep d) → Sleeps d i
+instr-sleeps script s m g d (Instr.Sleep zero) h = cc
+instr-sleeps script s m g d (Instr.Recv o) h = absurd (recv-is (λ step. step ≡ Step.Needs (TimerOp.Sleep d) → ⊥) (λ e q. cc) (λ kind q. cc) (λ t q. cc) script s m g o h)
+instr-sleeps script s m g d (Instr.Send c v) h = absurd (send-is (λ step. step ≡ Step.Needs (TimerOp.Sleep d) → ⊥) (λ e q. cc) (λ kind q. cc) script s m g c v h)
+instr-sleeps script s m g d (Instr.Sleep (suc e)) h =
     let same : suc e ≡ d = cc in
     record { is = ap Instr.Sleep same; ends = λ now. subst (λ d. sleep_end now d ≡ Some (due_at now d)) same refl }
-instr-sleeps s g d _ h = cc
+instr-sleeps script s m g d _ h = cc
 
 pub may-sleep : (b : BookView) (g d until : ℕ) → IsLawful b → outcome_of b ≡ None → step_of b.script b.state b.schedule g ≡ Some (Step.Needs (TimerOp.Sleep d))
     → status_of b.schedule g ≡ Some RunStatus.InHand → until ≡ min (clock b.state 0 + d) greatest_time
     → MayCommit b (Op.Sleep g until) × (is_gone b (Op.Sleep g until) ≡ false)
 may-sleep b g d until lawful running step in_hand e =
-    let asks : Asks b.script b.state g (TimerOp.Sleep d) = needs-asks b.script b.state b.schedule g (TimerOp.Sleep d) step in
-    let sleeps : Sleeps d asks.instr = instr-sleeps b.state g d asks.instr asks.is in
+    let asks : Asks b.script b.state b.schedule g (TimerOp.Sleep d) = needs-asks b.script b.state b.schedule g (TimerOp.Sleep d) step in
+    let sleeps : Sleeps d asks.instr = instr-sleeps b.script b.state b.schedule g d asks.instr asks.is in
     let does : Does b.script b.state g (Instr.Sleep d) = subst (Does b.script b.state g) sleeps.is asks.does in
     let is : until ≡ due_at (clock_of b.state g) d = e ∙ ap (λ now. due_at now d) (sym (one_clock b g lawful)) in
-    (((d, does, ap Some is ∙ sym (sleeps.ends (clock_of b.state g))), in_hand, tt), not_gone b (Op.Sleep g until) running refl)
+    (((d, does, ap Some is ∙ sym (sleeps.ends (clock_of b.state g))), (in_hand, tt), tt), not_gone b (Op.Sleep g until) running refl)
 
 -- the entry of a setting may come
 set-may : (script : Script) (s : State) (g t d due : ℕ) (anew was : Bool) → Does script s g (set_instr t d anew) → was ≡ is_some (due_of s t) → due ≡ due_at (clock_of s g) d
@@ -182,15 +164,15 @@ set-may script s g t d due true was does was_set is = (d, does, ap Some was_set,
 set-may script s g t d due false was does was_set is = (d, does, is)
 
 set-served : (m : Schedule) (g t due : ℕ) (anew was : Bool) → status_of m g ≡ Some RunStatus.InHand → Served m (set_entry g t anew was due)
-set-served m g t due true was in_hand = in_hand-goes (status_of m g) in_hand
-set-served m g t due false was in_hand = in_hand-goes (status_of m g) in_hand
+set-served m g t due true was in_hand = (in_hand-goes (status_of m g) in_hand, tt)
+set-served m g t due false was in_hand = (in_hand-goes (status_of m g) in_hand, tt)
 
 pub may-set : (b : BookView) (g t d due : ℕ) (anew was : Bool) → IsLawful b → outcome_of b ≡ None → step_of b.script b.state b.schedule g ≡ Some (Step.Needs (TimerOp.Set t d anew))
     → status_of b.schedule g ≡ Some RunStatus.InHand
     → was ≡ is_some (due_of b.state t) → due ≡ min (clock b.state 0 + d) greatest_time
     → MayCommit b (Op.Set g t anew was due 0) × (is_gone b (Op.Set g t anew was due 0) ≡ false)
 may-set b g t d due anew was lawful running step in_hand was_set e =
-    let asks : Asks b.script b.state g (TimerOp.Set t d anew) = needs-asks b.script b.state b.schedule g (TimerOp.Set t d anew) step in
-    let does : Does b.script b.state g (set_instr t d anew) = subst (Does b.script b.state g) (instr-set b.state g t d anew asks.instr asks.is) asks.does in
+    let asks : Asks b.script b.state b.schedule g (TimerOp.Set t d anew) = needs-asks b.script b.state b.schedule g (TimerOp.Set t d anew) step in
+    let does : Does b.script b.state g (set_instr t d anew) = subst (Does b.script b.state g) (instr-set b.script b.state b.schedule g t d anew asks.instr asks.is) asks.does in
     let is : due ≡ due_at (clock_of b.state g) d = e ∙ ap (λ now. due_at now d) (sym (one_clock b g lawful)) in
     ((set-may b.script b.state g t d due anew was does was_set is, set-served b.schedule g t due anew was in_hand, refl), not_gone b (Op.Set g t anew was due 0) running refl)

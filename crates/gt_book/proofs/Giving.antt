@@ -12,9 +12,11 @@ use Rattle.gt_schedule.specs.Schedule.{Schedule, status_of, back_in_queue, given
 use Rattle.gt_schedule.specs.Scheduler.{schedule_of, capacity, IsScheduler, IsOrderly}
 use Rattle.gt_schedule.proofs.Back.{status-given, parked-given}
 use Rattle.gt_book.specs.declared.book.Book.TheInside.{Inside}
-use Rattle.gt_book.specs.View.{Fits, Agrees, is_at_receive}
+use Rattle.gt_rules.specs.Operations.{receives_from, sends_to}
+use Rattle.gt_book.specs.View.{Fits, Agrees, is_at}
 use Rattle.gt_book.specs.Book.{IsKept}
-use Rattle.gt_book.proofs.Calm.{IsCalm}
+use Rattle.gt_book.specs.Calm.{IsCalm}
+use Rattle.gt_book.proofs.Calm.{calm-scheduled}
 use Rattle.gt_book.proofs.Going.{with_scheduler, kept-scheduled}
 
 as_many-back : (xs : List RunStatus) → length (map back_in_queue xs) ≡ length xs
@@ -48,11 +50,12 @@ fits-given script s m fits orderly = record {
       let w : WasStatus (status_of m g) status = was-status (status_of m g) status (sym (status-given m g) ∙ is) in
       subst (λ (x : RunStatus). Agrees r.mode x) w.now (agrees-back r.mode w.was (fits.agree g r w.was there w.there));
   queued = orderly.queued;
-  waiting = λ t p h. fits.waiting t p h ∙ ap (λ b. as_number (b && is_at_receive script s p t)) (sym (parked-given m p.g));
+  waiting = λ t p h. fits.waiting t p h ∙ ap (λ b. as_number (b && is_at script s p (receives_from t))) (sym (parked-given m p.g));
+  sending = λ c p h. fits.sending c p h ∙ ap (λ b. as_number (b && is_at script s p (sends_to c))) (sym (parked-given m p.g));
 }
 
 calm-given : (script : Script) (s : State) (m : Schedule) → IsCalm script s m → IsCalm script s (given_back m)
-calm-given script s m calm g waits = calm g (sym (parked-given m g) ∙ waits)
+calm-given script s m calm = calm-scheduled script s m (given_back m) (λ g waits. sym (parked-given m g) ∙ waits) calm
 
 pub kept-given : (b : Inside) (m : Scheduler) → IsKept b → schedule_of m ≡ given_back (schedule_of b.run.scheduler) → IsOrderly (schedule_of m) → capacity m ≡ capacity b.run.scheduler
     → IsScheduler m → IsKept (with_scheduler b m)

@@ -1,44 +1,51 @@
 -- A book whose schedule changes, and one that ends, keep what a book keeps; what a goroutine in hand does may come.
-use Rattle.std.proofs.Common.{◌≡◌, ℕ, ◌+◌, ◌<◌, List, [], ◌∷◌, refl, sym, ap, subst, ◌∙◌, arith, Option, None, Some, IfSome, IfNone, length, is_some, is_none, IsSome, slice_get, Bool, true, false, ◌||◌, IsTrue, zero, suc}
+use Rattle.std.proofs.Common.{◌≡◌, ◌≢◌, ℕ, ◌+◌, ◌<◌, nat_lt, cond, List, [], ◌∷◌, refl, sym, ap, subst, ◌∙◌, arith, Option, None, Some, IfSome, IfNone, length, is_some, is_none, IsSome, slice_get, Bool, true, false, not, ◌||◌, IsTrue, zero, suc}
+use Rattle.std.proofs.lemmas.Bool.{ltb-true}
 use Rattle.gt_model.specs.declared.script.Script.{Script}
 use Rattle.gt_model.specs.declared.script.Instr.{Instr}
 use Rattle.gt_model.specs.declared.script.Place.{Place}
+use Rattle.gt_model.specs.declared.script.CaseKind.{CaseKind}
 use Rattle.gt_model.specs.declared.entry.Entry.{Entry}
 use Rattle.gt_model.specs.declared.entry.Outcome.{Outcome}
+use Rattle.gt_model.specs.declared.entry.Party.{Party}
 use Rattle.gt_model.specs.declared.entry.Reason.{Reason}
 use Rattle.gt_model.specs.declared.state.Goroutine.{Goroutine}
 use Rattle.gt_model.specs.declared.state.Mode.{Mode}
-use Rattle.gt_rules.specs.State.{State, goroutine_at, timer_at, stands, stands_at, clock_of}
-use Rattle.gt_model.specs.Script.{instr_at, code_of}
-use Rattle.gt_rules.specs.Panics.{fault, when, fault_at, panic_of, panic_at}
-use Rattle.gt_rules.specs.Legal.{May, Does}
+use Rattle.gt_rules.specs.State.{State, goroutine_at, timer_at, channel_at, stands, stands_at, clock_of, sleeps_until, items_of, item_count, is_open, is_closed}
+use Rattle.gt_model.specs.Script.{instr_at, code_of, what_at, is_chan, capacity_of, names_timer, names_chan}
+use Rattle.gt_model.proofs.Declared.{declared_within, chan_declared}
+use Rattle.gt_model.proofs.Items.{numbered-change_other}
+use Rattle.gt_rules.specs.Panics.{fault, when, panic_at}
+use Rattle.gt_rules.specs.Legal.{May, Does, operation_at}
 use Rattle.gt_rules.specs.Finish.{IsIdle}
 use Rattle.gt_rules.specs.Counted.{counted}
 use Rattle.gt_model.specs.Good.{IsGood, NamesRightly}
 use Rattle.gt_rules.specs.Places.{silent}
 use Rattle.gt_facts.specs.Formed.{IsFormed, IsPlacedIn}
 use Rattle.gt_facts.proofs.Formed.{formed-finish}
-use Rattle.gt_facts.proofs.Named.{names-Does}
+use Rattle.gt_facts.proofs.Lookups.{names-Does, does-Operates}
 use Rattle.gt_book.specs.declared.book.Book.TheInside.{Inside}
 use Rattle.gt_machine.specs.declared.machine.Machine.{Machine}
 use Rattle.gt_schedule.specs.declared.scheduler.Scheduler.{Scheduler}
 use Rattle.gt_schedule.specs.declared.status.RunStatus.{RunStatus}
 use Rattle.gt_book.specs.declared.step.Step.{Step}
 use Rattle.gt_machine.specs.Machine.{state_of}
-use Rattle.gt_schedule.specs.Schedule.{Schedule, plainly, status_of, is_in_hand, is_parked, taken, MayMove, ServedBy, Served}
+use Rattle.gt_schedule.specs.Schedule.{Schedule, plainly, status_of, is_in_hand, is_parked, taken, gone_on, moved_by, MayMove, ServedBy, Served}
 use Rattle.gt_schedule.specs.Scheduler.{schedule_of, capacity, IsScheduler}
 use Rattle.gt_schedule.proofs.Moving.{first-queued}
 use Rattle.gt_rules.specs.Change.{Change, change_of}
 use Rattle.gt_rules.specs.declared.change.Move.{Move}
-use Rattle.gt_book.specs.Steps.{step_of, step_or_panic, step_of_instr}
-use Rattle.gt_book.specs.View.{BookView, IsLawful, Fits, NoneFirm, Agrees, with_entries, with_schedule, outcome_of}
+use Rattle.gt_book.specs.Steps.{step_of, step_or_panic, step_of_instr, recv_by, send_by, partner_in, value_of}
+use Rattle.gt_book.specs.View.{BookView, IsLawful, Fits, NoneFirm, Agrees, is_waiting, with_entries, with_schedule, outcome_of}
 use Rattle.gt_book.specs.Book.{seen, IsKept}
-use Rattle.gt_book.proofs.Calm.{IsCalm, calm-taken}
+use Rattle.gt_book.specs.Calm.{IsCalm}
+use Rattle.gt_book.proofs.Calm.{CanPark, calm-taken}
 use Rattle.gt_book.proofs.Entering.{running-none, sound-more, sound-lawful, lawful-sound}
 use Rattle.gt_room.specs.Contents.{Contents}
 use Rattle.gt_book.proofs.Books.{Finished, seen-is, finished-rooms}
 use Rattle.gt_book.proofs.Fitting.{Known, known, fits-taken, fits-changed}
-use Rattle.gt_facts.proofs.Within.{timer_within}
+use Rattle.gt_book.proofs.Firm.{both-false, never-both, calm-standing, panic-standing}
+use Rattle.gt_book.proofs.Meeting.{recv_by-is, recv-is, send-is, stands-awake, operates-awake, Met, sender-met, receiver-met, parked-other, open-is, sends-open, met-open, recv-alone, send-alone, timer-alone, recv-unready, timer-unready}
 
 -- ---- another schedule
 
@@ -55,15 +62,39 @@ lawful-scheduled v m lawful fits calm = record {
 }
 
 abbrev pub with_scheduler : Inside → Scheduler → Inside
-with_scheduler b m = record { script = b.script; limits = b.limits; history = b.history; machine = b.run.machine; scheduler = m }
+with_scheduler b m = record { script = b.script; limits = b.limits; run = record { history = b.run.history; machine = b.run.machine; scheduler = m } }
 
 pub kept-scheduled : (b : Inside) (m : Scheduler) (schedule : Schedule) → IsKept b → schedule_of m ≡ schedule → Fits b.script (state_of b.run.machine) schedule
     → (outcome_of (seen b) ≡ None → IsCalm b.script (state_of b.run.machine) schedule) → capacity m ≡ capacity b.run.scheduler → IsScheduler m → IsKept (with_scheduler b m)
 kept-scheduled b m schedule kept is fits calm places scheduler = record {
   lawful = lawful-scheduled (seen b) (schedule_of m) kept.lawful (subst (Fits b.script (state_of b.run.machine)) (sym is) fits)
       (λ running. subst (IsCalm b.script (state_of b.run.machine)) (sym is) (calm running));
-  rooms = record { history = kept.rooms.history; goroutines = kept.rooms.goroutines; schedule = places ∙ kept.rooms.schedule; scheduler = scheduler; entries = kept.rooms.entries };
+  rooms = record {
+    history = kept.rooms.history;
+    goroutines = kept.rooms.goroutines;
+    channels = kept.rooms.channels;
+    schedule = places ∙ kept.rooms.schedule;
+    scheduler = scheduler;
+    entries = kept.rooms.entries;
+  };
 }
+
+-- marks are nobody's status, and stand in no list
+pub kept-marked : (b : Inside) (m : Scheduler) (marks : List (List ℕ)) → IsKept b → schedule_of m ≡ record (schedule_of b.run.scheduler) { marks = marks }
+    → capacity m ≡ capacity b.run.scheduler → IsScheduler m → IsKept (with_scheduler b m)
+kept-marked b m marks kept is places scheduler =
+    let fits : Fits b.script (state_of b.run.machine) (schedule_of b.run.scheduler) = kept.lawful.fits in
+    kept-scheduled b m (record (schedule_of b.run.scheduler) { marks = marks }) kept is
+    (record {
+      as_many = fits.as_many;
+      receivers = fits.receivers;
+      senders = fits.senders;
+      agree = fits.agree;
+      queued = fits.queued;
+      waiting = fits.waiting;
+      sending = fits.sending;
+    })
+    (λ running g waits. kept.lawful.calm running g waits) places scheduler
 
 -- a goroutine was taken, or none was
 pub kept-taken : (b : Inside) (m : Scheduler) (result : Option ℕ) → IsKept b → result ≡ slice_get (schedule_of b.run.scheduler).run_queue 0
@@ -83,23 +114,23 @@ pub lawful-deadlock : (v : BookView) → IsLawful v → outcome_of v ≡ None �
 lawful-deadlock v lawful none idle uncounted =
     lawful-sound (with_entries v (Entry.Finish Outcome.Deadlock ∷ []))
     (sound-more v (Entry.Finish Outcome.Deadlock) (sound-lawful v lawful) (running-none v lawful none, idle, uncounted)
-    (formed-finish v.script v.state Outcome.Deadlock lawful.formed) (fits-changed v.script v.state v.schedule (change_of (Entry.Finish Outcome.Deadlock)) lawful.fits tt))
+    (formed-finish v.script v.state Outcome.Deadlock lawful.formed) (fits-changed v.script v.state v.schedule (change_of (Entry.Finish Outcome.Deadlock)) lawful.fits (tt, tt)))
     tt (λ none. cc)
 
 abbrev pub ended : Inside → Machine → Contents Entry → Inside
-ended b machine history = record { script = b.script; limits = b.limits; history = history; machine = machine; scheduler = b.run.scheduler }
+ended b machine history = record { script = b.script; limits = b.limits; run = record { history = history; machine = machine; scheduler = b.run.scheduler } }
 
-pub seen-deadlock : (b : Inside) (machine : Machine) (history : Contents Entry) → Finished b.script Outcome.Deadlock b.run.machine b.history machine history
+pub seen-deadlock : (b : Inside) (machine : Machine) (history : Contents Entry) → Finished b.script Outcome.Deadlock b.run.machine b.run.history machine history
     → seen (ended b machine history) ≡ with_entries (seen b) (Entry.Finish Outcome.Deadlock ∷ [])
 seen-deadlock b machine history ends =
     seen-is (ended b machine history) (with_entries (seen b) (Entry.Finish Outcome.Deadlock ∷ [])) refl refl ends.items ends.state refl
 
 pub kept-deadlock : (b : Inside) (machine : Machine) (history : Contents Entry) → IsKept b → outcome_of (seen b) ≡ None
     → IsIdle b.script (state_of b.run.machine) → counted b.script (state_of b.run.machine) 0 ≡ []
-    → Finished b.script Outcome.Deadlock b.run.machine b.history machine history → IsKept (ended b machine history)
+    → Finished b.script Outcome.Deadlock b.run.machine b.run.history machine history → IsKept (ended b machine history)
 kept-deadlock b machine history kept none idle uncounted ends = record {
   lawful = subst IsLawful (sym (seen-deadlock b machine history ends)) (lawful-deadlock (seen b) kept.lawful none idle uncounted);
-  rooms = finished-rooms b b.run.scheduler b.run.machine b.history Outcome.Deadlock machine history kept.rooms none ends;
+  rooms = finished-rooms b b.run.scheduler b.run.machine b.run.history Outcome.Deadlock machine history kept.rooms none ends;
 }
 
 -- ---- what a goroutine in hand does
@@ -131,151 +162,321 @@ in_hand-stands v g lawful e =
 pub in_hand-steps : (v : BookView) (g : ℕ) → IsLawful v → status_of v.schedule g ≡ Some RunStatus.InHand → IsSome (step_of v.script v.state v.schedule g)
 in_hand-steps v g lawful e =
     let found = in_hand-stands v g lawful e in
-    ap (λ (o : Option Instr). is_some (elim o [ None ↦ None | Some i ↦ Some (step_or_panic v.state g i (fault v.script v.state i)) ])) found.1
+    ap (λ (o : Option Instr). is_some (elim o [ None ↦ None | Some i ↦ Some (step_or_panic v.script v.state v.schedule g i (fault v.script v.state i)) ])) found.1
 
 -- nobody stands at the bounds of a loop
-never-nowhere : (s : State) (g : ℕ) (p : Place) (i : Instr) (o : Option Reason) → silent p i ≡ None → step_or_panic s g i o ≡ Step.Nowhere → ⊥
-never-nowhere s g p i (Some reason) acts h = cc
-never-nowhere s g p (Instr.LoopTop depth count past) None acts h = cc
-never-nowhere s g p (Instr.LoopEnd depth top) None acts h = cc
-never-nowhere s g p (Instr.Sleep zero) None acts h = cc
-never-nowhere s g p (Instr.Sleep (suc d)) None acts h = cc
-never-nowhere s g p i None acts h = cc
+never-nowhere : (script : Script) (s : State) (m : Schedule) (g : ℕ) (p : Place) (i : Instr) (o : Option Reason) → silent p i ≡ None → step_or_panic script s m g i o ≡ Step.Nowhere → ⊥
+never-nowhere script s m g p i (Some reason) acts h = cc
+never-nowhere script s m g p (Instr.LoopTop depth count past) None acts h = cc
+never-nowhere script s m g p (Instr.LoopEnd depth top) None acts h = cc
+never-nowhere script s m g p (Instr.Sleep zero) None acts h = cc
+never-nowhere script s m g p (Instr.Sleep (suc d)) None acts h = cc
+never-nowhere script s m g p (Instr.Recv o) None acts h = recv-is (λ step. step ≡ Step.Nowhere → ⊥) (λ e k. cc) (λ kind k. cc) (λ t k. cc) script s m g o h
+never-nowhere script s m g p (Instr.Send c v) None acts h = send-is (λ step. step ≡ Step.Nowhere → ⊥) (λ e k. cc) (λ kind k. cc) script s m g c v h
+never-nowhere script s m g p i None acts h = cc
 
 pub in_hand-acts : (v : BookView) (g : ℕ) → IsLawful v → status_of v.schedule g ≡ Some RunStatus.InHand → step_of v.script v.state v.schedule g ≡ Some Step.Nowhere → ⊥
 in_hand-acts v g lawful e h =
     let found = in_hand-stands v g lawful e in
-    let is : step_of v.script v.state v.schedule g ≡ Some (step_or_panic v.state g found.0 (fault v.script v.state found.0)) =
-    ap (λ (o : Option Instr). elim o as (λ o. Option Step) [ None ↦ None | Some i ↦ Some (step_or_panic v.state g i (fault v.script v.state i)) ]) found.1 in
-    let both : Some (step_or_panic v.state g found.0 (fault v.script v.state found.0)) ≡ Some Step.Nowhere = sym is ∙ h in
-    never-nowhere v.state g found.2 found.0 (fault v.script v.state found.0) found.3 (some-same _ _ both)
+    let is : step_of v.script v.state v.schedule g ≡ Some (step_or_panic v.script v.state v.schedule g found.0 (fault v.script v.state found.0)) =
+    ap (λ (o : Option Instr). elim o as (λ o. Option Step) [ None ↦ None | Some i ↦ Some (step_or_panic v.script v.state v.schedule g i (fault v.script v.state i)) ]) found.1 in
+    let both : Some (step_or_panic v.script v.state v.schedule g found.0 (fault v.script v.state found.0)) ≡ Some Step.Nowhere = sym is ∙ h in
+    never-nowhere v.script v.state v.schedule g found.2 found.0 (fault v.script v.state found.0) found.3 (some-same _ _ both)
   where
     some-same : (x y : Step) → Some x ≡ Some y → x ≡ y
     some-same x y e = cc
 
--- whether g panics, by its instruction
-panic-fault : (script : Script) (s : State) (g : ℕ) (i : Instr) → stands_at script s g ≡ Some i → panic_at script s g ≡ fault_at script s i
-panic-fault script s g i e =
-    elim (goroutine_at s g) as (λ o. goroutine_at s g ≡ o → (elim o [ None ↦ None | Some r ↦ stands script r ]) ≡ Some i
-    → (elim o [ None ↦ None | Some r ↦ panic_of script s r ]) ≡ fault_at script s i) [
-      | None ↦ λ q h. cc
-      | Some r ↦ λ q h. ap (λ (o : Option Instr). elim o [ None ↦ None | Some i ↦ fault_at script s i ]) h
-    ] refl e
-
 -- a step is of the instruction at which g stands
-pub record IsStep (script : Script) (s : State) (g : ℕ) (step : Step) : Type 0 where
+pub record IsStep (script : Script) (s : State) (m : Schedule) (g : ℕ) (step : Step) : Type 0 where
   pub instr : Instr
   pub stands : stands_at script s g ≡ Some instr
-  pub is : step_or_panic s g instr (fault script s instr) ≡ step
+  pub is : step_or_panic script s m g instr (fault script s instr) ≡ step
 
-pub step-is : (script : Script) (s : State) (m : Schedule) (g : ℕ) (step : Step) → step_of script s m g ≡ Some step → IsStep script s g step
+pub step-is : (script : Script) (s : State) (m : Schedule) (g : ℕ) (step : Step) → step_of script s m g ≡ Some step → IsStep script s m g step
 step-is script s m g step e =
     elim (stands_at script s g) as (λ o. stands_at script s g ≡ o
-    → (elim o [ None ↦ None | Some i ↦ Some (step_or_panic s g i (fault script s i)) ]) ≡ Some step → IsStep script s g step) [
+    → (elim o [ None ↦ None | Some i ↦ Some (step_or_panic script s m g i (fault script s i)) ]) ≡ Some step → IsStep script s m g step) [
       | None ↦ λ q h. cc
       | Some i ↦ λ q h. record { instr = i; stands = q; is = cc }
     ] refl e
-
--- an entry of an instruction without a panic
-calm-may : (script : Script) (s : State) (g : ℕ) (i : Instr) (e : Entry) → Does script s g i → step_of_instr s g i ≡ Step.Makes e → May script s e
-calm-may script s g (Instr.Say n) e does h = let is : Entry.Say g n ≡ e = cc in subst (May script s) is does
-calm-may script s g Instr.Now e does h = let is : Entry.Now g (clock_of s g) ≡ e = cc in subst (May script s) is (does, refl)
-calm-may script s g (Instr.Sleep zero) e does h = let is : Entry.Sleep g None ≡ e = cc in subst (May script s) is (0, does, refl)
-calm-may script s g (Instr.Sleep (suc d)) e does h = cc
-calm-may script s g (Instr.Go f) e does h = let is : Entry.Go g (length s.goroutines + 1) f ≡ e = cc in subst (May script s) is (does, refl)
-calm-may script s g Instr.Finish e does h = let is : Entry.End g ≡ e = cc in subst (May script s) is does
-calm-may script s g _ e does h = cc
-
-pub makes-may : (script : Script) (s : State) (m : Schedule) (g : ℕ) (e : Entry) → step_of script s m g ≡ Some (Step.Makes e) → May script s e
-makes-may script s m g e h =
-    let step : IsStep script s g (Step.Makes e) = step-is script s m g (Step.Makes e) h in
-    let panics : panic_at script s g ≡ fault_at script s step.instr = panic-fault script s g step.instr step.stands in
-    elim (fault script s step.instr) as (λ o. fault script s step.instr ≡ o → step_or_panic s g step.instr o ≡ Step.Makes e → May script s e) [
-      | None ↦ λ q k.
-          let calm : panic_at script s g ≡ None = panics ∙ ap (λ (o : Option Reason). elim o [ None ↦ None | Some reason ↦ Some (0, reason) ]) q in
-          calm-may script s g step.instr e (record { stands = step.stands; calm = calm }) k
-      | Some reason ↦ λ q k.
-          let panics_so : panic_at script s g ≡ Some (0, reason) = panics ∙ ap (λ (o : Option Reason). elim o [ None ↦ None | Some reason ↦ Some (0, reason) ]) q in
-          let is : Entry.Panic (plainly g) reason ≡ e = cc in
-          subst (May script s) is panics_so
-    ] refl step.is
 
 -- who has its goroutine in hand may make its entry
 pub in_hand-goes : (o : Option RunStatus) → o ≡ Some RunStatus.InHand → IsTrue (is_in_hand o || is_parked o)
 in_hand-goes o e = ap (λ o. is_in_hand o || is_parked o) e
 
+-- ---- what the entry of a step does not do
+
 abbrev pub IsAwake : Move → Type 0
 IsAwake (Move.FallsAsleep until) = ⊥
 IsAwake _ = Unit {0}
 
--- a change of goroutine g that sets no timer, moves no clock and does not sleep
-pub record IsCall (g : ℕ) (c : Change) : Type 0 where
-  pub move : Move
-  pub mover : c.mover ≡ Some (g, move)
-  pub awake : IsAwake move
+-- a change that sets no timer, moves no clock and lets nobody sleep
+pub record IsCall (c : Change) : Type 0 where
+  pub mover : IfSome c.mover (λ (x : ℕ × Move). IsAwake x.1)
+  pub partner : IfSome c.partner (λ (x : ℕ × Move). IsAwake x.1)
   pub timer : c.timer ≡ None
   pub clock : c.clock ≡ None
 
-pub calm-call : (s : State) (g : ℕ) (i : Instr) (e : Entry) → step_of_instr s g i ≡ Step.Makes e → IsCall g (change_of e)
-calm-call s g (Instr.Say n) e h = let is : Entry.Say g n ≡ e = cc in subst (λ e. IsCall g (change_of e)) is (record { move = Move.GoesOn 0; mover = refl; awake = tt; timer = refl; clock = refl })
-calm-call s g Instr.Now e h = let is : Entry.Now g (clock_of s g) ≡ e = cc in subst (λ e. IsCall g (change_of e)) is (record { move = Move.GoesOn 0; mover = refl; awake = tt; timer = refl; clock = refl })
-calm-call s g (Instr.Sleep zero) e h = let is : Entry.Sleep g None ≡ e = cc in subst (λ e. IsCall g (change_of e)) is (record { move = Move.GoesOn 0; mover = refl; awake = tt; timer = refl; clock = refl })
-calm-call s g (Instr.Go f) e h = let is : Entry.Go g (length s.goroutines + 1) f ≡ e = cc in subst (λ e. IsCall g (change_of e)) is (record { move = Move.GoesOn 0; mover = refl; awake = tt; timer = refl; clock = refl })
-calm-call s g Instr.Finish e h = let is : Entry.End g ≡ e = cc in subst (λ e. IsCall g (change_of e)) is (record { move = Move.Ends; mover = refl; awake = tt; timer = refl; clock = refl })
-calm-call s g _ e h = cc
+-- such an entry
+abbrev IsCalled : Step → Type 0
+IsCalled (Step.Makes e) = IsCall (change_of e)
+IsCalled _ = Unit {0}
 
-in_hand-moves : (o : Option RunStatus) (move : Move) → o ≡ Some RunStatus.InHand → MayMove o move
-in_hand-moves o (Move.GoesOn n) e = in_hand-goes o e
-in_hand-moves o (Move.FallsAsleep until) e = e
-in_hand-moves o Move.Ends e = e
+called-recv : (script : Script) (s : State) (g c : ℕ) (items : List ℕ) (closed : Bool) (sender : Option Party) → IsCalled (recv_by script s g c items closed sender)
+called-recv script s g c (v ∷ items) closed sender = record { mover = tt; partner = tt; timer = refl; clock = refl }
+called-recv script s g c [] true sender = record { mover = tt; partner = tt; timer = refl; clock = refl }
+called-recv script s g c [] false (Some q) = record { mover = tt; partner = tt; timer = refl; clock = refl }
+called-recv script s g c [] false None = tt
 
-calm-served : (s : State) (m : Schedule) (g : ℕ) (i : Instr) (e : Entry) → step_of_instr s g i ≡ Step.Makes e → status_of m g ≡ Some RunStatus.InHand → Served m e
-calm-served s m g i e h in_hand =
-    let call : IsCall g (change_of e) = calm-call s g i e h in
-    subst (ServedBy m) (sym call.mover) (in_hand-moves (status_of m g) call.move in_hand)
+called-send : (g c v : ℕ) (room : Bool) (receiver : Option Party) → IsCalled (send_by g c v room receiver)
+called-send g c v true receiver = record { mover = tt; partner = tt; timer = refl; clock = refl }
+called-send g c v false (Some q) = record { mover = tt; partner = tt; timer = refl; clock = refl }
+called-send g c v false None = tt
 
-pub makes-served : (script : Script) (s : State) (m : Schedule) (g : ℕ) (e : Entry) → step_of script s m g ≡ Some (Step.Makes e) → status_of m g ≡ Some RunStatus.InHand → Served m e
-makes-served script s m g e h in_hand =
-    let step : IsStep script s g (Step.Makes e) = step-is script s m g (Step.Makes e) h in
-    elim (fault script s step.instr) as (λ o. step_or_panic s g step.instr o ≡ Step.Makes e → Served m e) [
-      | None ↦ λ k. calm-served s m g step.instr e k in_hand
-      | Some reason ↦ λ k. let is : Entry.Panic (plainly g) reason ≡ e = cc in subst (Served m) is tt
-    ] step.is
+called : (script : Script) (s : State) (m : Schedule) (g : ℕ) (i : Instr) → IsCalled (step_of_instr script s m g i)
+called script s m g (Instr.Say n) = record { mover = tt; partner = tt; timer = refl; clock = refl }
+called script s m g Instr.Now = record { mover = tt; partner = tt; timer = refl; clock = refl }
+called script s m g (Instr.Sleep zero) = record { mover = tt; partner = tt; timer = refl; clock = refl }
+called script s m g (Instr.Sleep (suc d)) = tt
+called script s m g (Instr.Go f) = record { mover = tt; partner = tt; timer = refl; clock = refl }
+called script s m g (Instr.Make c) = record { mover = tt; partner = tt; timer = refl; clock = refl }
+called script s m g (Instr.Close c) = record { mover = tt; partner = tt; timer = refl; clock = refl }
+called script s m g Instr.Finish = record { mover = tt; partner = tt; timer = refl; clock = refl }
+called script s m g (Instr.Recv o) = received (is_chan script o)
+  where
+    received : (b : Bool) → IsCalled (cond b (recv_by script s g o (items_of s o) (is_closed s o) (partner_in script m.senders o)) (Step.Waits o))
+    received true = called-recv script s g o (items_of s o) (is_closed s o) (partner_in script m.senders o)
+    received false = tt
+called script s m g (Instr.Send c v) = called-send g c v (nat_lt (item_count s c) (capacity_of script c)) (partner_in script m.receivers c)
+called script s m g (Instr.New t d) = tt
+called script s m g (Instr.Stop t) = tt
+called script s m g (Instr.Reset t d) = tt
+called script s m g (Instr.LoopTop depth count past) = tt
+called script s m g (Instr.LoopEnd depth top) = tt
 
--- who waits at a receive stands there, and its timer was made
+pub calm-call : (script : Script) (s : State) (m : Schedule) (g : ℕ) (i : Instr) (e : Entry) → step_of_instr script s m g i ≡ Step.Makes e → IsCall (change_of e)
+calm-call script s m g i e h = subst IsCalled h (called script s m g i)
+
+-- and every step is such a call
+pub makes-call : (script : Script) (s : State) (m : Schedule) (g : ℕ) (e : Entry) → step_of script s m g ≡ Some (Step.Makes e) → IsCall (change_of e)
+makes-call script s m g e h =
+    let step : IsStep script s m g (Step.Makes e) = step-is script s m g (Step.Makes e) h in
+    subst IsCalled step.is (each step.instr (fault script s step.instr))
+  where
+    each : (i : Instr) (o : Option Reason) → IsCalled (step_or_panic script s m g i o)
+    each i None = called script s m g i
+    each i (Some reason) = record { mover = tt; partner = tt; timer = refl; clock = refl }
+
+-- ---- what the entry of a step is
+
+-- an entry of g alone, or one with a partner that is parked
+pub data MakesSo (script : Script) (s : State) (m : Schedule) (g : ℕ) : Entry → Type 0 where
+  alone : (e : Entry) (move : Move) → May script s e → MayMove (Some RunStatus.InHand) move → (change_of e).mover ≡ Some (g, move) → (change_of e).partner ≡ None → MakesSo script s m g e
+  from_partner : (q : Party) (c v : ℕ) → is_waiting m q.g ≡ true → May script s (Entry.Pair q (plainly g) c v) → MakesSo script s m g (Entry.Pair q (plainly g) c v)
+  to_partner : (q : Party) (c v : ℕ) → is_waiting m q.g ≡ true → May script s (Entry.Pair (plainly g) q c v) → MakesSo script s m g (Entry.Pair (plainly g) q c v)
+
+module _ (script : Script) (s : State) (m : Schedule) (g : ℕ) (good : IsGood script) (fits : Fits script s m) (calm : IsCalm script s m)
+    (in_hand : status_of m g ≡ Some RunStatus.InHand) where
+  makes-recv : (c : ℕ) (items : List ℕ) (closed : Bool) (sender : Option Party) (e : Entry) → items_of s c ≡ items → is_closed s c ≡ closed → partner_in script m.senders c ≡ sender
+      → IsTrue (is_chan script c) → Does script s g (Instr.Recv c) → recv_by script s g c items closed sender ≡ Step.Makes e → MakesSo script s m g e
+  makes-recv c (v ∷ items) closed sender e kept shut met chan does h =
+      let is : Entry.Recv (plainly g) c (Some v) ≡ e = cc in
+      subst (MakesSo script s m g) is (alone (Entry.Recv (plainly g) c (Some v)) (Move.GoesOn 0)
+      (does-Operates script s g (Instr.Recv c) (CaseKind.Recv c) refl does, chan, ap (λ (xs : List ℕ). slice_get xs 0) kept) refl refl refl)
+  makes-recv c [] true sender e kept shut met chan does h =
+      let is : Entry.Recv (plainly g) c None ≡ e = cc in
+      subst (MakesSo script s m g) is (alone (Entry.Recv (plainly g) c None) (Move.GoesOn 0)
+      (does-Operates script s g (Instr.Recv c) (CaseKind.Recv c) refl does, chan, (kept, shut)) refl refl refl)
+  makes-recv c [] false (Some q) e kept shut met chan does h =
+      let v : ℕ = value_of (operation_at script s q) in
+      let is : Entry.Pair q (plainly g) c v ≡ e = cc in
+      let sender : Met script s m q c (CaseKind.Send c v) = sender-met script s m q c fits calm (chan_declared script c chan) met in
+      subst (MakesSo script s m g) is (from_partner q c v sender.waits
+      (sender.operates, does-Operates script s g (Instr.Recv c) (CaseKind.Recv c) refl does, met-open script s m q c v calm sender, sender.none_kept, parked-other m q.g g sender.waits in_hand))
+  makes-recv c [] false None e kept shut met chan does h = cc
+
+  makes-send : (c v : ℕ) (room : Bool) (receiver : Option Party) (e : Entry) → nat_lt (item_count s c) (capacity_of script c) ≡ room → partner_in script m.receivers c ≡ receiver
+      → IsTrue (is_chan script c) → IsTrue (is_open s c) → Does script s g (Instr.Send c v) → send_by g c v room receiver ≡ Step.Makes e → MakesSo script s m g e
+  makes-send c v true receiver e has met chan unshut does h =
+      let is : Entry.Send (plainly g) c v ≡ e = cc in
+      subst (MakesSo script s m g) is (alone (Entry.Send (plainly g) c v) (Move.GoesOn 0)
+      (does-Operates script s g (Instr.Send c v) (CaseKind.Send c v) refl does, unshut, ltb-true (item_count s c) (capacity_of script c) has) refl refl refl)
+  makes-send c v false (Some q) e has met chan unshut does h =
+      let is : Entry.Pair (plainly g) q c v ≡ e = cc in
+      let receiver : Met script s m q c (CaseKind.Recv c) = receiver-met script s m q c fits calm (chan_declared script c chan) met in
+      subst (MakesSo script s m g) is (to_partner q c v receiver.waits
+      (does-Operates script s g (Instr.Send c v) (CaseKind.Send c v) refl does, receiver.operates, unshut, receiver.none_kept, λ same. parked-other m q.g g receiver.waits in_hand (sym same)))
+  makes-send c v false None e has met chan unshut does h = cc
+
+  makes-instr : (i : Instr) (e : Entry) → Does script s g i → fault script s i ≡ None → step_of_instr script s m g i ≡ Step.Makes e → MakesSo script s m g e
+  makes-instr (Instr.Say n) e does none h =
+      let is : Entry.Say g n ≡ e = cc in subst (MakesSo script s m g) is (alone (Entry.Say g n) (Move.GoesOn 0) does refl refl refl)
+  makes-instr Instr.Now e does none h =
+      let is : Entry.Now g (clock_of s g) ≡ e = cc in subst (MakesSo script s m g) is (alone (Entry.Now g (clock_of s g)) (Move.GoesOn 0) (does, refl) refl refl refl)
+  makes-instr (Instr.Sleep zero) e does none h =
+      let is : Entry.Sleep g None ≡ e = cc in subst (MakesSo script s m g) is (alone (Entry.Sleep g None) (Move.GoesOn 0) (0, does, refl) refl refl refl)
+  makes-instr (Instr.Sleep (suc d)) e does none h = cc
+  makes-instr (Instr.Go f) e does none h =
+      let is : Entry.Go g (length s.goroutines + 1) f ≡ e = cc in
+      subst (MakesSo script s m g) is (alone (Entry.Go g (length s.goroutines + 1) f) (Move.GoesOn 0) (does, refl) refl refl refl)
+  makes-instr (Instr.Recv o) e does none h =
+      elim (is_chan script o) as (λ b. is_chan script o ≡ b
+      → cond b (recv_by script s g o (items_of s o) (is_closed s o) (partner_in script m.senders o)) (Step.Waits o) ≡ Step.Makes e → MakesSo script s m g e) [
+        | true ↦ λ chan k. makes-recv o (items_of s o) (is_closed s o) (partner_in script m.senders o) e refl refl refl chan does k
+        | false ↦ λ chan k. cc
+      ] refl h
+  makes-instr (Instr.Make c) e does none h =
+      let is : Entry.Make g c ≡ e = cc in subst (MakesSo script s m g) is (alone (Entry.Make g c) (Move.GoesOn 0) does refl refl refl)
+  makes-instr (Instr.Send c v) e does none h =
+      makes-send c v (nat_lt (item_count s c) (capacity_of script c)) (partner_in script m.receivers c) e refl refl (names-Does script s g (Instr.Send c v) good does)
+      (open-is s c (sends-open script s c v none)) does h
+  makes-instr (Instr.Close c) e does none h =
+      let is : Entry.Close g c ≡ e = cc in subst (MakesSo script s m g) is (alone (Entry.Close g c) (Move.GoesOn 0) does refl refl refl)
+  makes-instr Instr.Finish e does none h =
+      let is : Entry.End g ≡ e = cc in subst (MakesSo script s m g) is (alone (Entry.End g) Move.Ends does refl refl refl)
+  makes-instr (Instr.New t d) e does none h = cc
+  makes-instr (Instr.Stop t) e does none h = cc
+  makes-instr (Instr.Reset t d) e does none h = cc
+  makes-instr (Instr.LoopTop depth count past) e does none h = cc
+  makes-instr (Instr.LoopEnd depth top) e does none h = cc
+
+  pub makes-so : (e : Entry) → step_of script s m g ≡ Some (Step.Makes e) → MakesSo script s m g e
+  makes-so e h =
+      let step : IsStep script s m g (Step.Makes e) = step-is script s m g (Step.Makes e) h in
+      elim (fault script s step.instr) as (λ o. fault script s step.instr ≡ o → step_or_panic script s m g step.instr o ≡ Step.Makes e → MakesSo script s m g e) [
+        | None ↦ λ q k. makes-instr step.instr e (record { stands = step.stands; calm = calm-standing script s g step.instr step.stands q }) q k
+        | Some reason ↦ λ q k.
+            let panics : panic_at script s g ≡ Some (0, reason) =
+            panic-standing script s g step.instr step.stands ∙ ap (λ (o : Option Reason). elim o as (λ o. Option (ℕ × Reason)) [ None ↦ None | Some reason ↦ Some (0, reason) ]) q in
+            let is : Entry.Panic (plainly g) reason ≡ e = cc in
+            subst (MakesSo script s m g) is (alone (Entry.Panic (plainly g) reason) Move.Panics panics refl refl refl)
+      ] refl step.is
+
+so-may : (script : Script) (s : State) (m : Schedule) (g : ℕ) (e : Entry) → MakesSo script s m g e → May script s e
+so-may script s m g e (alone _ move may moves mover none) = may
+so-may script s m g e (from_partner q c v waits may) = may
+so-may script s m g e (to_partner q c v waits may) = may
+
+pub makes-may : (script : Script) (s : State) (m : Schedule) (g : ℕ) (e : Entry) → IsGood script → IsFormed script s → Fits script s m → IsCalm script s m
+    → status_of m g ≡ Some RunStatus.InHand → step_of script s m g ≡ Some (Step.Makes e) → May script s e
+makes-may script s m g e good formed fits calm in_hand h = so-may script s m g e (makes-so script s m g good fits calm in_hand e h)
+
+-- ---- who makes it
+
+pub parked-goes : (o : Option RunStatus) → is_parked o ≡ true → IsTrue (is_in_hand o || is_parked o)
+parked-goes o h = either (is_in_hand o) (is_parked o) h
+  where
+    either : (a b : Bool) → b ≡ true → (a || b) ≡ true
+    either true b h = refl
+    either false b h = h
+
+-- the first of two moves leaves the other one where it was
+gone_on-other : (m : Schedule) (g h : ℕ) (waits : Bool) → h ≢ g → status_of (gone_on m g waits) h ≡ status_of m h
+gone_on-other m g h true other = numbered-change_other m.statuses g h (λ _. RunStatus.Queued) other
+gone_on-other m g h false other = refl
+
+in_hand-stays : (m : Schedule) (g h n : ℕ) → h ≢ g → status_of m h ≡ Some RunStatus.InHand → status_of (moved_by m (Some (g, Move.GoesOn n))) h ≡ Some RunStatus.InHand
+in_hand-stays m g h n other e = gone_on-other m g h (is_parked (status_of m g)) other ∙ e
+
+waits-stays : (m : Schedule) (g h n : ℕ) → h ≢ g → is_waiting m h ≡ true → is_waiting (moved_by m (Some (g, Move.GoesOn n))) h ≡ true
+waits-stays m g h n other e = ap is_parked (gone_on-other m g h (is_parked (status_of m g)) other) ∙ e
+
+so-served : (script : Script) (s : State) (m : Schedule) (g : ℕ) (e : Entry) → status_of m g ≡ Some RunStatus.InHand → MakesSo script s m g e → Served m e
+so-served script s m g e in_hand (alone _ move may moves mover none) = (
+  subst (ServedBy m) (sym mover) (subst (λ o. MayMove o move) (sym in_hand) moves),
+  subst (ServedBy (moved_by m (change_of e).mover)) (sym none) tt,
+)
+so-served script s m g e in_hand (from_partner q c v waits may) = (
+  parked-goes (status_of m q.g) waits,
+  in_hand-goes _ (in_hand-stays m q.g g q.case_no (λ same. parked-other m q.g g waits in_hand (sym same)) in_hand),
+)
+so-served script s m g e in_hand (to_partner q c v waits may) = (
+  in_hand-goes (status_of m g) in_hand,
+  parked-goes _ (waits-stays m g q.g 0 (parked-other m q.g g waits in_hand) waits),
+)
+
+pub makes-served : (script : Script) (s : State) (m : Schedule) (g : ℕ) (e : Entry) → IsGood script → IsFormed script s → Fits script s m → IsCalm script s m
+    → status_of m g ≡ Some RunStatus.InHand → step_of script s m g ≡ Some (Step.Makes e) → Served m e
+makes-served script s m g e good formed fits calm in_hand h = so-served script s m g e in_hand (makes-so script s m g good fits calm in_hand e h)
+
+-- nobody who moves by an entry sleeps
+pub record AreAwake (s : State) (c : Change) : Type 0 where
+  pub mover : IfSome c.mover (λ (x : ℕ × Move). sleeps_until s x.0 ≡ None)
+  pub partner : IfSome c.partner (λ (x : ℕ × Move). sleeps_until s x.0 ≡ None)
+
+so-awake : (script : Script) (s : State) (m : Schedule) (g : ℕ) (e : Entry) → sleeps_until s g ≡ None → MakesSo script s m g e → AreAwake s (change_of e)
+so-awake script s m g e awake (alone _ move may moves mover none) = record {
+  mover = subst (λ (o : Option (ℕ × Move)). IfSome o (λ x. sleeps_until s x.0 ≡ None)) (sym mover) awake;
+  partner = subst (λ (o : Option (ℕ × Move)). IfSome o (λ x. sleeps_until s x.0 ≡ None)) (sym none) tt;
+}
+so-awake script s m g e awake (from_partner q c v waits may) = record { mover = operates-awake script s q (CaseKind.Send c v) may.0; partner = awake }
+so-awake script s m g e awake (to_partner q c v waits may) = record { mover = awake; partner = operates-awake script s q (CaseKind.Recv c) may.1 }
+
+pub makes-awake : (script : Script) (s : State) (m : Schedule) (g : ℕ) (e : Entry) → IsGood script → IsFormed script s → Fits script s m → IsCalm script s m
+    → status_of m g ≡ Some RunStatus.InHand → step_of script s m g ≡ Some (Step.Makes e) → AreAwake s (change_of e)
+makes-awake script s m g e good formed fits calm in_hand h =
+    let step : IsStep script s m g (Step.Makes e) = step-is script s m g (Step.Makes e) h in
+    so-awake script s m g e (stands-awake script s g step.instr step.stands) (makes-so script s m g good fits calm in_hand e h)
+
+-- ---- who waits
+
+-- who waits at the receive of a timer stands there, and its timer was made
 pub record WaitsRightly (script : Script) (s : State) (g t : ℕ) : Type 0 where
   pub stands : stands_at script s g ≡ Some (Instr.Recv t)
+  pub plain : is_chan script t ≡ false
+  pub faultless : fault script s (Instr.Recv t) ≡ None
   pub made : is_some (timer_at s t) ≡ true
   pub within : t < length script.decls
 
-some-unless : (o : Bool) (reason : Reason) → when o reason ≡ None → o ≡ false
-some-unless true reason h = cc
-some-unless false reason h = refl
+-- the instruction of a step that waits
+record AtTimer (script : Script) (t : ℕ) (i : Instr) : Type 0 where
+  is : i ≡ Instr.Recv t
+  plain : is_chan script t ≡ false
 
-is_some-not_none : {X : Type 0} (o : Option X) → is_none o ≡ false → is_some o ≡ true
-is_some-not_none None h = cc
-is_some-not_none (Some x) h = refl
+instr-waits : (script : Script) (s : State) (m : Schedule) (g t : ℕ) (i : Instr) → step_of_instr script s m g i ≡ Step.Waits t → AtTimer script t i
+instr-waits script s m g t (Instr.Recv o) h =
+    elim (is_chan script o) as (λ b. is_chan script o ≡ b
+    → cond b (recv_by script s g o (items_of s o) (is_closed s o) (partner_in script m.senders o)) (Step.Waits o) ≡ Step.Waits t → AtTimer script t (Instr.Recv o)) [
+      | true ↦ λ chan k.
+          absurd (recv_by-is (λ step. step ≡ Step.Waits t → ⊥) (λ e q. cc) (λ kind q. cc) script s g o (items_of s o) (is_closed s o) (partner_in script m.senders o) k)
+      | false ↦ λ chan k. let same : o ≡ t = cc in record { is = ap Instr.Recv same; plain = ap (is_chan script) (sym same) ∙ chan }
+    ] refl h
+instr-waits script s m g t (Instr.Send c v) h = absurd (send-is (λ step. step ≡ Step.Waits t → ⊥) (λ e q. cc) (λ kind q. cc) script s m g c v h)
+instr-waits script s m g t (Instr.Sleep zero) h = cc
+instr-waits script s m g t (Instr.Sleep (suc d)) h = cc
+instr-waits script s m g t _ h = cc
 
-instr-waits : (s : State) (g t : ℕ) (i : Instr) → step_of_instr s g i ≡ Step.Waits t → i ≡ Instr.Recv t
-instr-waits s g t (Instr.Sleep zero) h = cc
-instr-waits s g t _ h = cc
+-- what was made and is no channel is a timer
+made-timer : (script : Script) (s : State) (t : ℕ) → IsFormed script s → is_chan script t ≡ false → fault script s (Instr.Recv t) ≡ None → is_some (timer_at s t) ≡ true
+made-timer script s t formed plain none =
+    elim (channel_at s t) as (λ o. channel_at s t ≡ o → when (not (is_some (timer_at s t) || is_some o)) Reason.Unmade ≡ None → is_some (timer_at s t) ≡ true) [
+      | None ↦ λ q k. first (is_some (timer_at s t)) k
+      | Some r ↦ λ q k. absurd (never-both (is_chan script t) (formed.chans t r q).named plain)
+    ] refl none
+  where
+    first : (b : Bool) → when (not (b || false)) Reason.Unmade ≡ None → b ≡ true
+    first true h = refl
+    first false h = cc
+
+-- what is received from is declared
+recv-declared : (script : Script) (t : ℕ) → NamesRightly script (Instr.Recv t) → t < length script.decls
+recv-declared script t names = declared_within script t (λ o. names_timer o || names_chan o) refl names
 
 pub waits-rightly : (script : Script) (s : State) (m : Schedule) (g t : ℕ) → IsGood script → IsFormed script s → step_of script s m g ≡ Some (Step.Waits t) → WaitsRightly script s g t
 waits-rightly script s m g t good formed h =
-    let step : IsStep script s g (Step.Waits t) = step-is script s m g (Step.Waits t) h in
-    let panics : panic_at script s g ≡ fault_at script s step.instr = panic-fault script s g step.instr step.stands in
-    elim (fault script s step.instr) as (λ o. fault script s step.instr ≡ o → step_or_panic s g step.instr o ≡ Step.Waits t → WaitsRightly script s g t) [
+    let step : IsStep script s m g (Step.Waits t) = step-is script s m g (Step.Waits t) h in
+    elim (fault script s step.instr) as (λ o. fault script s step.instr ≡ o → step_or_panic script s m g step.instr o ≡ Step.Waits t → WaitsRightly script s g t) [
       | None ↦ λ q k.
-          let is : step.instr ≡ Instr.Recv t = instr-waits s g t step.instr k in
-          let stands : stands_at script s g ≡ Some (Instr.Recv t) = step.stands ∙ ap Some is in
-          let faultless : fault script s (Instr.Recv t) ≡ None = ap (fault script s) (sym is) ∙ q in
-          let calm : panic_at script s g ≡ None = panics ∙ ap (λ (o : Option Reason). elim o [ None ↦ None | Some reason ↦ Some (0, reason) ]) q in
-          let names : NamesRightly script (Instr.Recv t) = names-Does script s g (Instr.Recv t) good (record { stands = stands; calm = calm }) in
-          let below : t < length s.timers = timer_within script s t formed names in
+          let at : AtTimer script t step.instr = instr-waits script s m g t step.instr k in
+          let stands : stands_at script s g ≡ Some (Instr.Recv t) = step.stands ∙ ap Some at.is in
+          let faultless : fault script s (Instr.Recv t) ≡ None = ap (fault script s) (sym at.is) ∙ q in
+          let does : Does script s g (Instr.Recv t) = record { stands = stands; calm = calm-standing script s g (Instr.Recv t) stands faultless } in
           record {
             stands = stands;
-            made = is_some-not_none (timer_at s t) (some-unless (is_none (timer_at s t)) Reason.Unmade faultless);
-            within = subst (λ (n : ℕ). t < n) formed.timers below;
+            plain = at.plain;
+            faultless = faultless;
+            made = made-timer script s t formed at.plain faultless;
+            within = recv-declared script t (names-Does script s g (Instr.Recv t) good does);
           }
       | Some reason ↦ λ q k. cc
     ] refl step.is
@@ -284,3 +485,72 @@ waits-rightly script s m g t good formed h =
 pub waits-seen : (b : Inside) (v : BookView) (g t : ℕ) → seen b ≡ v → IsKept b → step_of v.script v.state v.schedule g ≡ Some (Step.Waits t) → WaitsRightly b.script (state_of b.run.machine) g t
 waits-seen b v g t is kept step =
     waits-rightly b.script (state_of b.run.machine) (schedule_of b.run.scheduler) g t kept.lawful.good kept.lawful.formed (subst (λ (v : BookView). step_of v.script v.state v.schedule g ≡ Some (Step.Waits t)) (sym is) step)
+
+-- it may be parked there
+pub waits-parks : (script : Script) (s : State) (m : Schedule) (g t : ℕ) → IsGood script → IsFormed script s → status_of m g ≡ Some RunStatus.InHand
+    → step_of script s m g ≡ Some (Step.Waits t) → CanPark script s m g (CaseKind.Recv t)
+waits-parks script s m g t good formed in_hand h =
+    let w : WaitsRightly script s g t = waits-rightly script s m g t good formed h in
+    record {
+      waiter = record { instr = Instr.Recv t; stands = w.stands; has = refl; in_hand = in_hand; declared = w.within };
+      faultless = w.faultless;
+      alone = timer-unready s t (what_at script t) w.plain;
+      partner = timer-alone script s m g t w.plain;
+    }
+
+-- ---- who waits at a channel
+
+-- what a step that parks has met
+module _ (script : Script) (s : State) (m : Schedule) (g : ℕ) (good : IsGood script) (fits : Fits script s m) (in_hand : status_of m g ≡ Some RunStatus.InHand) where
+  parks-recv : (c : ℕ) (items : List ℕ) (closed : Bool) (sender : Option Party) (kind : CaseKind) → items_of s c ≡ items → is_closed s c ≡ closed → partner_in script m.senders c ≡ sender
+      → stands_at script s g ≡ Some (Instr.Recv c) → fault script s (Instr.Recv c) ≡ None → c < length script.decls
+      → recv_by script s g c items closed sender ≡ Step.Parks kind → CanPark script s m g kind
+  parks-recv c (v ∷ items) closed sender kind kept shut met stands none within h = cc
+  parks-recv c [] true sender kind kept shut met stands none within h = cc
+  parks-recv c [] false (Some q) kind kept shut met stands none within h = cc
+  parks-recv c [] false None kind kept shut met stands none within h =
+      let is : CaseKind.Recv c ≡ kind = cc in
+      subst (CanPark script s m g) is (record {
+        waiter = record { instr = Instr.Recv c; stands = stands; has = refl; in_hand = in_hand; declared = within };
+        faultless = none;
+        alone = recv-unready s c (what_at script c) kept shut;
+        partner = recv-alone script s m g c fits within met;
+      })
+
+  parks-send : (c v : ℕ) (room : Bool) (receiver : Option Party) (kind : CaseKind) → nat_lt (item_count s c) (capacity_of script c) ≡ room → partner_in script m.receivers c ≡ receiver
+      → stands_at script s g ≡ Some (Instr.Send c v) → fault script s (Instr.Send c v) ≡ None → c < length script.decls → send_by g c v room receiver ≡ Step.Parks kind
+      → CanPark script s m g kind
+  parks-send c v true receiver kind has met stands none within h = cc
+  parks-send c v false (Some q) kind has met stands none within h = cc
+  parks-send c v false None kind has met stands none within h =
+      let is : CaseKind.Send c v ≡ kind = cc in
+      subst (CanPark script s m g) is (record {
+        waiter = record { instr = Instr.Send c v; stands = stands; has = refl; in_hand = in_hand; declared = within };
+        faultless = none;
+        alone = both-false (is_closed s c) (nat_lt (item_count s c) (capacity_of script c)) (sends-open script s c v none).unshut has;
+        partner = send-alone script s m g c v fits within met;
+      })
+
+  parks-instr : (i : Instr) (kind : CaseKind) → stands_at script s g ≡ Some i → fault script s i ≡ None → step_of_instr script s m g i ≡ Step.Parks kind → CanPark script s m g kind
+  parks-instr (Instr.Recv o) kind stands none h =
+      let names : NamesRightly script (Instr.Recv o) = names-Does script s g (Instr.Recv o) good (record { stands = stands; calm = calm-standing script s g (Instr.Recv o) stands none }) in
+      elim (is_chan script o)
+      as (λ b. cond b (recv_by script s g o (items_of s o) (is_closed s o) (partner_in script m.senders o)) (Step.Waits o) ≡ Step.Parks kind → CanPark script s m g kind) [
+        | true ↦ λ k. parks-recv o (items_of s o) (is_closed s o) (partner_in script m.senders o) kind refl refl refl stands none (recv-declared script o names) k
+        | false ↦ λ k. cc
+      ] h
+  parks-instr (Instr.Send c v) kind stands none h =
+      let names : NamesRightly script (Instr.Send c v) = names-Does script s g (Instr.Send c v) good (record { stands = stands; calm = calm-standing script s g (Instr.Send c v) stands none }) in
+      parks-send c v (nat_lt (item_count s c) (capacity_of script c)) (partner_in script m.receivers c) kind refl refl stands none (chan_declared script c names) h
+  parks-instr (Instr.Sleep zero) kind stands none h = cc
+  parks-instr (Instr.Sleep (suc d)) kind stands none h = cc
+  parks-instr i kind stands none h = cc
+
+pub parks-rightly : (script : Script) (s : State) (m : Schedule) (g : ℕ) (kind : CaseKind) → IsGood script → Fits script s m → status_of m g ≡ Some RunStatus.InHand
+    → step_of script s m g ≡ Some (Step.Parks kind) → CanPark script s m g kind
+parks-rightly script s m g kind good fits in_hand h =
+    let step : IsStep script s m g (Step.Parks kind) = step-is script s m g (Step.Parks kind) h in
+    elim (fault script s step.instr) as (λ o. fault script s step.instr ≡ o → step_or_panic script s m g step.instr o ≡ Step.Parks kind → CanPark script s m g kind) [
+      | None ↦ λ q k. parks-instr script s m g good fits in_hand step.instr kind step.stands q k
+      | Some reason ↦ λ q k. cc
+    ] refl step.is

@@ -4,6 +4,7 @@ pub mod Fitting
 pub mod Stays
 pub mod Calm
 pub mod Books
+pub mod Meeting
 pub mod Waking
 pub mod Going
 pub mod Giving

@@ -1,5 +1,5 @@
 -- What a change by an entry leaves as it was: the clock's moves stay idle jumps, nobody comes into a worker's hand, and those that are to run are counted.
-use Rattle.std.proofs.Common.{◌≡◌, ◌≢◌, Bool, true, false, ℕ, zero, suc, ◌+◌, ◌<◌, ◌≤◌, List, [], ◌∷◌, ◌++◌, length, length-append, slice_get, Option, None, Some, sym, ap, subst, ◌∙◌, arith}
+use Rattle.std.proofs.Common.{◌≡◌, ◌≢◌, refl, count_by, Bool, true, false, ℕ, zero, suc, ◌+◌, ◌<◌, ◌≤◌, List, [], ◌∷◌, ◌++◌, length, length-append, slice_get, Option, None, Some, sym, ap, subst, ◌∙◌, arith}
 use Rattle.std.proofs.lemmas.List.Sums.{count_by-le-length}
 use Rattle.gt_model.specs.declared.script.Script.{Script}
 use Rattle.gt_model.specs.declared.entry.Entry.{Entry}
@@ -9,11 +9,12 @@ use Rattle.gt_rules.specs.After.{after, first_state}
 use Rattle.gt_rules.specs.History.{AllJump, ClockJumps, state_after}
 use Rattle.gt_model.specs.Tables.{numbered, change, change_numbered}
 use Rattle.gt_model.specs.declared.entry.Party.{Party}
+use Rattle.gt_model.specs.declared.script.CaseKind.{CaseKind}
 use Rattle.gt_rules.specs.Change.{change_of}
 use Rattle.gt_rules.specs.declared.change.Move.{Move}
 use Rattle.gt_rules.specs.declared.change.Start.{Start}
 use Rattle.gt_schedule.specs.declared.status.RunStatus.{RunStatus}
-use Rattle.gt_schedule.specs.Schedule.{Schedule, status_of, is_queued, is_parked, queued_count, gone_on, turned, moved_by, begun_by, with_new, scheduled, schedule_after, parked, parked_at, taken}
+use Rattle.gt_schedule.specs.Schedule.{Schedule, status_of, is_queued, is_parked, queued_count, gone_on, turned, moved_by, begun_by, with_new, scheduled, schedule_after, parked, waiting_at, parked_at, taken}
 use Rattle.gt_book.specs.View.{BookView, Enters, AreWoken, finish_by, finish_due}
 use Rattle.gt_machine.specs.Outcomes.{due_outcome}
 use Rattle.gt_model.proofs.Items.{numbered-change_same, numbered-change_other}
@@ -118,6 +119,7 @@ turned-hands : (m : Schedule) (x : ℕ) (move : Move) (g : ℕ) → status_of (t
 turned-hands m x (Move.GoesOn case_no) g h = gone_on-hands m x g (is_parked (status_of m x)) h
 turned-hands m x (Move.FallsAsleep until) g h = parked-hands m x g h
 turned-hands m x Move.Ends g h = change_numbered-from m.statuses x g RunStatus.Ended RunStatus.InHand (λ k. cc) h
+turned-hands m x Move.Panics g h = h
 
 moved-hands : (m : Schedule) (o : Option (ℕ × Move)) (g : ℕ) → status_of (moved_by m o) g ≡ Some RunStatus.InHand → status_of m g ≡ Some RunStatus.InHand
 moved-hands m None g h = h
@@ -128,7 +130,9 @@ begun-hands m [] g h = h
 begun-hands m (x ∷ xs) g h = with_new-hands m.statuses g (begun-hands (with_new m) xs g h)
 
 pub scheduled-hands : (m : Schedule) (e : Entry) (g : ℕ) → status_of (scheduled m e) g ≡ Some RunStatus.InHand → status_of m g ≡ Some RunStatus.InHand
-scheduled-hands m e g h = moved-hands m (change_of e).mover g (begun-hands (moved_by m (change_of e).mover) (change_of e).starts g h)
+scheduled-hands m e g h =
+    let first : Schedule = moved_by m (change_of e).mover in
+    moved-hands m (change_of e).mover g (moved-hands first (change_of e).partner g (begun-hands (moved_by first (change_of e).partner) (change_of e).starts g h))
 
 pub schedule_after-hands : (m : Schedule) (es : List Entry) (g : ℕ) → status_of (schedule_after m es) g ≡ Some RunStatus.InHand → status_of m g ≡ Some RunStatus.InHand
 schedule_after-hands m [] g h = h
@@ -138,14 +142,23 @@ pub enters-hands : (old : BookView) (e : Entry) (new : BookView) (g : ℕ) → E
 enters-hands old e new g enters h =
     schedule_after-hands old.schedule (entered old e new enters) g (subst (λ (b : BookView). status_of b.schedule g ≡ Some RunStatus.InHand) enters.is h)
 
--- who waits at a receive is in nobody's hand, and the others are where they were
-pub parked_at-leaves_hand : (m : Schedule) (p : Party) (t : ℕ) → status_of m p.g ≡ Some RunStatus.InHand → status_of (parked_at m p t) p.g ≢ Some RunStatus.InHand
-parked_at-leaves_hand m p t e h =
-    let now : status_of (parked_at m p t) p.g ≡ Some (RunStatus.Parked m.parks) = numbered-change_same m.statuses p.g (λ _. RunStatus.Parked m.parks) RunStatus.InHand e in
+-- a party that waits at an operation stands in a list, and nobody's status changes
+waiting_at-statuses : (m : Schedule) (p : Party) (kind : CaseKind) → (waiting_at m p kind).statuses ≡ m.statuses
+waiting_at-statuses m p (CaseKind.Recv o) = refl
+waiting_at-statuses m p (CaseKind.Send c v) = refl
+
+waiting_at-status : (m : Schedule) (p : Party) (kind : CaseKind) (h : ℕ) → status_of (waiting_at m p kind) h ≡ status_of m h
+waiting_at-status m p kind h = ap (λ (xs : List RunStatus). numbered xs h) (waiting_at-statuses m p kind)
+
+-- who waits at an operation is in nobody's hand, and the others are where they were
+pub parked_at-leaves_hand : (m : Schedule) (p : Party) (kind : CaseKind) → status_of m p.g ≡ Some RunStatus.InHand → status_of (parked_at m p kind) p.g ≢ Some RunStatus.InHand
+parked_at-leaves_hand m p kind e h =
+    let now : status_of (parked_at m p kind) p.g ≡ Some (RunStatus.Parked m.parks) =
+    waiting_at-status (parked m p.g) p kind p.g ∙ numbered-change_same m.statuses p.g (λ _. RunStatus.Parked m.parks) RunStatus.InHand e in
     cc
 
-pub parked_at-hands : (m : Schedule) (p : Party) (t h : ℕ) → status_of (parked_at m p t) h ≡ Some RunStatus.InHand → status_of m h ≡ Some RunStatus.InHand
-parked_at-hands m p t h e = parked-hands m p.g h e
+pub parked_at-hands : (m : Schedule) (p : Party) (kind : CaseKind) (h : ℕ) → status_of (parked_at m p kind) h ≡ Some RunStatus.InHand → status_of m h ≡ Some RunStatus.InHand
+parked_at-hands m p kind h e = parked-hands m p.g h (sym (waiting_at-status (parked m p.g) p kind h) ∙ e)
 
 -- who is taken is in a worker's hand, and nobody else comes there
 pub taken-in_hand : (m : Schedule) (g : ℕ) → status_of m g ≡ Some RunStatus.Queued → status_of (taken m g) g ≡ Some RunStatus.InHand
@@ -156,9 +169,11 @@ taken-hands m g h e n = sym (numbered-change_other m.statuses g h (λ _. RunStat
 
 -- ---- how many are to run
 
-pub parked_at-queued_count : (m : Schedule) (p : Party) (t : ℕ) → status_of m p.g ≡ Some RunStatus.InHand → queued_count (parked_at m p t) ≡ queued_count m
-parked_at-queued_count m p t e =
-    let counted : queued_count (parked_at m p t) + 0 ≡ queued_count m + 0 =
+pub parked_at-queued_count : (m : Schedule) (p : Party) (kind : CaseKind) → status_of m p.g ≡ Some RunStatus.InHand → queued_count (parked_at m p kind) ≡ queued_count m
+parked_at-queued_count m p kind e =
+    let same : queued_count (parked_at m p kind) ≡ queued_count (parked m p.g) =
+    ap (count_by (λ (status : RunStatus). is_queued (Some status))) (waiting_at-statuses (parked m p.g) p kind) in
+    let counted : queued_count (parked m p.g) + 0 ≡ queued_count m + 0 =
     count-change_numbered (λ (status : RunStatus). is_queued (Some status)) m.statuses p.g (λ _. RunStatus.Parked m.parks) RunStatus.InHand e in
     omega arith
 

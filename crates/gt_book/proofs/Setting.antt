@@ -4,12 +4,15 @@ use Rattle.gt_model.specs.declared.entry.Outcome.{Outcome}
 use Rattle.gt_book.specs.declared.answers.Did.{Did}
 use Rattle.gt_book.specs.declared.answers.TimerOp.{TimerOp}
 use Rattle.gt_book.specs.declared.step.Step.{Step}
+use Rattle.gt_model.specs.declared.script.Script.{Script}
 use Rattle.gt_model.specs.declared.script.Instr.{Instr}
+use Rattle.gt_model.specs.declared.script.CaseKind.{CaseKind}
 use Rattle.gt_rules.specs.State.{State}
 use Rattle.gt_rules.specs.Panics.{fault}
 use Rattle.gt_schedule.specs.declared.status.Ticket.{Ticket}
-use Rattle.gt_schedule.specs.Schedule.{plainly, parked_at, ticket_of}
+use Rattle.gt_schedule.specs.Schedule.{Schedule, plainly, parked_at, ticket_of}
 use Rattle.gt_book.specs.Steps.{Does, Steps, set_instr, step_of, step_of_instr, step_or_panic}
+use Rattle.gt_book.proofs.Meeting.{recv-is, send-is}
 use Rattle.gt_book.proofs.Going.{IsStep, step-is}
 use Rattle.gt_book.specs.View.{BookView, outcome_of, with_schedule}
 
@@ -40,6 +43,7 @@ does-timer old g (Step.Waits t) new op is other h =
     let answer : Did.Timer op ≡ Did.Timer (TimerOp.Enrolled (ticket_of old.schedule g)) = h.1 in
     let enrolled : op ≡ TimerOp.Enrolled (ticket_of old.schedule g) = cc in
     absurd (true-false (is_enrolled op) (ap is_enrolled enrolled) other)
+does-timer old g (Step.Parks kind) new op is other h = let answer : Did.Timer op ≡ Did.Parked = h.1 in cc
 does-timer old g (Step.Needs wanted) new op is other h =
     let answer : Did.Timer op ≡ Did.Timer wanted = h.1 in
     let same : op ≡ wanted = cc in
@@ -59,7 +63,7 @@ steps-timer old g new op none other h =
 pub record ParksUnder (old : BookView) (g : ℕ) (ticket : Ticket) (new : BookView) : Type 0 where
   pub at : ℕ
   pub waits : step_of old.script old.state old.schedule g ≡ Some (Step.Waits at)
-  pub parked : new ≡ with_schedule old (parked_at old.schedule (plainly g) at)
+  pub parked : new ≡ with_schedule old (parked_at old.schedule (plainly g) (CaseKind.Recv at))
   pub its : ticket ≡ ticket_of old.schedule g
 
 -- no instruction asks for that
@@ -67,32 +71,36 @@ abbrev needs_enrolled : Step → Bool
 needs_enrolled (Step.Needs op) = is_enrolled op
 needs_enrolled _ = false
 
-none-enrolled : (s : State) (g : ℕ) (i : Instr) → needs_enrolled (step_of_instr s g i) ≡ false
-none-enrolled s g (Instr.Sleep zero) = refl
-none-enrolled s g (Instr.Sleep (suc d)) = refl
-none-enrolled s g _ = refl
+none-enrolled : (script : Script) (s : State) (m : Schedule) (g : ℕ) (i : Instr) → needs_enrolled (step_of_instr script s m g i) ≡ false
+none-enrolled script s m g (Instr.Sleep zero) = refl
+none-enrolled script s m g (Instr.Sleep (suc d)) = refl
+none-enrolled script s m g (Instr.Recv o) = recv-is (λ step. needs_enrolled step ≡ false) (λ e. refl) (λ kind. refl) (λ t. refl) script s m g o
+none-enrolled script s m g (Instr.Send c v) = send-is (λ step. needs_enrolled step ≡ false) (λ e. refl) (λ kind. refl) script s m g c v
+none-enrolled script s m g _ = refl
 
-asks-not_enrolled : (s : State) (g : ℕ) (i : Instr) (op : TimerOp) → step_of_instr s g i ≡ Step.Needs op → is_enrolled op ≡ false
-asks-not_enrolled s g i op h = sym (ap needs_enrolled h) ∙ none-enrolled s g i
+asks-not_enrolled : (script : Script) (s : State) (m : Schedule) (g : ℕ) (i : Instr) (op : TimerOp) → step_of_instr script s m g i ≡ Step.Needs op → is_enrolled op ≡ false
+asks-not_enrolled script s m g i op h = sym (ap needs_enrolled h) ∙ none-enrolled script s m g i
 
 -- the instruction that asks to set a timer
 abbrev asked_by : Instr → Step → Instr
 asked_by i (Step.Needs (TimerOp.Set t d anew)) = set_instr t d anew
 asked_by i _ = i
 
-same-instr : (s : State) (g : ℕ) (i : Instr) → asked_by i (step_of_instr s g i) ≡ i
-same-instr s g (Instr.Sleep zero) = refl
-same-instr s g (Instr.Sleep (suc d)) = refl
-same-instr s g _ = refl
+same-instr : (script : Script) (s : State) (m : Schedule) (g : ℕ) (i : Instr) → asked_by i (step_of_instr script s m g i) ≡ i
+same-instr script s m g (Instr.Sleep zero) = refl
+same-instr script s m g (Instr.Sleep (suc d)) = refl
+same-instr script s m g (Instr.Recv o) = recv-is (λ step. asked_by (Instr.Recv o) step ≡ Instr.Recv o) (λ e. refl) (λ kind. refl) (λ t. refl) script s m g o
+same-instr script s m g (Instr.Send c v) = send-is (λ step. asked_by (Instr.Send c v) step ≡ Instr.Send c v) (λ e. refl) (λ kind. refl) script s m g c v
+same-instr script s m g _ = refl
 
-pub instr-set : (s : State) (g t d : ℕ) (anew : Bool) (i : Instr) → step_of_instr s g i ≡ Step.Needs (TimerOp.Set t d anew) → i ≡ set_instr t d anew
-instr-set s g t d anew i h = sym (same-instr s g i) ∙ ap (asked_by i) h
+pub instr-set : (script : Script) (s : State) (m : Schedule) (g t d : ℕ) (anew : Bool) (i : Instr) → step_of_instr script s m g i ≡ Step.Needs (TimerOp.Set t d anew) → i ≡ set_instr t d anew
+instr-set script s m g t d anew i h = sym (same-instr script s m g i) ∙ ap (asked_by i) h
 
 needs-not_enrolled : (old : BookView) (g : ℕ) (op : TimerOp) → step_of old.script old.state old.schedule g ≡ Some (Step.Needs op) → is_enrolled op ≡ false
 needs-not_enrolled old g op h =
-    let step : IsStep old.script old.state g (Step.Needs op) = step-is old.script old.state old.schedule g (Step.Needs op) h in
-    elim (fault old.script old.state step.instr) as (λ o. step_or_panic old.state g step.instr o ≡ Step.Needs op → is_enrolled op ≡ false) [
-      | None ↦ λ k. asks-not_enrolled old.state g step.instr op k
+    let step : IsStep old.script old.state old.schedule g (Step.Needs op) = step-is old.script old.state old.schedule g (Step.Needs op) h in
+    elim (fault old.script old.state step.instr) as (λ o. step_or_panic old.script old.state old.schedule g step.instr o ≡ Step.Needs op → is_enrolled op ≡ false) [
+      | None ↦ λ k. asks-not_enrolled old.script old.state old.schedule g step.instr op k
       | Some reason ↦ λ k. cc
     ] step.is
 
@@ -102,6 +110,7 @@ does-enrolled old g (Step.Makes e) new ticket is h = absurd (entered-no_timer (o
 does-enrolled old g (Step.Waits t) new ticket is h =
     let answer : Did.Timer (TimerOp.Enrolled ticket) ≡ Did.Timer (TimerOp.Enrolled (ticket_of old.schedule g)) = h.1 in
     record { at = t; waits = is; parked = h.0; its = cc }
+does-enrolled old g (Step.Parks kind) new ticket is h = let answer : Did.Timer (TimerOp.Enrolled ticket) ≡ Did.Parked = h.1 in cc
 does-enrolled old g (Step.Needs wanted) new ticket is h =
     let answer : Did.Timer (TimerOp.Enrolled ticket) ≡ Did.Timer wanted = h.1 in
     let same : wanted ≡ TimerOp.Enrolled ticket = cc in

@@ -12,9 +12,10 @@ use Rattle.gt_model.specs.declared.state.Goroutine.{Goroutine}
 use Rattle.gt_model.specs.declared.state.Timer.{Timer}
 use Rattle.gt_model.specs.Good.{IsGood}
 use Rattle.gt_model.specs.Tables.{numbered}
-use Rattle.gt_model.specs.Script.{what_at, is_func, names_func, names_timer}
+use Rattle.gt_model.specs.Script.{what_at, is_func, names_func, names_timer, names_chan}
 use Rattle.gt_rules.specs.State.{State, goroutine_at, timer_at, stands, stands_at, until_of, sleeps_until, due_of}
-use Rattle.gt_rules.specs.Counted.{sleep_of, receives, awaits, is_awaited, counted_timer}
+use Rattle.gt_rules.specs.Operations.{receives_from, offers}
+use Rattle.gt_rules.specs.Counted.{sleep_of, awaits, is_awaited, counted_timer}
 use Rattle.gt_facts.specs.Formed.{IsFormed}
 use Rattle.gt_facts.proofs.Lookups.{any-numbered, receives-recv, Standing, standing}
 use Rattle.gt_facts.proofs.Named.{names-instr_at}
@@ -50,10 +51,10 @@ any-found {X} p (y ∷ ys) e =
 
 awaits-recv : (script : Script) (s : State) (g t : ℕ) (r : Goroutine) → goroutine_at s g ≡ Some r → awaits script 0 t r ≡ true → stands_at script s g ≡ Some (Instr.Recv t)
 awaits-recv script s g t r there e =
-    let at : (elim (stands script r) as (λ _. Bool) [ None ↦ false | Some i ↦ receives t i ]) ≡ true = right-of (r.world == 0) _ e in
+    let at : (elim (stands script r) as (λ _. Bool) [ None ↦ false | Some i ↦ offers (receives_from t) i ]) ≡ true = right-of (r.world == 0) _ e in
     ap (λ (o : Option Goroutine). elim o as (λ _. Option Instr) [ None ↦ None | Some r ↦ stands script r ]) there ∙ on (stands script r) at
   where
-    on : (o : Option Instr) → (elim o as (λ _. Bool) [ None ↦ false | Some i ↦ receives t i ]) ≡ true → o ≡ Some (Instr.Recv t)
+    on : (o : Option Instr) → (elim o as (λ _. Bool) [ None ↦ false | Some i ↦ offers (receives_from t) i ]) ≡ true → o ≡ Some (Instr.Recv t)
     on None h = cc
     on (Some i) h = ap Some (receives-recv i t h)
 
@@ -69,7 +70,7 @@ stands-awaited script s g t formed e =
     let on : stands script st.who ≡ Some (Instr.Recv t) =
     ap (λ (o : Option Goroutine). elim o as (λ _. Option Instr) [ None ↦ None | Some r ↦ stands script r ]) (sym st.there) ∙ e in
     any-numbered (awaits script 0 t) s.goroutines g st.who st.there
-    (rw (eq-eqb st.who.world 0 world) (ap (λ (o : Option Instr). elim o as (λ _. Bool) [ None ↦ false | Some i ↦ receives t i ]) on ∙ eq-eqb t t refl))
+    (rw (eq-eqb st.who.world 0 world) (ap (λ (o : Option Instr). elim o as (λ _. Bool) [ None ↦ false | Some i ↦ offers (receives_from t) i ]) on ∙ eq-eqb t t refl))
 
 -- ---- the time of a declaration, and of a sleep
 
@@ -176,8 +177,8 @@ pub awaited-shown : (script : Script) (s : State) (g t w : ℕ) → IsGood scrip
     → counted_of script s t ≡ Some w
 awaited-shown script s g t w good formed e due =
     let st : Standing script s g (Instr.Recv t) = standing script s g (Instr.Recv t) e in
-    let named : names_timer (what_at script t) ≡ true = names-instr_at script st.who.place (Instr.Recv t) good st.on in
-    counted-declared script s t (named-within script t names_timer refl named)
+    let named : (names_timer (what_at script t) || names_chan (what_at script t)) ≡ true = names-instr_at script st.who.place (Instr.Recv t) good st.on in
+    counted-declared script s t (named-within script t (λ what. names_timer what || names_chan what) refl named)
     ∙ timer-counts script s t w formed (or-second (is_func script t) _ (stands-awaited script s g t formed e)) due
 
 -- and where it is an AfterFunc timer

@@ -4,6 +4,7 @@ ghost use Rattle.std.specs.Prelude.{◌≡◌, ◌<◌, ◌≤◌, ◌↔◌, []
 ghost use Rattle.gt_rules.specs.State as at;
 ghost use Rattle.gt_model.specs.Good.{IsGood, AreLimits};
 ghost use Rattle.gt_model.specs.Times.{greatest_time};
+ghost use Rattle.gt_rules.specs.Operations.{receives_from};
 ghost use Rattle.gt_rules.specs.Legal.{May};
 ghost use Rattle.gt_rules.specs.Finish.{IsIdle};
 ghost use Rattle.gt_rules.specs.Counted.{counted};
@@ -17,7 +18,7 @@ ghost use Rattle.gt_schedule.specs.Schedule.{parties_at, status_of, marks_at, ma
 ghost use Rattle.gt_schedule.specs.Schedule as schedule;
 ghost use Rattle.gt_book.specs.Least.{counted_of};
 ghost use Rattle.gt_book.specs.Steps.{Takes, Steps, step_of, MayCommit, Commits, is_gone, is_receiving, entry_of, Clocks};
-ghost use Rattle.gt_book.specs.View.{first_view, outcome_of, with_entries, with_schedule, Enters, IsLawful};
+ghost use Rattle.gt_book.specs.View.{first_view, is_at, outcome_of, with_entries, with_schedule, Enters, IsLawful};
 
 use crate::answers::{Commit, Did, Op, Pick, TimerOp};
 use crate::channels::operation_at;
@@ -172,7 +173,7 @@ impl Book {
     /// Marks a goroutine that is parked at a receive from timer `t` as one that the timer's record counts. It has no mark so far.
     pub fn mark_blocked(&mut self, ticket: Ticket, t: u32)
         requires live { IsLive self.old.schedule ticket }
-        requires waits { IsTrue (is_at_receive self.old.script self.old.state (schedule.plainly ticket.g) t) }
+        requires waits { IsTrue (is_at self.old.script self.old.state (schedule.plainly ticket.g) (receives_from t)) }
         requires room { HasMarkRoom self.old.schedule ticket.g }
         ensures { self.new ≡ with_schedule self.old (marked self.old.schedule ticket.g t) }
     {

@@ -2,16 +2,24 @@ use Rattle.std.proofs.Common.{rules, refl, sym, ◌∙◌, ◌≡◌, Some, None
 use Rattle.gt_rules.specs.State as at
 use Rattle.gt_rules.specs.Panics.{fault}
 use Rattle.gt_machine.specs.Machine.{state_of}
+use Rattle.gt_facts.proofs.Lookups.{Standing, standing, names-instr_at}
 use Rattle.gt_book.proofs.step.next_step.Goals as goal
 
 pub returns-in-Some : goal.returns-in-Some
-returns-in-Some c = λ m.
+returns-in-Some c =
     let stands : at.stands_at c.args.script.now (state_of c.args.machine.now) c.args.g ≡ Some c.in_ok-instr.instr.now = search rules in
     let faulty : fault c.args.script.now (state_of c.args.machine.now) c.in_ok-instr.instr.now ≡ Some c.in-Some.reason = sym (c.fault.ensures c.args.script.now) ∙ c.in-Some.is in
     rw (stands, faulty, c.plainly.ensures) refl
 
 pub returns-in-None : goal.returns-in-None
-returns-in-None c = λ m.
+returns-in-None c =
     let stands : at.stands_at c.args.script.now (state_of c.args.machine.now) c.args.g ≡ Some c.in_ok-instr.instr.now = search rules in
     let faultless : fault c.args.script.now (state_of c.args.machine.now) c.in_ok-instr.instr.now ≡ None = sym (c.fault.ensures c.args.script.now) ∙ c.in-None.is in
     rw (stands, faultless, c.step_of_instr.ensures) refl
+
+pub step_of_instr-requires-clause-names : goal.step_of_instr-requires-clause-names
+step_of_instr-requires-clause-names c =
+    let stands : at.stands_at c.args.script.now (state_of c.args.machine.now) c.args.g ≡ Some c.in_ok-instr.instr.now = search rules in
+    let here : Standing c.args.script.now (state_of c.args.machine.now) c.args.g c.in_ok-instr.instr.now =
+    standing c.args.script.now (state_of c.args.machine.now) c.args.g c.in_ok-instr.instr.now stands in
+    names-instr_at c.args.script.now here.who.place c.in_ok-instr.instr.now c.requires.good here.on

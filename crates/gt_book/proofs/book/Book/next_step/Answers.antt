@@ -11,10 +11,10 @@ pub unwrap-requires : goal.unwrap-requires
 unwrap-requires c =
     let in_hand : status_of (seen c.self.inside).schedule c.args.g ≡ Some RunStatus.InHand =
     subst (λ (v : BookView). status_of v.schedule c.args.g ≡ Some RunStatus.InHand) (sym c.self.view_is) c.requires in
-    ap is_some (c.next_step.ensures (seen c.self.inside).schedule) ∙ in_hand-steps (seen c.self.inside) c.args.g c.self.invariant.lawful in_hand
+    ap is_some c.next_step.ensures ∙ in_hand-steps (seen c.self.inside) c.args.g c.self.invariant.lawful in_hand
 
 pub returns : goal.returns
 returns c =
     let found : c.next_step.result ≡ Some c.unwrap.result = search rules in
     subst (λ (v : BookView). step_of v.script v.state v.schedule c.args.g ≡ Some c.unwrap.result) c.self.view_is
-    (sym (c.next_step.ensures (seen c.self.inside).schedule) ∙ found)
+    (sym c.next_step.ensures ∙ found)

@@ -1,0 +1,242 @@
+-- What a goroutine in hand meets at a channel: a partner that is parked there, which stands at its operation without a misuse, or nobody.
+use Rattle.std.proofs.Common.{◌≡◌, ◌≢◌, ℕ, zero, suc, ◌<◌, ◌==◌, nat_lt, cond, List, [], ◌∷◌, length, slice_get, refl, sym, ap, subst, ◌∙◌, Option, None, Some, Bool, true, false, not, ◌&&◌, ◌||◌, is_some, IsTrue}
+use Rattle.std.proofs.lemmas.Bool.{eqb-true, and_parts, and_from}
+use Rattle.std.specs.Option.{option_map}
+use Rattle.gt_model.specs.declared.script.Script.{Script}
+use Rattle.gt_model.specs.declared.script.Instr.{Instr}
+use Rattle.gt_model.specs.declared.script.What.{What}
+use Rattle.gt_model.specs.declared.script.CaseKind.{CaseKind}
+use Rattle.gt_model.specs.declared.entry.Entry.{Entry}
+use Rattle.gt_model.specs.declared.entry.Party.{Party}
+use Rattle.gt_model.specs.declared.state.Goroutine.{Goroutine}
+use Rattle.gt_model.specs.declared.state.Mode.{Mode}
+use Rattle.gt_model.specs.Script.{is_chan, names_chan, capacity_of}
+use Rattle.gt_rules.specs.State.{State, Channel, channel_at, stands_at, until_of, sleeps_until, items_of, item_count, is_open, is_closed}
+use Rattle.gt_rules.specs.Operations.{operation, offers, receives_from, sends_to}
+use Rattle.gt_rules.specs.Legal.{Operates, operation_at}
+use Rattle.gt_rules.specs.Panics.{fault}
+use Rattle.gt_rules.specs.Ready.{is_ready_recv, is_ready_alone, has_partner, partner_waits, no_timer}
+use Rattle.gt_facts.proofs.Lookups.{Standing, standing, AtOperation, at_operation, stands_send}
+use Rattle.gt_facts.proofs.Partners.{Partner, partner}
+use Rattle.gt_schedule.specs.declared.status.RunStatus.{RunStatus}
+use Rattle.gt_schedule.specs.Schedule.{Schedule, plainly, status_of, is_parked, parties_at}
+use Rattle.gt_book.specs.declared.step.Step.{Step}
+use Rattle.gt_book.specs.Steps.{partner_in, value_of, recv_by, send_by, step_of_instr}
+use Rattle.gt_book.specs.View.{is_waiting, is_at, is_parked_at, Fits}
+use Rattle.gt_book.specs.Calm.{IsCalm}
+use Rattle.gt_book.proofs.Fitting.{first-waiting, first-sending, none-waiting, none-sending}
+use Rattle.gt_book.proofs.Firm.{IsOpenChannel, open-fault, firm-stood, firm-fault, stood, has_fault, no-reason, calm-standing, both-false, unless-true, never-both}
+
+-- ---- a step at a channel makes an entry or parks; one at a timer waits
+
+pub recv_by-is : (P : Step → Type 0) → ((e : Entry) → P (Step.Makes e)) → ((kind : CaseKind) → P (Step.Parks kind))
+    → (script : Script) (s : State) (g c : ℕ) (items : List ℕ) (closed : Bool) (sender : Option Party) → P (recv_by script s g c items closed sender)
+recv_by-is P makes parks script s g c (v ∷ items) closed sender = makes _
+recv_by-is P makes parks script s g c [] true sender = makes _
+recv_by-is P makes parks script s g c [] false (Some q) = makes _
+recv_by-is P makes parks script s g c [] false None = parks _
+
+pub send_by-is : (P : Step → Type 0) → ((e : Entry) → P (Step.Makes e)) → ((kind : CaseKind) → P (Step.Parks kind))
+    → (g c v : ℕ) (room : Bool) (receiver : Option Party) → P (send_by g c v room receiver)
+send_by-is P makes parks g c v true receiver = makes _
+send_by-is P makes parks g c v false (Some q) = makes _
+send_by-is P makes parks g c v false None = parks _
+
+pub recv-is : (P : Step → Type 0) → ((e : Entry) → P (Step.Makes e)) → ((kind : CaseKind) → P (Step.Parks kind)) → ((t : ℕ) → P (Step.Waits t))
+    → (script : Script) (s : State) (m : Schedule) (g o : ℕ) → P (step_of_instr script s m g (Instr.Recv o))
+recv-is P makes parks waits script s m g o = by (is_chan script o)
+  where
+    by : (b : Bool) → P (cond b (recv_by script s g o (items_of s o) (is_closed s o) (partner_in script m.senders o)) (Step.Waits o))
+    by true = recv_by-is P makes parks script s g o (items_of s o) (is_closed s o) (partner_in script m.senders o)
+    by false = waits o
+
+pub send-is : (P : Step → Type 0) → ((e : Entry) → P (Step.Makes e)) → ((kind : CaseKind) → P (Step.Parks kind))
+    → (script : Script) (s : State) (m : Schedule) (g c v : ℕ) → P (step_of_instr script s m g (Instr.Send c v))
+send-is P makes parks script s m g c v = send_by-is P makes parks g c v (nat_lt (item_count s c) (capacity_of script c)) (partner_in script m.receivers c)
+
+-- ---- who is awake
+
+mode-awake : (mode : Mode) → mode ≡ Mode.At → until_of mode ≡ None
+mode-awake Mode.At e = refl
+mode-awake (Mode.Sleeping until) e = cc
+mode-awake Mode.Ended e = cc
+
+-- who stands at an instruction does not sleep
+pub stands-awake : (script : Script) (s : State) (g : ℕ) (i : Instr) → stands_at script s g ≡ Some i → sleeps_until s g ≡ None
+stands-awake script s g i e =
+    let st : Standing script s g i = standing script s g i e in
+    ap (λ (o : Option Goroutine). elim (option_map (λ (r : Goroutine). r.mode) o) as (λ o. Option ℕ) [ None ↦ None | Some mode ↦ until_of mode ]) st.there ∙ mode-awake st.who.mode st.at
+
+-- and so does who operates
+pub operates-awake : (script : Script) (s : State) (p : Party) (kind : CaseKind) → Operates script s p kind → sleeps_until s p.g ≡ None
+operates-awake script s p kind on =
+    let at : AtOperation script s p kind = at_operation script s p kind on.stands in
+    stands-awake script s p.g at.instr at.stands
+
+-- ---- a party that is parked at an operation
+
+-- it stands at an operation that passes a test
+record Stood (script : Script) (s : State) (p : Party) (test : CaseKind → Bool) : Type 0 where
+  kind : CaseKind
+  there : operation_at script s p ≡ Some kind
+  passes : test kind ≡ true
+
+at-stood : (script : Script) (s : State) (p : Party) (test : CaseKind → Bool) → is_at script s p test ≡ true → Stood script s p test
+at-stood script s p test h =
+    elim (operation_at script s p) as (λ o. operation_at script s p ≡ o → (elim o as (λ o. Bool) [ None ↦ false | Some kind ↦ test kind ]) ≡ true → Stood script s p test) [
+      | None ↦ λ e k. cc
+      | Some kind ↦ λ e k. record { kind = kind; there = e; passes = k }
+    ] refl h
+
+pub receives-kind : (kind : CaseKind) (o : ℕ) → receives_from o kind ≡ true → kind ≡ CaseKind.Recv o
+receives-kind (CaseKind.Recv p) o h = ap CaseKind.Recv (eqb-true p o h)
+receives-kind (CaseKind.Send c v) o h = cc
+
+sends-kind : (kind : CaseKind) (c : ℕ) → sends_to c kind ≡ true → kind ≡ CaseKind.Send c (value_of (Some kind))
+sends-kind (CaseKind.Recv p) c h = cc
+sends-kind (CaseKind.Send d v) c h = ap (λ d. CaseKind.Send d v) (eqb-true d c h)
+
+-- who stands at a receive from an object
+pub at-receives : (script : Script) (s : State) (p : Party) (o : ℕ) → is_at script s p (receives_from o) ≡ true → operation_at script s p ≡ Some (CaseKind.Recv o)
+at-receives script s p o h =
+    let at : Stood script s p (receives_from o) = at-stood script s p (receives_from o) h in
+    at.there ∙ ap Some (receives-kind at.kind o at.passes)
+
+-- who stands at a send to a channel sends its value
+pub at-sends : (script : Script) (s : State) (p : Party) (c : ℕ) → is_at script s p (sends_to c) ≡ true → operation_at script s p ≡ Some (CaseKind.Send c (value_of (operation_at script s p)))
+at-sends script s p c h =
+    let at : Stood script s p (sends_to c) = at-stood script s p (sends_to c) h in
+    let is : at.kind ≡ CaseKind.Send c (value_of (Some at.kind)) = sends-kind at.kind c at.passes in
+    at.there ∙ ap Some (is ∙ ap (λ o. CaseKind.Send c (value_of o)) (sym at.there))
+
+-- in a calm book who is parked makes no misuse
+pub parked-faultless : (script : Script) (s : State) (m : Schedule) (g : ℕ) (i : Instr) → IsCalm script s m → is_waiting m g ≡ true → stands_at script s g ≡ Some i → fault script s i ≡ None
+parked-faultless script s m g i calm waits e =
+    let firm = sym (firm-stood script s (is_waiting m) g _) ∙ calm g waits in
+    no-reason (fault script s i) (sym (ap (has_fault script s) e) ∙ firm-fault script s (is_waiting m) g (stands_at script s g) firm)
+
+parked-operates : (script : Script) (s : State) (m : Schedule) (p : Party) (kind : CaseKind) → IsCalm script s m → is_waiting m p.g ≡ true → operation_at script s p ≡ Some kind → Operates script s p kind
+parked-operates script s m p kind calm waits e =
+    let at : AtOperation script s p kind = at_operation script s p kind e in
+    record { stands = e; calm = calm-standing script s p.g at.instr at.stands (parked-faultless script s m p.g at.instr calm waits at.stands) }
+
+-- ---- the partner that a step meets
+
+-- the one that waits longest, at a channel that keeps no values
+record First (script : Script) (lists : List (List Party)) (c : ℕ) (q : Party) : Type 0 where
+  none_kept : capacity_of script c ≡ 0
+  first : slice_get (parties_at lists c) 0 ≡ Some q
+
+partner-first : (script : Script) (lists : List (List Party)) (c : ℕ) (q : Party) → partner_in script lists c ≡ Some q → First script lists c q
+partner-first script lists c q e =
+    elim (capacity_of script c == 0) as (λ b. (capacity_of script c == 0) ≡ b → cond b (slice_get (parties_at lists c) 0) None ≡ Some q → First script lists c q) [
+      | true ↦ λ is h. record { none_kept = eqb-true (capacity_of script c) 0 is; first = h }
+      | false ↦ λ is h. cc
+    ] refl e
+
+-- a party that is parked at an operation, at a channel that keeps no values
+pub record Met (script : Script) (s : State) (m : Schedule) (q : Party) (c : ℕ) (kind : CaseKind) : Type 0 where
+  pub waits : is_waiting m q.g ≡ true
+  pub operates : Operates script s q kind
+  pub none_kept : capacity_of script c ≡ 0
+
+pub sender-met : (script : Script) (s : State) (m : Schedule) (q : Party) (c : ℕ) → Fits script s m → IsCalm script s m → c < length script.decls → partner_in script m.senders c ≡ Some q
+    → Met script s m q c (CaseKind.Send c (value_of (operation_at script s q)))
+sender-met script s m q c fits calm declared e =
+    let one : First script m.senders c q = partner-first script m.senders c q e in
+    let both = and_parts (is_waiting m q.g) (is_at script s q (sends_to c)) (first-sending script s m q c fits declared one.first) in
+    record { waits = both.0; operates = parked-operates script s m q _ calm both.0 (at-sends script s q c both.1); none_kept = one.none_kept }
+
+pub receiver-met : (script : Script) (s : State) (m : Schedule) (q : Party) (c : ℕ) → Fits script s m → IsCalm script s m → c < length script.decls → partner_in script m.receivers c ≡ Some q
+    → Met script s m q c (CaseKind.Recv c)
+receiver-met script s m q c fits calm declared e =
+    let one : First script m.receivers c q = partner-first script m.receivers c q e in
+    let both = and_parts (is_waiting m q.g) (is_at script s q (receives_from c)) (first-waiting script s m q c fits declared one.first) in
+    record { waits = both.0; operates = parked-operates script s m q (CaseKind.Recv c) calm both.0 (at-receives script s q c both.1); none_kept = one.none_kept }
+
+-- who is parked is not in hand
+pub parked-other : (m : Schedule) (h g : ℕ) → is_waiting m h ≡ true → status_of m g ≡ Some RunStatus.InHand → h ≢ g
+parked-other m h g waits in_hand is =
+    let here : is_waiting m h ≡ is_parked (Some RunStatus.InHand) = ap (is_waiting m) is ∙ ap is_parked in_hand in
+    cc
+
+-- a channel that was made and is not closed is open
+pub open-is : (s : State) (c : ℕ) → IsOpenChannel s c → IsTrue (is_open s c)
+open-is s c is = by (channel_at s c) is.made is.unshut
+  where
+    by : (o : Option Channel) → is_some o ≡ true → (elim o as (λ o. Bool) [ None ↦ false | Some r ↦ r.closed ]) ≡ false
+        → (elim o as (λ o. Bool) [ None ↦ false | Some r ↦ not r.closed ]) ≡ true
+    by None h k = cc
+    by (Some r) h k = ap not k
+
+-- who sends without a misuse sends to an open channel
+pub sends-open : (script : Script) (s : State) (c v : ℕ) → fault script s (Instr.Send c v) ≡ None → IsOpenChannel s c
+sends-open script s c v none = open-fault s c (ap is_some none)
+
+-- a parked sender's channel is open
+pub met-open : (script : Script) (s : State) (m : Schedule) (q : Party) (c v : ℕ) → IsCalm script s m → Met script s m q c (CaseKind.Send c v) → IsTrue (is_open s c)
+met-open script s m q c v calm met =
+    let stands : stands_at script s q.g ≡ Some (Instr.Send c v) = stands_send script s q c v met.operates.stands in
+    open-is s c (sends-open script s c v (parked-faultless script s m q.g (Instr.Send c v) calm met.waits stands))
+
+-- ---- where a step meets nobody
+
+-- nobody stands in the list of a channel that keeps no values
+none-listed : (script : Script) (lists : List (List Party)) (c : ℕ) → partner_in script lists c ≡ None → (capacity_of script c == 0) ≡ true → parties_at lists c ≡ []
+none-listed script lists c e zero_kept = empty (parties_at lists c) (sym (ap (λ b. cond b (slice_get (parties_at lists c) 0) None) zero_kept) ∙ e)
+  where
+    empty : (ps : List Party) → slice_get ps 0 ≡ None → ps ≡ []
+    empty [] h = refl
+    empty (p ∷ ps) h = cc
+
+-- what an instruction offers, it does as a plain party
+offers-at : (script : Script) (s : State) (g : ℕ) (i : Instr) (test : CaseKind → Bool) → stands_at script s g ≡ Some i → offers test i ≡ true → is_at script s (plainly g) test ≡ true
+offers-at script s g i test e h =
+    ap (λ (o : Option Instr). elim (elim o as (λ o. Option CaseKind) [ None ↦ None | Some i ↦ operation i 0 ]) as (λ o. Bool) [ None ↦ false | Some kind ↦ test kind ]) e ∙ on i h
+  where
+    on : (i : Instr) → offers test i ≡ true → (elim (operation i 0) as (λ o. Bool) [ None ↦ false | Some kind ↦ test kind ]) ≡ true
+    on (Instr.Recv o) h = h
+    on (Instr.Send c v) h = h
+    on i h = cc
+
+-- where nobody is parked at an operation, nobody parked is a partner there
+none-waits : (script : Script) (s : State) (m : Schedule) (g : ℕ) (test : CaseKind → Bool) → ((p : Party) → is_parked_at script s m p test ≡ false)
+    → partner_waits script s (is_waiting m) g test ≡ true → ⊥
+none-waits script s m g test none h =
+    let p : Partner script s (is_waiting m) g test = partner script s (is_waiting m) g test h in
+    never-both (is_parked_at script s m (plainly p.number) test)
+    (and_from (is_waiting m p.number) (is_at script s (plainly p.number) test) p.counted (offers-at script s p.number p.instr test p.does.stands p.passes)) (none (plainly p.number))
+
+pub recv-alone : (script : Script) (s : State) (m : Schedule) (g c : ℕ) → Fits script s m → c < length script.decls → partner_in script m.senders c ≡ None
+    → has_partner script s (is_waiting m) g (CaseKind.Recv c) ≡ false
+recv-alone script s m g c fits declared none =
+    unless-true (has_partner script s (is_waiting m) g (CaseKind.Recv c)) (λ h.
+    let parts = and_parts (is_chan script c && capacity_of script c == 0) (partner_waits script s (is_waiting m) g (sends_to c)) h in
+    let kept = and_parts (is_chan script c) (capacity_of script c == 0) parts.0 in
+    none-waits script s m g (sends_to c) (none-sending script s m c fits declared (none-listed script m.senders c none kept.1)) parts.1)
+
+pub send-alone : (script : Script) (s : State) (m : Schedule) (g c v : ℕ) → Fits script s m → c < length script.decls → partner_in script m.receivers c ≡ None
+    → has_partner script s (is_waiting m) g (CaseKind.Send c v) ≡ false
+send-alone script s m g c v fits declared none =
+    unless-true (has_partner script s (is_waiting m) g (CaseKind.Send c v)) (λ h.
+    let parts = and_parts (capacity_of script c == 0) (partner_waits script s (is_waiting m) g (receives_from c)) h in
+    none-waits script s m g (receives_from c) (none-waiting script s m c fits declared (none-listed script m.receivers c none parts.0)) parts.1)
+
+-- what is no channel has no partner
+pub timer-alone : (script : Script) (s : State) (m : Schedule) (g t : ℕ) → is_chan script t ≡ false → has_partner script s (is_waiting m) g (CaseKind.Recv t) ≡ false
+timer-alone script s m g t none = ap (λ b. b && capacity_of script t == 0 && partner_waits script s (is_waiting m) g (sends_to t)) none
+
+-- an open channel without a value is not ready for a receive, and what is no channel is so by its time alone
+pub recv-unready : (s : State) (c : ℕ) (what : Option What) → items_of s c ≡ [] → is_closed s c ≡ false → is_ready_recv s no_timer c what ≡ false
+recv-unready s c None empty unshut = refl
+recv-unready s c (Some What.Timer) empty unshut = refl
+recv-unready s c (Some (What.AfterFunc func)) empty unshut = refl
+recv-unready s c (Some (What.Chan cap)) empty unshut = both-false (nat_lt 0 (item_count s c)) (is_closed s c) (ap (λ (xs : List ℕ). nat_lt 0 (length xs)) empty) unshut
+recv-unready s c (Some What.Function) empty unshut = refl
+
+pub timer-unready : (s : State) (t : ℕ) (what : Option What) → names_chan what ≡ false → is_ready_recv s no_timer t what ≡ false
+timer-unready s t None none = refl
+timer-unready s t (Some What.Timer) none = refl
+timer-unready s t (Some (What.AfterFunc func)) none = refl
+timer-unready s t (Some (What.Chan cap)) none = cc
+timer-unready s t (Some What.Function) none = refl
