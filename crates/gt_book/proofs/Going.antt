@@ -42,7 +42,8 @@ use Rattle.gt_book.specs.Calm.{IsCalm}
 use Rattle.gt_book.proofs.Calm.{CanPark, calm-taken}
 use Rattle.gt_book.proofs.Entering.{running-none, sound-more, sound-lawful, lawful-sound}
 use Rattle.gt_room.specs.Contents.{Contents}
-use Rattle.gt_book.proofs.Books.{Finished, seen-is, finished-rooms}
+use Rattle.gt_book.specs.declared.run.Run.{Run}
+use Rattle.gt_book.proofs.Books.{Finished, seen-finished, finished-rooms}
 use Rattle.gt_book.proofs.Fitting.{Known, known, fits-taken, fits-changed}
 use Rattle.gt_book.proofs.Firm.{both-false, never-both, calm-standing, panic-standing}
 use Rattle.gt_book.proofs.Meeting.{recv_by-is, recv-is, send-is, stands-awake, operates-awake, Met, sender-met, receiver-met, parked-other, open-is, sends-open, met-open, recv-alone, send-alone, timer-alone, recv-unready, timer-unready}
@@ -117,20 +118,17 @@ lawful-deadlock v lawful none idle uncounted =
     (formed-finish v.script v.state Outcome.Deadlock lawful.formed) (fits-changed v.script v.state v.schedule (change_of (Entry.Finish Outcome.Deadlock)) lawful.fits (tt, tt)))
     tt (λ none. cc)
 
-abbrev pub ended : Inside → Machine → Contents Entry → Inside
-ended b machine history = record { script = b.script; limits = b.limits; run = record { history = history; machine = machine; scheduler = b.run.scheduler } }
+abbrev pub ended : Inside → Run → Inside
+ended b run = record { script = b.script; limits = b.limits; run = run }
 
-pub seen-deadlock : (b : Inside) (machine : Machine) (history : Contents Entry) → Finished b.script Outcome.Deadlock b.run.machine b.run.history machine history
-    → seen (ended b machine history) ≡ with_entries (seen b) (Entry.Finish Outcome.Deadlock ∷ [])
-seen-deadlock b machine history ends =
-    seen-is (ended b machine history) (with_entries (seen b) (Entry.Finish Outcome.Deadlock ∷ [])) refl refl ends.items ends.state refl
+pub seen-deadlock : (b : Inside) (run : Run) → Finished b.script Outcome.Deadlock b.run run → seen (ended b run) ≡ with_entries (seen b) (Entry.Finish Outcome.Deadlock ∷ [])
+seen-deadlock b run ends = seen-finished b.script b.limits Outcome.Deadlock b.run run ends
 
-pub kept-deadlock : (b : Inside) (machine : Machine) (history : Contents Entry) → IsKept b → outcome_of (seen b) ≡ None
-    → IsIdle b.script (state_of b.run.machine) → counted b.script (state_of b.run.machine) 0 ≡ []
-    → Finished b.script Outcome.Deadlock b.run.machine b.run.history machine history → IsKept (ended b machine history)
-kept-deadlock b machine history kept none idle uncounted ends = record {
-  lawful = subst IsLawful (sym (seen-deadlock b machine history ends)) (lawful-deadlock (seen b) kept.lawful none idle uncounted);
-  rooms = finished-rooms b b.run.scheduler b.run.machine b.run.history Outcome.Deadlock machine history kept.rooms none ends;
+pub kept-deadlock : (b : Inside) (run : Run) → IsKept b → outcome_of (seen b) ≡ None → IsIdle b.script (state_of b.run.machine) → counted b.script (state_of b.run.machine) 0 ≡ []
+    → Finished b.script Outcome.Deadlock b.run run → IsKept (ended b run)
+kept-deadlock b run kept none idle uncounted ends = record {
+  lawful = subst IsLawful (sym (seen-deadlock b run ends)) (lawful-deadlock (seen b) kept.lawful none idle uncounted);
+  rooms = finished-rooms b.script b.limits Outcome.Deadlock b.run run kept.rooms none ends;
 }
 
 -- ---- what a goroutine in hand does
