@@ -1,5 +1,5 @@
 -- A book that began keeps what a book keeps; a run that makes an entry, and one that ends, do what they say.
-use Rattle.std.proofs.Common.{◌≡◌, zero, suc, ◌+◌, ◌<◌, ◌≤◌, List, [], ◌∷◌, ◌++◌, refl, sym, ap, subst, ◌∙◌, arith, Option, None, Some, length, length-append, is_some}
+use Rattle.std.proofs.Common.{◌≡◌, zero, suc, ◌+◌, ◌<◌, ◌≤◌, [], ◌∷◌, ◌++◌, refl, sym, ap, subst, ◌∙◌, arith, Option, None, Some, length, length-append, is_some}
 use Rattle.gt_model.specs.declared.script.Script.{Script}
 use Rattle.gt_model.specs.declared.entry.Entry.{Entry}
 use Rattle.gt_model.specs.declared.entry.Limits.{Limits}
@@ -18,7 +18,7 @@ use Rattle.gt_schedule.specs.Schedule.{first_schedule, most_goroutines, schedule
 use Rattle.gt_schedule.specs.Scheduler.{schedule_of, capacity, IsScheduler, CanApply}
 use Rattle.gt_book.specs.declared.book.Book.TheInside.{Inside}
 use Rattle.gt_book.specs.declared.run.Run.{Run}
-use Rattle.gt_book.specs.View.{BookView, IsLawful, first_view, with_entries, finish_by, finish_due}
+use Rattle.gt_book.specs.View.{BookView, IsLawful, first_view, with_entries, finish_by}
 use Rattle.gt_book.specs.Run.{seen_of, HasRooms, IsUnderWay, IsKeptRun, CanMake, Makes, CanEnd, Ends}
 use Rattle.gt_book.specs.Book.{seen, IsKept}
 use Rattle.gt_book.specs.Calm.{IsCalm}

@@ -1,5 +1,5 @@
 -- A change by an entry leaves nobody parked who is firmly ready, but at the channel that it changes.
-use Rattle.std.proofs.Common.{◌≡◌, ◌≢◌, ℕ, zero, suc, ◌+◌, List, [], ◌∷◌, ◌++◌, length, slice_get, eqb, ◌==◌, refl, sym, ap, subst, ◌∙◌, arith, Option, None, Some, Bool, true, false, not, ◌||◌, ◌&&◌, is_some, is_none, IsTrue, inl, inr}
+use Rattle.std.proofs.Common.{◌≡◌, ◌≢◌, ℕ, suc, ◌+◌, List, [], ◌∷◌, ◌++◌, length, slice_get, eqb, ◌==◌, refl, sym, ap, subst, ◌∙◌, arith, Option, None, Some, Bool, true, false, not, ◌&&◌, is_some, IsTrue, inl, inr}
 use Rattle.std.specs.List.{list_all, enumerate_from}
 use Rattle.std.proofs.lemmas.Bool.{cases_eq, eq-eqb, eqb-true, and_parts, and_from}
 use Rattle.std.proofs.Math.ListN.{length-append}
@@ -13,7 +13,7 @@ use Rattle.gt_model.specs.Good.{IsGood}
 use Rattle.gt_model.specs.Script.{is_chan, capacity_of}
 use Rattle.gt_model.specs.Tables.{numbered, change_numbered}
 use Rattle.gt_model.proofs.Items.{numbered-change_same, numbered-change_other, numbered-push_same, numbered-push_other, HasNumber}
-use Rattle.gt_rules.specs.State.{State, goroutine_at, channel_at, stands, stands_at}
+use Rattle.gt_rules.specs.State.{State, goroutine_at, channel_at, stands_at}
 use Rattle.gt_rules.specs.Operations.{operation, offers, receives_from, sends_to}
 use Rattle.gt_rules.specs.After.{after, changed, moved, in_mode, with_mover, with_starts, started_by}
 use Rattle.gt_rules.specs.Change.{Change, change_of}
@@ -94,7 +94,6 @@ each-turned Q script s m g (Move.FallsAsleep until) fits may asleep each =
     let k : Known script s m g RunStatus.InHand = known script s m g RunStatus.InHand fits may in
     each-parked Q m (turned m g (Move.FallsAsleep until)) s.goroutines g (RunStatus.Parked m.parks) (moved script (Move.FallsAsleep until)) k.who each refl k.there (asleep g until k.who)
 each-turned Q script s m g Move.Ends fits may asleep each = each-other Q m (turned m g Move.Ends) s.goroutines g RunStatus.Ended (moved script Move.Ends) RunStatus.InHand each may refl refl
-
 each-turned Q script s m g Move.Panics fits may asleep each = λ h waiting. subst (λ gs. Q h (numbered gs h)) (sym (unchanged s.goroutines g)) (each h waiting)
 
 each-moved : (Q : ℕ → Option Goroutine → Type 0) (script : Script) (s : State) (m : Schedule) (o : Option (ℕ × Move)) → Fits script s m → ServedBy m o
@@ -296,6 +295,7 @@ module _ (script : Script) (s : State) (m : Schedule) (g : ℕ) (kind : CaseKind
             and_from (capacity_of script c == 0) (partner_waits script s (is_waiting m) h (receives_from c)) parts.0
             (partner-waits script s (is_waiting m) h (receives_from c) (partner-other h (receives_from c) p apart))
       ]
+
   other-firm : (h : ℕ) → h ≢ g → is_waiting then h ≡ true → is_firm_at script s then h ≡ false
   other-firm h other waits =
       let before : is_waiting m h ≡ true = waited-before h other waits in
@@ -304,10 +304,10 @@ module _ (script : Script) (s : State) (m : Schedule) (g : ℕ) (kind : CaseKind
       firm-stood script s (is_waiting then) h (goroutine_at s h)
       ∙ firm-next script s s (is_waiting m) (is_waiting then) h nowhere on (stays-same s nowhere) (λ k e. refl)
       (λ k e.
-        let at : AtOperation script s (plainly h) k = at_operation script s (plainly h) k e in
-        let none : fault script s at.instr ≡ None = no-reason (fault script s at.instr) (sym (ap (has_fault script s) at.stands) ∙ firm-fault script s (is_waiting m) h on firm) in
-        unless-true (has_partner script s (is_waiting then) h k)
-        (λ full. never-both (has_partner script s (is_waiting m) h k) (not-met h at.instr k other before at.stands none at.has full) (firm-partner script s (is_waiting m) h on k firm e)))
+      let at : AtOperation script s (plainly h) k = at_operation script s (plainly h) k e in
+      let none : fault script s at.instr ≡ None = no-reason (fault script s at.instr) (sym (ap (has_fault script s) at.stands) ∙ firm-fault script s (is_waiting m) h on firm) in
+      unless-true (has_partner script s (is_waiting then) h k)
+      (λ full. never-both (has_partner script s (is_waiting m) h k) (not-met h at.instr k other before at.stands none at.has full) (firm-partner script s (is_waiting m) h on k firm e)))
       firm
 
 pub calm-parked_at : (script : Script) (s : State) (m : Schedule) (g : ℕ) (kind : CaseKind) → IsGood script → CanPark script s m g kind → IsCalm script s m → IsCalm script s (parked_at m (plainly g) kind)

@@ -11,7 +11,6 @@ use Rattle.gt_rules.specs.After.{option_or, after, first_state}
 use Rattle.gt_rules.specs.Legal.{May}
 use Rattle.gt_rules.specs.Finish.{Legal, IsRunning, Finishes}
 use Rattle.gt_rules.specs.History.{AllLegal, state_after}
-use Rattle.gt_model.specs.Good.{IsGood, AreLimits}
 use Rattle.gt_facts.specs.Formed.{IsFormed}
 use Rattle.gt_facts.proofs.Histories.{AllLegal-append, state_after-append}
 use Rattle.gt_facts.proofs.Formed.{formed-after, formed-finish}

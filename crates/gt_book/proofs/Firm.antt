@@ -1,5 +1,5 @@
 -- What becomes of those that are parked and not firmly ready, where objects and goroutines change: they stay so, but at the channels that change.
-use Rattle.std.proofs.Common.{◌≡◌, ◌≢◌, ℕ, zero, suc, List, [], ◌∷◌, length, nat_lt, ◌==◌, refl, sym, ap, subst, ◌∙◌, Option, None, Some, Bool, true, false, not, ◌&&◌, ◌||◌, is_some, is_none}
+use Rattle.std.proofs.Common.{◌≡◌, ◌≢◌, ℕ, List, [], length, nat_lt, ◌==◌, refl, sym, ap, subst, ◌∙◌, Option, None, Some, Bool, true, false, not, ◌&&◌, ◌||◌, is_some, is_none}
 use Rattle.std.proofs.lemmas.Bool.{and_parts, and_from}
 use Rattle.gt_model.specs.declared.script.Script.{Script}
 use Rattle.gt_model.specs.declared.script.Instr.{Instr}
@@ -7,14 +7,13 @@ use Rattle.gt_model.specs.declared.script.What.{What}
 use Rattle.gt_model.specs.declared.script.CaseKind.{CaseKind}
 use Rattle.gt_model.specs.declared.entry.Reason.{Reason}
 use Rattle.gt_model.specs.declared.state.Goroutine.{Goroutine}
-use Rattle.gt_model.specs.declared.state.Timer.{Timer}
 use Rattle.gt_model.specs.declared.state.Mode.{Mode}
 use Rattle.gt_model.specs.Script.{instr_at, what_at, is_chan, capacity_of}
-use Rattle.gt_rules.specs.State.{State, Channel, goroutine_at, timer_at, channel_at, items_of, item_count, is_closed, is_made, stands, stands_at}
+use Rattle.gt_rules.specs.State.{State, Channel, goroutine_at, timer_at, channel_at, item_count, is_closed, is_made, stands, stands_at}
 use Rattle.gt_rules.specs.Operations.{operation, offers, receives_from, sends_to}
-use Rattle.gt_rules.specs.Panics.{fault, fault_at, when, or_else, open_fault, panic_of, panic_at}
+use Rattle.gt_rules.specs.Panics.{fault, fault_at, when, or_else, open_fault, panic_at}
 use Rattle.gt_rules.specs.Ready.{is_firm, is_firm_in, is_ready_at, is_ready_instr, is_ready_case, is_ready_alone, is_ready_recv, has_partner, partner_waits, no_timer}
-use Rattle.gt_rules.specs.Legal.{Does, operation_at}
+use Rattle.gt_rules.specs.Legal.{operation_at}
 use Rattle.gt_rules.specs.After.{in_mode}
 use Rattle.gt_schedule.specs.Schedule.{Schedule, plainly, object_of}
 use Rattle.gt_facts.proofs.Still.{panic_stands}

@@ -1,7 +1,7 @@
 -- Every change keeps a schedule that fits its state.
-use Rattle.std.proofs.Common.{◌≡◌, ◌≢◌, ℕ, zero, suc, ◌+◌, ◌<◌, ◌≤◌, List, [], ◌∷◌, ◌++◌, replicate, length, map, drop, refl, sym, ap, subst, ◌∙◌, arith, slice_get, Option, None, Some, Bool, true, false, ◌&&◌, ◌||◌, eqb, IsTrue, inl, inr}
+use Rattle.std.proofs.Common.{◌≡◌, ◌≢◌, ℕ, zero, suc, ◌+◌, ◌<◌, ◌≤◌, List, [], ◌∷◌, ◌++◌, length, drop, refl, sym, ap, subst, ◌∙◌, arith, slice_get, Option, None, Some, Bool, true, false, ◌&&◌, ◌||◌, eqb, IsTrue, inl, inr}
 use Rattle.std.proofs.lemmas.Bool.{cases_eq, cases_lt, eq-eqb, ne_eqb}
-use Rattle.std.proofs.lemmas.List.{get_or_past, length-set, length-replicate}
+use Rattle.std.proofs.lemmas.List.{get_or_past, length-replicate}
 use Rattle.std.proofs.Math.ListN.{length-append}
 use Rattle.gt_model.specs.declared.script.Script.{Script}
 use Rattle.gt_model.specs.declared.script.Instr.{Instr}
@@ -22,9 +22,9 @@ use Rattle.gt_rules.specs.declared.change.Start.{Start}
 use Rattle.gt_facts.proofs.Lookups.{Standing, standing, Asleep}
 use Rattle.gt_schedule.specs.declared.status.RunStatus.{RunStatus}
 use Rattle.gt_schedule.specs.Counts.{as_number, times, is_party, often}
-use Rattle.gt_schedule.specs.Schedule.{Schedule, first_schedule, plainly, status_of, is_queued, is_in_hand, is_parked, parties_at, without_goroutine, joins, taken, parked_at, unparked, with_new, gone_on, turned, moved_by, begun_by, rescheduled, scheduled, object_of, MayMove, ServedBy, ServedIn, Served}
+use Rattle.gt_schedule.specs.Schedule.{Schedule, first_schedule, plainly, status_of, is_queued, is_in_hand, is_parked, parties_at, joins, taken, parked_at, unparked, with_new, gone_on, turned, moved_by, begun_by, rescheduled, scheduled, object_of, MayMove, ServedBy, ServedIn, Served}
 use Rattle.gt_schedule.specs.Scheduler.{IsOrderly}
-use Rattle.gt_schedule.proofs.Lists.{times-one_other, times-push_same, times-push_other, times-first_same, times-first_other, is_party-other, often-push, often-first, parties-joins_same, nobody-there, length-joins, length-left, often-joins_elsewhere, often-joins_other, often-left_same, often-left_other}
+use Rattle.gt_schedule.proofs.Lists.{times-one_other, times-push_same, times-push_other, times-first_same, times-first_other, often-push, often-first, parties-joins_same, nobody-there, length-joins, length-left, often-joins_elsewhere, often-joins_other, often-left_same, often-left_other}
 use Rattle.gt_schedule.proofs.Counting.{Parking, status-parked}
 use Rattle.gt_schedule.proofs.Moving.{first-queued}
 use Rattle.gt_book.specs.View.{Agrees, is_waiting, is_at, is_parked_at, Fits}

@@ -1,5 +1,5 @@
 -- A book whose schedule changes, and one that ends, keep what a book keeps; what a goroutine in hand does may come.
-use Rattle.std.proofs.Common.{◌≡◌, ◌≢◌, ℕ, ◌+◌, ◌<◌, nat_lt, cond, List, [], ◌∷◌, refl, sym, ap, subst, ◌∙◌, arith, Option, None, Some, IfSome, IfNone, length, is_some, is_none, IsSome, slice_get, Bool, true, false, not, ◌||◌, IsTrue, zero, suc}
+use Rattle.std.proofs.Common.{◌≡◌, ◌≢◌, ℕ, ◌+◌, ◌<◌, nat_lt, cond, List, [], ◌∷◌, refl, sym, ap, subst, ◌∙◌, arith, Option, None, Some, IfSome, IfNone, length, is_some, IsSome, slice_get, Bool, true, false, not, ◌||◌, IsTrue, zero, suc}
 use Rattle.std.proofs.lemmas.Bool.{ltb-true}
 use Rattle.gt_model.specs.declared.script.Script.{Script}
 use Rattle.gt_model.specs.declared.script.Instr.{Instr}
@@ -11,7 +11,7 @@ use Rattle.gt_model.specs.declared.entry.Party.{Party}
 use Rattle.gt_model.specs.declared.entry.Reason.{Reason}
 use Rattle.gt_model.specs.declared.state.Goroutine.{Goroutine}
 use Rattle.gt_model.specs.declared.state.Mode.{Mode}
-use Rattle.gt_rules.specs.State.{State, goroutine_at, timer_at, channel_at, stands, stands_at, clock_of, sleeps_until, items_of, item_count, is_open, is_closed}
+use Rattle.gt_rules.specs.State.{State, timer_at, channel_at, stands, stands_at, clock_of, sleeps_until, items_of, item_count, is_open, is_closed}
 use Rattle.gt_model.specs.Script.{instr_at, code_of, what_at, is_chan, capacity_of, names_timer, names_chan}
 use Rattle.gt_model.proofs.Declared.{declared_within, chan_declared}
 use Rattle.gt_model.proofs.Items.{numbered-change_other}
@@ -25,7 +25,6 @@ use Rattle.gt_facts.specs.Formed.{IsFormed, IsPlacedIn}
 use Rattle.gt_facts.proofs.Formed.{formed-finish}
 use Rattle.gt_facts.proofs.Lookups.{names-Does, does-Operates}
 use Rattle.gt_book.specs.declared.book.Book.TheInside.{Inside}
-use Rattle.gt_machine.specs.declared.machine.Machine.{Machine}
 use Rattle.gt_schedule.specs.declared.scheduler.Scheduler.{Scheduler}
 use Rattle.gt_schedule.specs.declared.status.RunStatus.{RunStatus}
 use Rattle.gt_book.specs.declared.step.Step.{Step}
@@ -41,7 +40,6 @@ use Rattle.gt_book.specs.Book.{seen, IsKept}
 use Rattle.gt_book.specs.Calm.{IsCalm}
 use Rattle.gt_book.proofs.Calm.{CanPark, calm-taken}
 use Rattle.gt_book.proofs.Entering.{running-none, sound-more, sound-lawful, lawful-sound}
-use Rattle.gt_room.specs.Contents.{Contents}
 use Rattle.gt_book.specs.declared.run.Run.{Run}
 use Rattle.gt_book.proofs.Books.{Finished, seen-finished, finished-rooms}
 use Rattle.gt_book.proofs.Fitting.{Known, known, fits-taken, fits-changed}

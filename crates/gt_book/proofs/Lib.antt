@@ -15,3 +15,4 @@ pub mod Passing
 pub mod Committing
 pub mod Idling
 pub mod Setting
+pub mod Parking

@@ -1,5 +1,5 @@
 -- What a goroutine in hand meets at a channel: a partner that is parked there, which stands at its operation without a misuse, or nobody.
-use Rattle.std.proofs.Common.{◌≡◌, ◌≢◌, ℕ, zero, suc, ◌<◌, ◌==◌, nat_lt, cond, List, [], ◌∷◌, length, slice_get, refl, sym, ap, subst, ◌∙◌, Option, None, Some, Bool, true, false, not, ◌&&◌, ◌||◌, is_some, IsTrue}
+use Rattle.std.proofs.Common.{◌≡◌, ◌≢◌, ℕ, ◌<◌, ◌==◌, nat_lt, cond, List, [], ◌∷◌, length, slice_get, refl, sym, ap, ◌∙◌, Option, None, Some, Bool, true, false, not, ◌&&◌, is_some, IsTrue}
 use Rattle.std.proofs.lemmas.Bool.{eqb-true, and_parts, and_from}
 use Rattle.std.specs.Option.{option_map}
 use Rattle.gt_model.specs.declared.script.Script.{Script}
@@ -15,7 +15,7 @@ use Rattle.gt_rules.specs.State.{State, Channel, channel_at, stands_at, until_of
 use Rattle.gt_rules.specs.Operations.{operation, offers, receives_from, sends_to}
 use Rattle.gt_rules.specs.Legal.{Operates, operation_at}
 use Rattle.gt_rules.specs.Panics.{fault}
-use Rattle.gt_rules.specs.Ready.{is_ready_recv, is_ready_alone, has_partner, partner_waits, no_timer}
+use Rattle.gt_rules.specs.Ready.{is_ready_recv, has_partner, partner_waits, no_timer}
 use Rattle.gt_facts.proofs.Lookups.{Standing, standing, AtOperation, at_operation, stands_send}
 use Rattle.gt_facts.proofs.Partners.{Partner, partner}
 use Rattle.gt_schedule.specs.declared.status.RunStatus.{RunStatus}
@@ -25,7 +25,7 @@ use Rattle.gt_book.specs.Steps.{partner_in, value_of, recv_by, send_by, step_of_
 use Rattle.gt_book.specs.View.{is_waiting, is_at, is_parked_at, Fits}
 use Rattle.gt_book.specs.Calm.{IsCalm}
 use Rattle.gt_book.proofs.Fitting.{first-waiting, first-sending, none-waiting, none-sending}
-use Rattle.gt_book.proofs.Firm.{IsOpenChannel, open-fault, firm-stood, firm-fault, stood, has_fault, no-reason, calm-standing, both-false, unless-true, never-both}
+use Rattle.gt_book.proofs.Firm.{IsOpenChannel, open-fault, firm-stood, firm-fault, has_fault, no-reason, calm-standing, both-false, unless-true, never-both}
 
 -- ---- a step at a channel makes an entry or parks; one at a timer waits
 

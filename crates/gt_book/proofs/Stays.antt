@@ -6,9 +6,9 @@ use Rattle.gt_model.specs.declared.entry.Entry.{Entry}
 use Rattle.gt_model.specs.declared.state.Timer.{Timer}
 use Rattle.gt_model.specs.Good.{IsGood}
 use Rattle.gt_model.specs.Tables.{at, change}
-use Rattle.gt_rules.specs.State.{State, Channel, timer_at, channel_at, is_closed, world_of}
-use Rattle.gt_rules.specs.After.{after, changed, set_due, set_again, with_retimed, with_traded, with_items, shut, traded, number_of}
-use Rattle.gt_rules.specs.Change.{Change, change_of}
+use Rattle.gt_rules.specs.State.{State, Channel, channel_at, is_closed, world_of}
+use Rattle.gt_rules.specs.After.{after, set_due, set_again, with_retimed, with_traded, with_items, shut, traded, number_of}
+use Rattle.gt_rules.specs.Change.{change_of}
 use Rattle.gt_rules.specs.Legal.{May}
 use Rattle.gt_rules.specs.declared.change.Move.{Move}
 use Rattle.gt_rules.specs.declared.change.Setting.{Setting}

@@ -1,5 +1,5 @@
 -- Who goes on at a channel, of those that wait there: each entry may come and is of one that is firmly ready; where there is none, nobody parked is.
-use Rattle.std.proofs.Common.{◌≡◌, ℕ, zero, suc, ◌+◌, ◌-◌, ◌<◌, ◌≤◌, List, [], ◌∷◌, ◌++◌, length, slice_get, nat_lt, eqb, refl, sym, ap, subst, ◌∙◌, arith, Option, None, Some, Bool, true, false, not, ◌&&◌, ◌||◌, is_some, is_none, IsTrue, ◌⊎◌, inl, inr}
+use Rattle.std.proofs.Common.{◌≡◌, ℕ, ◌+◌, ◌-◌, ◌<◌, List, [], ◌∷◌, ◌++◌, length, slice_get, nat_lt, eqb, refl, sym, ap, subst, ◌∙◌, arith, Option, None, Some, Bool, true, false, not, ◌||◌, is_some, is_none, IsTrue, ◌⊎◌, inl, inr}
 use Rattle.std.proofs.lemmas.Bool.{eqb-true, eq-eqb, ltb-true, and_parts}
 use Rattle.gt_model.specs.declared.script.Script.{Script}
 use Rattle.gt_model.specs.declared.script.Instr.{Instr}
@@ -11,19 +11,19 @@ use Rattle.gt_model.specs.declared.entry.Limits.{Limits}
 use Rattle.gt_model.specs.declared.entry.Outcome.{Outcome}
 use Rattle.gt_model.specs.declared.entry.Reason.{Reason}
 use Rattle.gt_model.specs.Good.{IsGood}
-use Rattle.gt_model.specs.Script.{what_at, is_chan, names_chan, capacity_of}
+use Rattle.gt_model.specs.Script.{what_at, is_chan, capacity_of}
 use Rattle.gt_model.proofs.Declared.{chan_declared}
-use Rattle.gt_rules.specs.State.{State, Channel, goroutine_at, channel_at, items_of, item_count, is_closed, is_open, is_made, stands_at}
+use Rattle.gt_rules.specs.State.{State, Channel, goroutine_at, channel_at, items_of, item_count, is_closed, is_made, stands_at}
 use Rattle.gt_rules.specs.Operations.{operation, receives_from, sends_to}
-use Rattle.gt_rules.specs.Panics.{fault, fault_at, when, or_else, open_fault, panic_at}
-use Rattle.gt_rules.specs.Ready.{is_ready_alone, is_ready_recv, is_ready_at, is_ready_instr, has_partner, no_timer}
-use Rattle.gt_rules.specs.Legal.{May, Operates, Gives, operation_at}
+use Rattle.gt_rules.specs.Panics.{fault, when, or_else, open_fault, panic_at}
+use Rattle.gt_rules.specs.Ready.{is_ready_alone, is_ready_recv, has_partner, no_timer}
+use Rattle.gt_rules.specs.Legal.{May, Gives, operation_at}
 use Rattle.gt_rules.specs.Finish.{IsRunning}
 use Rattle.gt_rules.specs.History.{AllLegal, state_after}
 use Rattle.gt_rules.specs.After.{after}
 use Rattle.gt_rules.specs.declared.change.Trade.{Trade}
 use Rattle.gt_rules.specs.Change.{change_of, takes}
-use Rattle.gt_facts.specs.Formed.{IsFormed, IsFormedChannel}
+use Rattle.gt_facts.specs.Formed.{IsFormed}
 use Rattle.gt_facts.proofs.Lookups.{AtOperation, at_operation, is_recv, is_send, is_plain}
 use Rattle.gt_facts.proofs.Makers.{gives-ready}
 use Rattle.gt_machine.specs.Machine.{state_of}
@@ -37,9 +37,9 @@ use Rattle.gt_book.specs.Woken.{receiver_goes, sender_goes, or_next, woken_recei
 use Rattle.gt_book.specs.Calm.{IsCalm, IsCalmBut}
 use Rattle.gt_book.specs.declared.book.Book.TheInside.{Inside}
 use Rattle.gt_book.specs.Book.{seen, IsKept}
-use Rattle.gt_book.specs.Run.{seen_of, IsUnderWay, IsKeptRun, CanMake, Makes, CanWake, Wakes, CanEnter, Entered, Ends}
-use Rattle.gt_book.specs.View.{BookView, Fits, AreWoken, NoneFirm, Enters, is_waiting, is_at, is_parked_at, is_firm_at, with_entries, finish_due, outcome_of}
-use Rattle.gt_book.proofs.Firm.{firm_on, stood, firm-stood, never-both, unless-true, both-false, or-false, panic-standing, calm-standing, IsOpenChannel, open-no_fault}
+use Rattle.gt_book.specs.Run.{seen_of, CanMake, Makes, CanWake, Wakes, CanEnter, Entered, Ends}
+use Rattle.gt_book.specs.View.{BookView, Fits, AreWoken, Enters, is_waiting, is_at, is_parked_at, is_firm_at, with_entries, finish_due, outcome_of}
+use Rattle.gt_book.proofs.Firm.{firm_on, firm-stood, both-false, panic-standing, calm-standing, open-no_fault}
 use Rattle.gt_book.proofs.Fitting.{first-waiting, first-sending}
 use Rattle.gt_book.proofs.Stays.{trades_at}
 use Rattle.gt_book.proofs.Calm.{plain-firm, calm-but, calm-entered, calm_but-again}

@@ -1,12 +1,10 @@
 -- What is seen of a run, what it keeps while it goes on, and what its steps need and do.
 use Rattle.std.specs.Prelude.{ℕ, ◌+◌, ◌≤◌, ◌≡◌, ◌==◌, is_some, List, [], ◌∷◌, length}
-use Rattle.std.specs.declared.option.Option.{Option}
-use Rattle.std.specs.declared.option.Option.TheVariants.{None, Some}
+use Rattle.std.specs.declared.option.Option.TheVariants.{None}
 use Rattle.gt_model.specs.declared.script.Script.{Script}
 use Rattle.gt_model.specs.declared.entry.Entry.{Entry}
 use Rattle.gt_model.specs.declared.entry.Limits.{Limits}
 use Rattle.gt_model.specs.Good.{IsGood, AreLimits}
-use Rattle.gt_rules.specs.State.{State}
 use Rattle.gt_rules.specs.After.{after, first_state}
 use Rattle.gt_rules.specs.Legal.{May}
 use Rattle.gt_rules.specs.Finish.{IsRunning}

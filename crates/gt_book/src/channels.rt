@@ -44,7 +44,13 @@ fn value_of(machine: &Machine, script: &Script, p: Party) -> u32
 }
 
 /// What a receive from a channel is for goroutine `g`.
-pub fn step_of_recv(machine: &Machine, scheduler: &Scheduler, script: &Script, g: u32, c: u32) -> Step
+pub fn step_of_recv(
+    machine: &Machine,
+    scheduler: &Scheduler,
+    script: &Script,
+    g: u32,
+    c: u32,
+) -> Step
     requires kept { IsScheduler scheduler.now }
     requires declared { c < length (schedule_of scheduler.now).senders }
     ensures { result ≡ steps.recv_by script.now (state_of machine.now) g c (at.items_of (state_of machine.now) c) (at.is_closed (state_of machine.now) c)
@@ -67,7 +73,14 @@ pub fn step_of_recv(machine: &Machine, scheduler: &Scheduler, script: &Script, g
 }
 
 /// What a send to an open channel is for goroutine `g`.
-pub fn step_of_send(machine: &Machine, scheduler: &Scheduler, script: &Script, g: u32, c: u32, v: u32) -> Step
+pub fn step_of_send(
+    machine: &Machine,
+    scheduler: &Scheduler,
+    script: &Script,
+    g: u32,
+    c: u32,
+    v: u32,
+) -> Step
     requires kept { IsScheduler scheduler.now }
     requires declared { c < length (schedule_of scheduler.now).receivers }
     ensures { result ≡ steps.send_by g c v (nat_lt (at.item_count (state_of machine.now) c) (declared.capacity_of script.now c))
@@ -105,16 +118,28 @@ fn woken_sender(machine: &Machine, scheduler: &Scheduler, script: &Script, c: u3
 {
     let p = scheduler.first_sender(c)?;
     if machine.is_closed(c) {
-        return Some(Entry::Panic { p, reason: Reason::Closed });
+        return Some(Entry::Panic {
+            p,
+            reason: Reason::Closed,
+        });
     }
     if machine.has_room(script, c) {
-        return Some(Entry::Send { p, c, v: value_of(machine, script, p) });
+        return Some(Entry::Send {
+            p,
+            c,
+            v: value_of(machine, script, p),
+        });
     }
     None
 }
 
 /// The entry of the one that goes on next at a channel, of those that wait there; None where none can.
-pub fn next_woken(machine: &Machine, scheduler: &Scheduler, script: &Script, c: u32) -> Option<Entry>
+pub fn next_woken(
+    machine: &Machine,
+    scheduler: &Scheduler,
+    script: &Script,
+    c: u32,
+) -> Option<Entry>
     requires kept { IsScheduler scheduler.now }
     requires receivers { c < length (schedule_of scheduler.now).receivers }
     requires senders { c < length (schedule_of scheduler.now).senders }

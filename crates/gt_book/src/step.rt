@@ -30,7 +30,13 @@ pub enum Step {
 }
 
 /// What an instruction without misuse is for goroutine `g`.
-fn step_of_instr(machine: &Machine, scheduler: &Scheduler, script: &Script, g: u32, instr: &Instr) -> Step
+fn step_of_instr(
+    machine: &Machine,
+    scheduler: &Scheduler,
+    script: &Script,
+    g: u32,
+    instr: &Instr,
+) -> Step
     requires world { at.world_of (state_of machine.now) g < length machine.now.clocks.items }
     requires few { length machine.now.goroutines.items < 2 ^ 32 - 1 }
     requires lists { HasLists script.now scheduler.now }

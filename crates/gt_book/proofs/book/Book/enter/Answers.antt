@@ -1,5 +1,5 @@
 use Rattle.std.proofs.Common.{subst}
-use Rattle.gt_book.specs.Run.{CanEnter, CanEnd}
+use Rattle.gt_book.specs.Run.{CanEnd}
 use Rattle.gt_book.specs.View.{Enters}
 use Rattle.gt_book.specs.Book.{seen}
 use Rattle.gt_book.proofs.Waking.{can_enter-seen, kept-ends, enters-ends}

@@ -1,6 +1,4 @@
-use Rattle.std.proofs.Common.{◌≡◌, ◌∙◌, sym, Some, None}
-use Rattle.gt_rules.specs.Change.{change_of}
-use Rattle.gt_book.specs.Run.{Makes}
+use Rattle.std.proofs.Common.{◌∙◌, sym}
 use Rattle.gt_book.proofs.Waking.{entered-alone, entered-woken, can-wake}
 use Rattle.gt_book.proofs.run.Run.enter.Goals as goal
 

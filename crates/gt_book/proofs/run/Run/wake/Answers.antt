@@ -1,10 +1,9 @@
-use Rattle.std.proofs.Common.{rules, ◌≡◌, ◌∙◌, sym, Some, None, Option, is_some, not, true, false}
-use Rattle.gt_model.specs.declared.entry.Outcome.{Outcome}
+use Rattle.std.proofs.Common.{◌≡◌, ◌∙◌, sym, Some, None}
 use Rattle.gt_machine.specs.Machine.{state_of}
 use Rattle.gt_machine.specs.Outcomes.{due_outcome}
 use Rattle.gt_schedule.specs.Scheduler.{schedule_of}
 use Rattle.gt_book.specs.Woken.{next_woken}
-use Rattle.gt_book.specs.Run.{CanMake, Makes}
+use Rattle.gt_book.specs.Run.{CanMake}
 use Rattle.gt_book.proofs.Waking.{waking-first, waking-lists, waking-can, waking-more, waking-less, wakes-none, wakes-due, none-due, some-due}
 use Rattle.gt_book.proofs.run.Run.wake.Goals as goal
 
@@ -25,9 +24,11 @@ returns-in_default c =
     wakes-none c.args.script.now c.args.limits c.args.self.now c.loop-limits.self c.args.c c.loop-limits.invariant (sym c.next_woken.ensures ∙ c.in_default.is)
 
 pub make-requires : goal.make-requires
-make-requires c =
-    (c.args.limits, waking-can c.args.script.now c.args.limits c.args.self.now c.loop-limits.self c.args.c c.in-Some.entry c.loop-limits.invariant (sym c.next_woken.ensures ∙ c.in-Some.is)
-    (none-due c.args.limits c.loop-limits.self c.due_outcome.result c.is_none.result c.due_outcome.ensures c.is_none.ensures c.loop-limits-test.true))
+make-requires c = (
+  c.args.limits,
+  waking-can c.args.script.now c.args.limits c.args.self.now c.loop-limits.self c.args.c c.in-Some.entry c.loop-limits.invariant (sym c.next_woken.ensures ∙ c.in-Some.is)
+      (none-due c.args.limits c.loop-limits.self c.due_outcome.result c.is_none.result c.due_outcome.ensures c.is_none.ensures c.loop-limits-test.true),
+)
 
 pub loop-limits-smaller : goal.loop-limits-smaller
 loop-limits-smaller c =
