@@ -1,5 +1,5 @@
--- What a change by an entry leaves of due times, periods, the program's clock, marks and statuses.
-use Rattle.std.proofs.Common.{◌≡◌, ◌≢◌, inl, inr, ℕ, zero, suc, ◌+◌, ◌-◌, ◌<◌, ◌==◌, ◌||◌, cond, List, [], ◌∷◌, ◌++◌, length, set, refl, sym, ap, subst, ◌∙◌, Option, None, Some, Bool, true, false, IsSome, IfSome, is_some, is_none, nat_lt, slice_index, option_map}
+-- What a change by an entry leaves of due times, periods, the program's clock and marks.
+use Rattle.std.proofs.Common.{◌≡◌, ◌≢◌, inl, inr, ℕ, zero, suc, ◌+◌, ◌-◌, ◌<◌, ◌==◌, cond, List, [], ◌∷◌, ◌++◌, length, set, refl, sym, ap, subst, ◌∙◌, Option, None, Some, Bool, true, false, IfSome, is_some, nat_lt, slice_index, option_map}
 use Rattle.std.proofs.lemmas.Bool.{cases_eq, eq-eqb, ne_eqb}
 use Rattle.gt_model.specs.declared.script.Script.{Script}
 use Rattle.gt_model.specs.declared.entry.Entry.{Entry}
@@ -9,50 +9,78 @@ use Rattle.gt_model.specs.declared.state.Goroutine.{Goroutine}
 use Rattle.gt_model.specs.declared.state.Mode.{Mode}
 use Rattle.gt_model.specs.declared.state.Timer.{Timer}
 use Rattle.gt_model.specs.Good.{IsGood}
-use Rattle.gt_model.specs.Script.{instr_at}
 use Rattle.gt_model.specs.Tables.{numbered, at, change_numbered}
-use Rattle.gt_model.proofs.Items.{at-set_same, at-set_other, at-change_same, at-change_other, numbered-change_same, numbered-change_other, numbered-push_same, numbered-push_other, numbered-next, HasNumber}
+use Rattle.gt_model.proofs.Items.{at-set_same, at-set_other, at-change_same, at-change_other, numbered-change_same, numbered-change_other, numbered-push_same, numbered-push_other, numbered-next, HasNumber, has_number}
 use Rattle.gt_rules.specs.State.{State, goroutine_at, timer_at, due_of, sleeps_until, until_of, clock}
 use Rattle.gt_rules.specs.After.{after, changed, moved, set_due, set_again, with_mover, with_starts, started_by, with_retimed, with_clock, retimed}
-use Rattle.gt_rules.specs.Change.{Change, change_of, on, ending_with}
+use Rattle.gt_rules.specs.Change.{Change, change_of}
 use Rattle.gt_rules.specs.Finish.{Legal}
 use Rattle.gt_rules.specs.History.{state_after}
-use Rattle.gt_rules.specs.Panics.{fault}
-use Rattle.gt_rules.specs.Ready.{is_firm, goes_on}
+use Rattle.gt_rules.specs.Ready.{is_firm, is_firm_in}
 use Rattle.gt_rules.specs.declared.change.Move.{Move}
 use Rattle.gt_rules.specs.declared.change.Setting.{Setting}
 use Rattle.gt_rules.specs.declared.change.Start.{Start}
 use Rattle.gt_facts.specs.Formed.{IsFormed}
+use Rattle.gt_facts.proofs.Formed.{length-mover}
 use Rattle.gt_facts.proofs.Fits.{IsLive, FitsTimer, Fits, fits-Legal}
 use Rattle.gt_book.proofs.Passing.{enters-script}
-use Rattle.gt_schedule.specs.declared.status.RunStatus.{RunStatus}
-use Rattle.gt_schedule.proofs.Counting.{Parking, status-parked}
-use Rattle.gt_book.proofs.Fitting.{has_status}
-use Rattle.gt_schedule.specs.Schedule.{Schedule, status_of, is_parked, scheduled, rescheduled, schedule_after, marks_at, with_new, begun_by, gone_on, turned, moved_by}
-use Rattle.gt_book.specs.View.{BookView, Enters, AreWoken, IsLawful, finish_by, finish_due, is_firm_at}
+use Rattle.gt_schedule.specs.Schedule.{Schedule, status_of, is_parked, scheduled, schedule_after, marks_at, with_new, begun_by, gone_on, turned, moved_by}
+use Rattle.gt_book.specs.View.{BookView, Enters, AreWoken, IsLawful, finish_by, finish_due, is_waiting, is_firm_at}
 use Rattle.gt_machine.specs.Outcomes.{due_outcome}
 use Rattle.gt_rows.specs.Agrees.{due_by, period_by}
-use Rattle.gt_rows.specs.Frames.{until_after, timer_touched, sleep_touched, touched, timer_period_touched, period_touched, clock_touched, status_turned, IsUnmoved, StaysOrRuns}
+use Rattle.gt_rows.specs.Frames.{until_after, timer_touched, sleep_touched, touched, timer_period_touched, period_touched, clock_touched}
 
 -- ---- the entries of goroutines that are woken
-
--- an entry of a goroutine that is woken is a mere move of one that was parked and firmly ready
-record IsWoken (script : Script) (s : State) (m : Schedule) (e : Entry) : Type 0 where
-  g : ℕ
-  change : change_of e ≡ on g
-  parked : is_parked (status_of m g) ≡ true
-  firm : is_firm_at script s g ≡ true
 
 same-cond : {X : Type 0} (b : Bool) (x : X) → cond b x x ≡ x
 same-cond true x = refl
 same-cond false x = refl
 
+-- who goes on, or panics
+abbrev IsAwake : Move → Type 0
+IsAwake (Move.GoesOn case_no) = Unit {0}
+IsAwake (Move.FallsAsleep until) = ⊥
+IsAwake Move.Ends = ⊥
+IsAwake Move.Panics = Unit {0}
+
+-- an entry of a goroutine that is woken: one that was parked and firmly ready goes on or panics, alone, and no timer and no clock changes
+record IsWoken (script : Script) (s : State) (m : Schedule) (e : Entry) : Type 0 where
+  g : ℕ
+  move : Move
+  awake : IsAwake move
+  mover : (change_of e).mover ≡ Some (g, move)
+  partner : (change_of e).partner ≡ None
+  timer : (change_of e).timer ≡ None
+  starts : (change_of e).starts ≡ []
+  clock : (change_of e).clock ≡ None
+  parked : is_waiting m g ≡ true
+  firm : is_firm_at script s m g ≡ true
+
+woken-goes : (script : Script) (s : State) (m : Schedule) (e : Entry) (g : ℕ) (move : Move) → IsAwake move → (change_of e).mover ≡ Some (g, move) → (change_of e).partner ≡ None
+    → (change_of e).timer ≡ None → (change_of e).starts ≡ [] → (change_of e).clock ≡ None → (is_waiting m g ≡ true) × (is_firm_at script s m g ≡ true) → IsWoken script s m e
+woken-goes script s m e g move awake mover partner timer starts clock woken = record {
+  g = g;
+  move = move;
+  awake = awake;
+  mover = mover;
+  partner = partner;
+  timer = timer;
+  starts = starts;
+  clock = clock;
+  parked = woken.0;
+  firm = woken.1;
+}
+
 woken-is : (script : Script) (s : State) (m : Schedule) (e : Entry) (h : List Entry) → AreWoken script s m (e ∷ h) → IsWoken script s m e
-woken-is script s m (Entry.Say g n) h woken = record { g = g; change = refl; parked = woken.0.0; firm = woken.0.1 }
-woken-is script s m (Entry.Now g now) h woken = record { g = g; change = refl; parked = woken.0.0; firm = woken.0.1 }
-woken-is script s m (Entry.End g) h woken = let none = rw (same-cond {X = Option ℕ} (is_none (ending_with g)) None) at woken in absurd none.0
-woken-is script s m (Entry.Sleep g None) h woken = record { g = g; change = refl; parked = woken.0.0; firm = woken.0.1 }
-woken-is script s m (Entry.Wake g) h woken = record { g = g; change = refl; parked = woken.0.0; firm = woken.0.1 }
+woken-is script s m (Entry.Say g n) h woken = woken-goes script s m _ g (Move.GoesOn 0) tt refl refl refl refl refl woken.0
+woken-is script s m (Entry.Now g now) h woken = woken-goes script s m _ g (Move.GoesOn 0) tt refl refl refl refl refl woken.0
+woken-is script s m (Entry.Sleep g None) h woken = woken-goes script s m _ g (Move.GoesOn 0) tt refl refl refl refl refl woken.0
+woken-is script s m (Entry.Wake g) h woken = woken-goes script s m _ g (Move.GoesOn 0) tt refl refl refl refl refl woken.0
+woken-is script s m (Entry.Make g c) h woken = woken-goes script s m _ g (Move.GoesOn 0) tt refl refl refl refl refl woken.0
+woken-is script s m (Entry.Send p c v) h woken = woken-goes script s m _ p.g (Move.GoesOn p.case_no) tt refl refl refl refl refl woken.0
+woken-is script s m (Entry.Recv p c v) h woken = woken-goes script s m _ p.g (Move.GoesOn p.case_no) tt refl refl refl refl refl woken.0
+woken-is script s m (Entry.Close g c) h woken = woken-goes script s m _ g (Move.GoesOn 0) tt refl refl refl refl refl woken.0
+woken-is script s m (Entry.Panic p reason) h woken = woken-goes script s m _ p.g Move.Panics tt refl refl refl refl refl woken.0
 woken-is script s m _ h woken = absurd woken.0
 
 -- what neither such an entry nor a finish changes
@@ -84,9 +112,6 @@ enters-frame old e new F frame enters =
     ∙ (frame-finish old.script F frame last (due_outcome old.limits last)
     ∙ frame-woken old.script F frame first (scheduled old.schedule e) enters.woken enters.each_woken))
 
-after-woken : (script : Script) (s : State) (m : Schedule) (e : Entry) (w : IsWoken script s m e) → after script s e ≡ changed script s (on w.g)
-after-woken script s m e w = ap (changed script s) w.change
-
 -- ---- sleeps
 
 abbrev asleep : Option Goroutine → Option ℕ
@@ -96,10 +121,11 @@ abbrev MoverIsThere : List Goroutine → Option (ℕ × Move) → Type 0
 MoverIsThere gs None = Unit {0}
 MoverIsThere gs (Some x) = HasNumber gs x.0
 
-asleep-move : (script : Script) (move : Move) (r : Goroutine) → asleep (Some (moved script move r)) ≡ until_after move
+asleep-move : (script : Script) (move : Move) (r : Goroutine) → asleep (Some (moved script move r)) ≡ until_after move (asleep (Some r))
 asleep-move script (Move.GoesOn n) r = refl
 asleep-move script (Move.FallsAsleep until) r = refl
 asleep-move script Move.Ends r = refl
+asleep-move script Move.Panics r = refl
 
 asleep-moved : (script : Script) (gs : List Goroutine) (o : Option (ℕ × Move)) (h : ℕ) → MoverIsThere gs o
     → asleep (numbered (with_mover script gs o) h) ≡ sleep_touched o h (asleep (numbered gs h))
@@ -107,13 +133,22 @@ asleep-moved script gs None h there = refl
 asleep-moved script gs (Some x) h there =
     elim (cases_eq h x.0) [
       | inl is ↦
+          let before : numbered gs h ≡ Some there.item = ap (numbered gs) is ∙ there.there in
           let now : numbered (change_numbered gs x.0 (moved script x.1)) h ≡ Some (moved script x.1 there.item) =
           ap (numbered (change_numbered gs x.0 (moved script x.1))) is ∙ numbered-change_same gs x.0 (moved script x.1) there.item there.there in
-          ap asleep now ∙ (asleep-move script x.1 there.item ∙ ap (λ b. cond b (until_after x.1) (asleep (numbered gs h))) (sym (eq-eqb h x.0 is)))
+          ap asleep now
+          ∙ (asleep-move script x.1 there.item
+          ∙ (ap (λ o. until_after x.1 (asleep o)) (sym before)
+          ∙ ap (λ b. cond b (until_after x.1 (asleep (numbered gs h))) (asleep (numbered gs h))) (sym (eq-eqb h x.0 is))))
       | inr other ↦
           ap asleep (numbered-change_other gs x.0 h (moved script x.1) other)
-          ∙ ap (λ b. cond b (until_after x.1) (asleep (numbered gs h))) (sym (ne_eqb h x.0 other))
+          ∙ ap (λ b. cond b (until_after x.1 (asleep (numbered gs h))) (asleep (numbered gs h))) (sym (ne_eqb h x.0 other))
     ]
+
+-- who is there is there after another one has moved
+there-still : (script : Script) (gs : List Goroutine) (o p : Option (ℕ × Move)) → MoverIsThere gs p → MoverIsThere (with_mover script gs o) p
+there-still script gs o None there = tt
+there-still script gs o (Some x) there = has_number gs (with_mover script gs o) x.0 there.item (sym (length-mover script gs o)) there.there
 
 awake-begun : (script : Script) (s : State) (x : Start) → asleep (Some (started_by script s x)) ≡ None
 awake-begun script s (Start.ByGoroutine g f) = refl
@@ -128,23 +163,24 @@ asleep-begun script s gs (x ∷ xs) h =
       | inr other ↦ ap asleep (numbered-push_other gs (started_by script s x) h other)
     ]
 
-sleeps-changed : (script : Script) (s : State) (c : Change) (h : ℕ) → MoverIsThere s.goroutines c.mover → sleeps_until (changed script s c) h ≡ sleep_touched c.mover h (sleeps_until s h)
-sleeps-changed script s c h there = asleep-begun script s (with_mover script s.goroutines c.mover) c.starts h ∙ asleep-moved script s.goroutines c.mover h there
+sleeps-changed : (script : Script) (s : State) (c : Change) (h : ℕ) → MoverIsThere s.goroutines c.mover → MoverIsThere s.goroutines c.partner
+    → sleeps_until (changed script s c) h ≡ sleep_touched c.partner h (sleep_touched c.mover h (sleeps_until s h))
+sleeps-changed script s c h there partner =
+    asleep-begun script s (with_mover script (with_mover script s.goroutines c.mover) c.partner) c.starts h
+    ∙ (asleep-moved script (with_mover script s.goroutines c.mover) c.partner h (there-still script s.goroutines c.mover c.partner partner)
+    ∙ ap (sleep_touched c.partner h) (asleep-moved script s.goroutines c.mover h there))
 
 -- who is firmly ready does not sleep
-firm-awake : (script : Script) (s : State) (g : ℕ) → is_firm_at script s g ≡ true → sleeps_until s g ≡ None
-firm-awake script s g firm =
-    elim (goroutine_at s g) as (λ o. (elim o as (λ o. Bool) [ None ↦ false | Some r ↦ is_firm script s r ]) ≡ true → asleep o ≡ None) [
+firm-mode : (script : Script) (s : State) (counts : ℕ → Bool) (g : ℕ) (r : Goroutine) (mode : Mode) → is_firm_in script s counts g r mode ≡ true → until_of mode ≡ None
+firm-mode script s counts g r Mode.At h = refl
+firm-mode script s counts g r (Mode.Sleeping until) h = cc
+firm-mode script s counts g r Mode.Ended h = refl
+
+firm-awake : (script : Script) (s : State) (m : Schedule) (g : ℕ) → is_firm_at script s m g ≡ true → sleeps_until s g ≡ None
+firm-awake script s m g firm =
+    elim (goroutine_at s g) as (λ o. (elim o as (λ o. Bool) [ None ↦ false | Some r ↦ is_firm script s (is_waiting m) g r ]) ≡ true → asleep o ≡ None) [
       | None ↦ λ h. refl
-      | Some r ↦ λ h.
-          elim r.mode as (λ mode. (elim mode as (λ mode. Bool) [
-            | Mode.At ↦ elim (instr_at script r.place) [ None ↦ false | Some i ↦ is_some (fault script s i) || goes_on i ]
-            | _ ↦ false
-          ]) ≡ true → until_of mode ≡ None) [
-            | Mode.At ↦ λ k. refl
-            | Mode.Sleeping until ↦ λ k. cc
-            | Mode.Ended ↦ λ k. refl
-          ] h
+      | Some r ↦ λ h. firm-mode script s (is_waiting m) g r r.mode h
     ] firm
 
 -- ---- due times and periods of timers
@@ -199,6 +235,7 @@ period_in o = elim o as (λ o. ℕ) [ None ↦ 0 | Some r ↦ r.period ]
 
 record TouchesRightly (s : State) (c : Change) : Type 0 where
   mover : MoverIsThere s.goroutines c.mover
+  partner : MoverIsThere s.goroutines c.partner
   setting : SettingIsRight s.timers c.timer
 
 goer-there : (s : State) (o : Option (ℕ × Move)) → IfSome o (λ (m : ℕ × Move). IsLive s m.0) → MoverIsThere s.goroutines o
@@ -213,8 +250,8 @@ setting-right s (Some (t, Setting.Ended next)) fits = fits
 
 touches-legal : (script : Script) (limits : Limits) (s : State) (e : Entry) → IsGood script → IsFormed script s → Legal script limits s e → TouchesRightly s (change_of e)
 touches-legal script limits s e good formed legal =
-    let fits : Fits s (change_of e) = fits-Legal script limits s e good formed legal in
-    record { mover = goer-there s (change_of e).mover fits.mover; setting = setting-right s (change_of e).timer fits.timer }
+    let fits : Fits script s (change_of e) = fits-Legal script limits s e good formed legal in
+    record { mover = goer-there s (change_of e).mover fits.mover; partner = goer-there s (change_of e).partner fits.partner; setting = setting-right s (change_of e).timer fits.timer }
 
 enters-touches : (old : BookView) (e : Entry) (new : BookView) → IsLawful old → Enters old e new → TouchesRightly old.state (change_of e)
 enters-touches old e new lawful enters = touches-legal old.script old.limits old.state e lawful.good lawful.formed enters.legal.0
@@ -234,9 +271,10 @@ dues-changed : (script : Script) (s : State) (c : Change) (id : ℕ) → Touches
 dues-changed script s c id right =
     let below : Bool = nat_lt id (length script.decls) in
     let g : ℕ = id - length script.decls in
-    cond-both below (due_of (changed script s c) id) (sleeps_until (changed script s c) g) (timer_touched c.timer id (due_of s id)) (sleep_touched c.mover g (sleeps_until s g))
-    (due-retimed script s c.mover s.timers c.timer id right.setting) (sleeps-changed script s c g right.mover)
-    ∙ cond-parts below (timer_touched c.timer id) (sleep_touched c.mover g) (due_of s id) (sleeps_until s g)
+    let both : Option ℕ → Option ℕ = λ before. sleep_touched c.partner g (sleep_touched c.mover g before) in
+    cond-both below (due_of (changed script s c) id) (sleeps_until (changed script s c) g) (timer_touched c.timer id (due_of s id)) (both (sleeps_until s g))
+    (due-retimed script s c.mover s.timers c.timer id right.setting) (sleeps-changed script s c g right.mover right.partner)
+    ∙ cond-parts below (timer_touched c.timer id) both (due_of s id) (sleeps_until s g)
 
 -- who goes on and did not sleep still does not
 sleep-goes_on : (g x : ℕ) (before : Option ℕ) → (g ≡ x → before ≡ None) → cond (g == x) None before ≡ before
@@ -246,24 +284,36 @@ sleep-goes_on g x before none =
       | inr other ↦ ap (λ b. cond b None before) (ne_eqb g x other)
     ]
 
-firm-there : (script : Script) (s : State) (g : ℕ) → is_firm_at script s g ≡ true → HasNumber s.goroutines g
-firm-there script s g firm =
-    elim (goroutine_at s g) as (λ o. goroutine_at s g ≡ o → (elim o as (λ o. Bool) [ None ↦ false | Some r ↦ is_firm script s r ]) ≡ true → HasNumber s.goroutines g) [
+firm-there : (script : Script) (s : State) (m : Schedule) (g : ℕ) → is_firm_at script s m g ≡ true → HasNumber s.goroutines g
+firm-there script s m g firm =
+    elim (goroutine_at s g) as (λ o. goroutine_at s g ≡ o → (elim o as (λ o. Bool) [ None ↦ false | Some r ↦ is_firm script s (is_waiting m) g r ]) ≡ true → HasNumber s.goroutines g) [
       | None ↦ λ e h. cc
       | Some r ↦ λ e h. record { item = r; there = e }
     ] refl firm
 
+-- one that is awake and goes on, or panics, is awake
+sleep-awake : (g x : ℕ) (move : Move) (before : Option ℕ) → IsAwake move → (g ≡ x → before ≡ None) → cond (g == x) (until_after move before) before ≡ before
+sleep-awake g x (Move.GoesOn n) before awake none = sleep-goes_on g x before none
+sleep-awake g x (Move.FallsAsleep until) before awake none = absurd awake
+sleep-awake g x Move.Ends before awake none = absurd awake
+sleep-awake g x Move.Panics before awake none = same-cond (g == x) before
+
 sleeps-woken : (script : Script) (s : State) (m : Schedule) (e : Entry) (g : ℕ) → IsWoken script s m e → sleeps_until (after script s e) g ≡ sleeps_until s g
 sleeps-woken script s m e g w =
-    ap (λ (s : State). sleeps_until s g) (after-woken script s m e w)
-    ∙ (sleeps-changed script s (on w.g) g (firm-there script s w.g w.firm)
-    ∙ sleep-goes_on g w.g (sleeps_until s g) (λ is. ap (sleeps_until s) is ∙ firm-awake script s w.g w.firm))
+    let there : HasNumber s.goroutines w.g = firm-there script s m w.g w.firm in
+    sleeps-changed script s (change_of e) g (subst (MoverIsThere s.goroutines) (sym w.mover) there) (subst (MoverIsThere s.goroutines) (sym w.partner) tt)
+    ∙ (ap (λ o. sleep_touched o g (sleep_touched (change_of e).mover g (sleeps_until s g))) w.partner
+    ∙ (ap (λ o. sleep_touched o g (sleeps_until s g)) w.mover
+    ∙ sleep-awake g w.g w.move (sleeps_until s g) w.awake (λ is. ap (sleeps_until s) is ∙ firm-awake script s m w.g w.firm)))
+
+timers-woken : (script : Script) (s : State) (m : Schedule) (e : Entry) → IsWoken script s m e → (after script s e).timers ≡ s.timers
+timers-woken script s m e w = ap (λ o. with_retimed script s (change_of e).mover s.timers o) w.timer
 
 dues-frame : (script : Script) (id : ℕ) → IsFrame script (λ s. due_by script s id)
 dues-frame script id = record {
   woken = λ s m e w.
       cond-both (nat_lt id (length script.decls)) _ _ _ _
-      (ap (λ (s : State). due_of s id) (after-woken script s m e w)) (sleeps-woken script s m e (id - length script.decls) w);
+      (ap (λ ts. due_in (at ts id)) (timers-woken script s m e w)) (sleeps-woken script s m e (id - length script.decls) w);
   finish = λ s outcome. refl;
 }
 
@@ -311,7 +361,7 @@ period-retimed script s c u (Some (t, Setting.Ended next)) right =
 
 periods-frame : (script : Script) (id : ℕ) → IsFrame script (λ s. period_by script s id)
 periods-frame script id = record {
-  woken = λ s m e w. ap (λ (s : State). period_by script s id) (after-woken script s m e w);
+  woken = λ s m e w. ap (λ ts. cond (nat_lt id (length script.decls)) (period_in (at ts id)) 0) (timers-woken script s m e w);
   finish = λ s outcome. refl;
 }
 
@@ -336,7 +386,7 @@ enters-periods old e new lawful enters id =
 
 clock-frame : (script : Script) → IsFrame script (λ s. clock s 0)
 clock-frame script = record {
-  woken = λ s m e w. ap (λ (s : State). clock s 0) (after-woken script s m e w);
+  woken = λ s m e w. ap (λ o. slice_index (with_clock s.clocks o) 0) w.clock;
   finish = λ s outcome. refl;
 }
 
@@ -378,6 +428,7 @@ marks-turned : (m : Schedule) (x : ℕ) (move : Move) (g : ℕ) → marks_at (tu
 marks-turned m x (Move.GoesOn n) g = marks-gone_on m x g (is_parked (status_of m x))
 marks-turned m x (Move.FallsAsleep until) g = refl
 marks-turned m x Move.Ends g = refl
+marks-turned m x Move.Panics g = refl
 
 marks-moved : (m : Schedule) (o : Option (ℕ × Move)) (g : ℕ) → marks_at (moved_by m o) g ≡ marks_at m g
 marks-moved m None g = refl
@@ -386,205 +437,11 @@ marks-moved m (Some x) g = marks-turned m x.0 x.1 g
 marks-after : (m : Schedule) (h : List Entry) (g : ℕ) → marks_at (schedule_after m h) g ≡ marks_at m g
 marks-after m [] g = refl
 marks-after m (e ∷ h) g =
-    marks-after (scheduled m e) h g ∙ (marks-begun (moved_by m (change_of e).mover) (change_of e).starts g ∙ marks-moved m (change_of e).mover g)
+    marks-after (scheduled m e) h g
+    ∙ (marks-begun (moved_by (moved_by m (change_of e).mover) (change_of e).partner) (change_of e).starts g
+    ∙ (marks-moved (moved_by m (change_of e).mover) (change_of e).partner g ∙ marks-moved m (change_of e).mover g))
 
 pub enters-marks : (old : BookView) (e : Entry) (new : BookView) → Enters old e new → (g : ℕ) → marks_at new.schedule g ≡ marks_at old.schedule g
 enters-marks old e new enters g =
     ap (λ (b : BookView). marks_at b.schedule g) enters.is
     ∙ marks-after old.schedule ((e ∷ enters.woken) ++ finish_due old.limits (state_after old.script old.state (e ∷ enters.woken))) g
-
--- ---- where goroutines are
-
-stays-then : (a b c : Option RunStatus) → StaysOrRuns a b → StaysOrRuns b c → StaysOrRuns a c
-stays-then a b c (inl e) (inl f) = inl (f ∙ e)
-stays-then a b c (inl e) (inr f) = inr (f.0, ap (λ o. is_parked o || is_none o) (sym e) ∙ f.1)
-stays-then a b c (inr e) (inl f) = inr (f ∙ e.0, e.1)
-stays-then a b c (inr e) (inr f) = inr (f.0, e.1)
-
-stays-is : (a b c d : Option RunStatus) → b ≡ a → d ≡ c → StaysOrRuns a c → StaysOrRuns b d
-stays-is a b c d e f (inl g) = inl (f ∙ (g ∙ sym e))
-stays-is a b c d e f (inr g) = inr (f ∙ g.0, ap (λ o. is_parked o || is_none o) e ∙ g.1)
-
--- who does not move has its status
-unmoved-gone_on : (m : Schedule) (x g : ℕ) (waits : Bool) → g ≢ x → status_of (gone_on m x waits) g ≡ status_of m g
-unmoved-gone_on m x g true other = numbered-change_other m.statuses x g (λ _. RunStatus.Queued) other
-unmoved-gone_on m x g false other = refl
-
-unmoved-turned : (m : Schedule) (x : ℕ) (move : Move) (g : ℕ) → g ≢ x → status_of (turned m x move) g ≡ status_of m g
-unmoved-turned m x (Move.GoesOn n) g other = unmoved-gone_on m x g (is_parked (status_of m x)) other
-unmoved-turned m x (Move.FallsAsleep until) g other = numbered-change_other m.statuses x g (λ _. RunStatus.Parked m.parks) other
-unmoved-turned m x Move.Ends g other = numbered-change_other m.statuses x g (λ _. RunStatus.Ended) other
-
-unmoved-moved : (m : Schedule) (o : Option (ℕ × Move)) (g : ℕ) → IsUnmoved o g → status_of (moved_by m o) g ≡ status_of m g
-unmoved-moved m None g other = refl
-unmoved-moved m (Some x) g other = unmoved-turned m x.0 x.1 g other
-
--- who begins was nobody
-begun-one : (m : Schedule) (g : ℕ) → StaysOrRuns (status_of m g) (status_of (with_new m) g)
-begun-one m g =
-    elim (cases_eq g (length m.statuses + 1)) [
-      | inl is ↦ inr (numbered-push_same m.statuses RunStatus.Queued g is, ap (λ o. is_parked o || is_none o) (numbered-next m.statuses g is))
-      | inr other ↦ inl (numbered-push_other m.statuses RunStatus.Queued g other)
-    ]
-
-begun-all : (m : Schedule) (starts : List Start) (g : ℕ) → StaysOrRuns (status_of m g) (status_of (begun_by m starts) g)
-begun-all m [] g = inl refl
-begun-all m (x ∷ xs) g = stays-then (status_of m g) (status_of (with_new m) g) (status_of (begun_by (with_new m) xs) g) (begun-one m g) (begun-all (with_new m) xs g)
-
--- who is there stays where it is
-begun-there : (m : Schedule) (starts : List Start) (g : ℕ) (x : RunStatus) → status_of m g ≡ Some x → status_of (begun_by m starts) g ≡ Some x
-begun-there m [] g x e = e
-begun-there m (y ∷ ys) g x e =
-    begun-there (with_new m) ys g x
-    (elim (cases_eq g (length m.statuses + 1)) [
-      | inl is ↦ (let none : status_of m g ≡ None = numbered-next m.statuses g is in absurd (cc))
-      | inr other ↦ numbered-push_other m.statuses RunStatus.Queued g other ∙ e
-    ])
-
--- the schedule after the entry of a goroutine that is woken
-abbrev went_on : Schedule → ℕ → Schedule
-went_on m x = gone_on m x (is_parked (status_of m x))
-
-scheduled-woken : (script : Script) (s : State) (m : Schedule) (e : Entry) (w : IsWoken script s m e) → scheduled m e ≡ went_on m w.g
-scheduled-woken script s m e w = ap (rescheduled m) w.change
-
-went_on-one : (m : Schedule) (x g : ℕ) (waits : Bool) → is_parked (status_of m x) ≡ true → StaysOrRuns (status_of m g) (status_of (gone_on m x waits) g)
-went_on-one m x g false parked = inl refl
-went_on-one m x g true parked =
-    elim (cases_eq g x) [
-      | inl is ↦
-          let was : Parking (status_of m x) = status-parked (status_of m x) parked in
-          inr (
-            ap (numbered (change_numbered m.statuses x (λ _. RunStatus.Queued))) is ∙ numbered-change_same m.statuses x (λ _. RunStatus.Queued) (RunStatus.Parked was.since) was.is,
-            ap (λ g. is_parked (status_of m g) || is_none (status_of m g)) is ∙ ap (λ o. is_parked o || is_none o) was.is,
-          )
-      | inr other ↦ inl (numbered-change_other m.statuses x g (λ _. RunStatus.Queued) other)
-    ]
-
-woken-one : (script : Script) (s : State) (m : Schedule) (e : Entry) (g : ℕ) → IsWoken script s m e → StaysOrRuns (status_of m g) (status_of (scheduled m e) g)
-woken-one script s m e g w =
-    subst (λ (n : Schedule). StaysOrRuns (status_of m g) (status_of n g)) (sym (scheduled-woken script s m e w)) (went_on-one m w.g g (is_parked (status_of m w.g)) w.parked)
-
-woken-all : (script : Script) (s : State) (m : Schedule) (h : List Entry) (g : ℕ) → AreWoken script s m h → StaysOrRuns (status_of m g) (status_of (schedule_after m h) g)
-woken-all script s m [] g woken = inl refl
-woken-all script s m (e ∷ h) g woken =
-    stays-then (status_of m g) (status_of (scheduled m e) g) (status_of (schedule_after (scheduled m e) h) g) (woken-one script s m e g (woken-is script s m e h woken))
-    (woken-all script (after script s e) (scheduled m e) h g woken.1)
-
--- a finish touches nobody
-finish-schedule : (m : Schedule) (o : Option Outcome) → schedule_after m (finish_by o) ≡ m
-finish-schedule m None = refl
-finish-schedule m (Some outcome) = refl
-
-schedule-append : (m : Schedule) (h k : List Entry) → schedule_after m (h ++ k) ≡ schedule_after (schedule_after m h) k
-schedule-append m [] k = refl
-schedule-append m (e ∷ h) k = schedule-append (scheduled m e) h k
-
-enters-schedule : (old : BookView) (e : Entry) (new : BookView) (enters : Enters old e new) → new.schedule ≡ schedule_after (scheduled old.schedule e) enters.woken
-enters-schedule old e new enters =
-    let last : State = state_after old.script (after old.script old.state e) enters.woken in
-    ap (λ (b : BookView). b.schedule) enters.is
-    ∙ (schedule-append old.schedule (e ∷ enters.woken) (finish_due old.limits last)
-    ∙ finish-schedule (schedule_after (scheduled old.schedule e) enters.woken) (due_outcome old.limits last))
-
-pub enters-statuses : (old : BookView) (e : Entry) (new : BookView) → Enters old e new → (g : ℕ) → IsUnmoved (change_of e).mover g
-    → StaysOrRuns (status_of old.schedule g) (status_of new.schedule g)
-enters-statuses old e new enters g other =
-    let mid : Schedule = moved_by old.schedule (change_of e).mover in
-    let begins : StaysOrRuns (status_of old.schedule g) (status_of (scheduled old.schedule e) g) =
-    stays-is (status_of mid g) (status_of old.schedule g) (status_of (scheduled old.schedule e) g) (status_of (scheduled old.schedule e) g)
-    (sym (unmoved-moved old.schedule (change_of e).mover g other)) refl (begun-all mid (change_of e).starts g) in
-    let wakes : StaysOrRuns (status_of (scheduled old.schedule e) g) (status_of new.schedule g) =
-    subst (λ (m : Schedule). StaysOrRuns (status_of (scheduled old.schedule e) g) (status_of m g)) (sym (enters-schedule old e new enters))
-    (woken-all old.script (after old.script old.state e) (scheduled old.schedule e) enters.woken g enters.each_woken) in
-    stays-then (status_of old.schedule g) (status_of (scheduled old.schedule e) g) (status_of new.schedule g) begins wakes
-
--- ---- where the goroutine is that moves
-
-turned-gone_on : (m : Schedule) (g : ℕ) (x : RunStatus) (waits : Bool) → status_of m g ≡ Some x → status_of (gone_on m g waits) g ≡ cond waits (Some RunStatus.Queued) (Some x)
-turned-gone_on m g x true e = numbered-change_same m.statuses g (λ _. RunStatus.Queued) x e
-turned-gone_on m g x false e = e
-
-turned-there : (m : Schedule) (g : ℕ) (move : Move) (x : RunStatus) → status_of m g ≡ Some x → status_of (turned m g move) g ≡ status_turned m.parks move (Some x)
-turned-there m g (Move.GoesOn n) x e = turned-gone_on m g x (is_parked (status_of m g)) e ∙ ap (λ o. cond (is_parked o) (Some RunStatus.Queued) (Some x)) e
-turned-there m g (Move.FallsAsleep until) x e = numbered-change_same m.statuses g (λ _. RunStatus.Parked m.parks) x e
-turned-there m g Move.Ends x e = numbered-change_same m.statuses g (λ _. RunStatus.Ended) x e
-
--- somebody's status after a move
-record Turned (parks : ℕ) (move : Move) (before : RunStatus) : Type 0 where
-  now : RunStatus
-  is : status_turned parks move (Some before) ≡ Some now
-
-turned-some : (parks : ℕ) (move : Move) (x : RunStatus) → Turned parks move x
-turned-some parks (Move.GoesOn n) RunStatus.Queued = record { now = RunStatus.Queued; is = refl }
-turned-some parks (Move.GoesOn n) RunStatus.InHand = record { now = RunStatus.InHand; is = refl }
-turned-some parks (Move.GoesOn n) (RunStatus.Parked since) = record { now = RunStatus.Queued; is = refl }
-turned-some parks (Move.GoesOn n) RunStatus.Ended = record { now = RunStatus.Ended; is = refl }
-turned-some parks (Move.FallsAsleep until) x = record { now = RunStatus.Parked parks; is = refl }
-turned-some parks Move.Ends x = record { now = RunStatus.Ended; is = refl }
-
--- who has moved is parked only where it sleeps
-abbrev IsAtRest : State → Schedule → ℕ → Type 0
-IsAtRest s m g = is_parked (status_of m g) ≡ true → IsSome (sleeps_until s g)
-
-asleep-not_none : (o : Option ℕ) → IsSome o → o ≡ None → ⊥
-asleep-not_none None h e = cc
-asleep-not_none (Some until) h e = cc
-
-rests-step : (script : Script) (s : State) (m : Schedule) (e : Entry) (g : ℕ) → IsWoken script s m e → IsAtRest s m g → status_of (scheduled m e) g ≡ status_of m g
-rests-step script s m e g w rests =
-    elim (cases_eq g w.g) [
-      | inl is ↦
-          absurd (asleep-not_none (sleeps_until s g) (rests (ap (λ g. is_parked (status_of m g)) is ∙ w.parked)) (ap (sleeps_until s) is ∙ firm-awake script s w.g w.firm))
-      | inr other ↦ ap (λ (n : Schedule). status_of n g) (scheduled-woken script s m e w) ∙ unmoved-gone_on m w.g g (is_parked (status_of m w.g)) other
-    ]
-
-rests-all : (script : Script) (s : State) (m : Schedule) (h : List Entry) (g : ℕ) → AreWoken script s m h → IsAtRest s m g → status_of (schedule_after m h) g ≡ status_of m g
-rests-all script s m [] g woken rests = refl
-rests-all script s m (e ∷ h) g woken rests =
-    let w : IsWoken script s m e = woken-is script s m e h woken in
-    let same : status_of (scheduled m e) g ≡ status_of m g = rests-step script s m e g w rests in
-    rests-all script (after script s e) (scheduled m e) h g woken.1
-    (λ parked. subst (λ (o : Option ℕ). IsSome o) (sym (sleeps-woken script s m e g w)) (rests (sym (ap is_parked same) ∙ parked)))
-    ∙ same
-
--- what a move leaves parked sleeps
-turned-rests : (parks : ℕ) (move : Move) (x : RunStatus) → is_parked (status_turned parks move (Some x)) ≡ true → IsSome (until_after move)
-turned-rests parks (Move.GoesOn n) RunStatus.Queued h = cc
-turned-rests parks (Move.GoesOn n) RunStatus.InHand h = cc
-turned-rests parks (Move.GoesOn n) (RunStatus.Parked since) h = cc
-turned-rests parks (Move.GoesOn n) RunStatus.Ended h = cc
-turned-rests parks (Move.FallsAsleep until) x h = refl
-turned-rests parks Move.Ends x h = cc
-
-sleep-own : (g : ℕ) (move : Move) (before : Option ℕ) → sleep_touched (Some (g, move)) g before ≡ until_after move
-sleep-own g move before = ap (λ b. cond b (until_after move) before) (eq-eqb g g refl)
-
-moves-status : (script : Script) (s : State) (m : Schedule) (c : Change) (g : ℕ) (move : Move) (x : RunStatus) → c.mover ≡ Some (g, move) → status_of m g ≡ Some x
-    → status_of (rescheduled m c) g ≡ status_turned m.parks move (Some x)
-moves-status script s m c g move x is e =
-    let turns : Turned m.parks move x = turned-some m.parks move x in
-    let mid : status_of (moved_by m c.mover) g ≡ Some turns.now = ap (λ (o : Option (ℕ × Move)). status_of (moved_by m o) g) is ∙ (turned-there m g move x e ∙ turns.is) in
-    begun-there (moved_by m c.mover) c.starts g turns.now mid ∙ sym turns.is
-
-mover-there : (gs : List Goroutine) (o : Option (ℕ × Move)) (g : ℕ) (move : Move) → o ≡ Some (g, move) → MoverIsThere gs o → HasNumber gs g
-mover-there gs o g move is there = subst (MoverIsThere gs) is there
-
-pub enters-mover : (old : BookView) (e : Entry) (new : BookView) → IsLawful old → Enters old e new → (g : ℕ) (move : Move) → (change_of e).mover ≡ Some (g, move)
-    → status_of new.schedule g ≡ status_turned old.schedule.parks move (status_of old.schedule g)
-enters-mover old e new lawful enters g move is =
-    let right : TouchesRightly old.state (change_of e) = enters-touches old e new lawful enters in
-    let there : HasNumber old.state.goroutines g = mover-there old.state.goroutines (change_of e).mover g move is right.mover in
-    let status : HasNumber old.schedule.statuses g = has_status old.script old.state old.schedule g there.item lawful.fits there.there in
-    let s : State = after old.script old.state e in
-    let m : Schedule = scheduled old.schedule e in
-    let turned : status_of m g ≡ status_turned old.schedule.parks move (Some status.item) =
-    moves-status old.script old.state old.schedule (change_of e) g move status.item is status.there in
-    let sleeps : sleeps_until s g ≡ until_after move =
-    sleeps-changed old.script old.state (change_of e) g right.mover
-    ∙ (ap (λ (o : Option (ℕ × Move)). sleep_touched o g (sleeps_until old.state g)) is ∙ sleep-own g move (sleeps_until old.state g)) in
-    let rests : IsAtRest s m g =
-    λ parked. subst (λ (o : Option ℕ). IsSome o) (sym sleeps) (turned-rests old.schedule.parks move status.item (sym (ap is_parked turned) ∙ parked)) in
-    ap (λ (m : Schedule). status_of m g) (enters-schedule old e new enters)
-    ∙ (rests-all old.script s m enters.woken g enters.each_woken rests
-    ∙ (turned ∙ ap (status_turned old.schedule.parks move) (sym status.there)))

@@ -64,19 +64,19 @@ agrees-set old e new r now setting lawful entered agrees below is same shows per
     (shows ∙ sym (touched-timer (change_of e) (length old.script.decls) r.id setting (shown r) is below))
     (period ∙ sym (period-timer old.script old.state (change_of e) r.id setting r.period is below))
 
-touched-sleep : (c : Change) (n id : ℕ) (move : Move) (before : Option ℕ) → c.mover ≡ Some (id - n, move) → nat_lt id n ≡ false → touched c n id before ≡ until_after move
-touched-sleep c n id move before is beyond = rw (beyond, is) (ap (λ b. cond b (until_after move) before) (eq-eqb (id - n) (id - n) refl))
+touched-sleep : (c : Change) (n id : ℕ) (move : Move) (before : Option ℕ) → c.mover ≡ Some (id - n, move) → c.partner ≡ None → nat_lt id n ≡ false → touched c n id before ≡ until_after move before
+touched-sleep c n id move before is alone beyond = rw (beyond, alone, is) (ap (λ b. cond b (until_after move before) before) (eq-eqb (id - n) (id - n) refl))
 
 period-sleep : (script : Script) (s : State) (c : Change) (id before : ℕ) → nat_lt id (length script.decls) ≡ false → period_touched script s c id before ≡ before
 period-sleep script s c id before beyond = rw beyond refl
 
 -- the sleep of the goroutine that makes an entry
 pub agrees-moved : (old : BookView) (e : Entry) (new : BookView) (r now : Rec) (move : Move) → IsLawful old → Enters old e new → Agrees old.script old.state r
-    → nat_lt r.id (length old.script.decls) ≡ false → (change_of e).mover ≡ Some (r.id - length old.script.decls, move) → IsOfSame r now
-    → shown now ≡ until_after move → now.period ≡ r.period → Agrees new.script new.state now
-agrees-moved old e new r now move lawful entered agrees beyond is same shows period =
+    → nat_lt r.id (length old.script.decls) ≡ false → (change_of e).mover ≡ Some (r.id - length old.script.decls, move) → (change_of e).partner ≡ None → IsOfSame r now
+    → shown now ≡ until_after move (shown r) → now.period ≡ r.period → Agrees new.script new.state now
+agrees-moved old e new r now move lawful entered agrees beyond is alone same shows period =
     agrees-entered old e new r now lawful entered agrees same
-    (shows ∙ sym (touched-sleep (change_of e) (length old.script.decls) r.id move (shown r) is beyond))
+    (shows ∙ sym (touched-sleep (change_of e) (length old.script.decls) r.id move (shown r) is alone beyond))
     (period ∙ sym (period-sleep old.script old.state (change_of e) r.id r.period beyond))
 
 -- a record that is settled in a heap has its place there

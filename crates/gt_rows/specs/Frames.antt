@@ -1,5 +1,5 @@
--- What becomes by a change of the due times and periods that records have to show, of the program's clock, and of where goroutines are.
-use Rattle.std.specs.Prelude.{ℕ, ◌-◌, ◌≡◌, ◌≢◌, ◌==◌, ◌||◌, ◌⊎◌, cond, nat_lt, IsTrue, is_none, length}
+-- What becomes by a change of the due times and periods that records have to show, and of the program's clock.
+use Rattle.std.specs.Prelude.{ℕ, ◌-◌, ◌==◌, cond, nat_lt, length}
 use Rattle.std.specs.declared.option.Option.{Option}
 use Rattle.std.specs.declared.option.Option.TheVariants.{None, Some}
 use Rattle.gt_model.specs.declared.script.Script.{Script}
@@ -8,8 +8,6 @@ use Rattle.gt_rules.specs.After.{new_period, number_of}
 use Rattle.gt_rules.specs.Change.{Change}
 use Rattle.gt_rules.specs.declared.change.Move.{Move}
 use Rattle.gt_rules.specs.declared.change.Setting.{Setting}
-use Rattle.gt_schedule.specs.declared.status.RunStatus.{RunStatus}
-use Rattle.gt_schedule.specs.Schedule.{is_parked}
 
 -- the due time that a timer has by its setting, and the end of the sleep that a goroutine has by its move, where it had this one before
 abbrev pub due_after : Setting → Option ℕ
@@ -53,23 +51,3 @@ period_touched script s c id before = cond (nat_lt id (length script.decls)) (ti
 abbrev pub clock_touched : Option (ℕ × ℕ) → ℕ → ℕ
 clock_touched None before = before
 clock_touched (Some c) before = cond (c.0 == 0) c.1 before
-
--- where the goroutine is that moves
-abbrev pub status_turned : ℕ → Move → Option RunStatus → Option RunStatus
-status_turned parks (Move.GoesOn case_no) before = cond (is_parked before) (Some RunStatus.Queued) before
-status_turned parks (Move.FallsAsleep until) before = Some (RunStatus.Parked parks)
-status_turned parks Move.Ends before = Some RunStatus.Ended
-status_turned parks Move.Panics before = before
-
--- somebody else moves, or nobody
-abbrev pub IsUnmoved : Option (ℕ × Move) → ℕ → Type 0
-IsUnmoved None g = Unit {0}
-IsUnmoved (Some x) g = g ≢ x.0
-
--- neither who makes the entry nor its partner
-abbrev pub IsApart : Change → ℕ → Type 0
-IsApart c g = IsUnmoved c.mover g × IsUnmoved c.partner g
-
--- who does not move stays, or is to run: it was parked and is woken, or it begins
-abbrev pub StaysOrRuns : Option RunStatus → Option RunStatus → Type 0
-StaysOrRuns before now = (now ≡ before) ⊎ ((now ≡ Some RunStatus.Queued) × IsTrue (is_parked before || is_none before))
