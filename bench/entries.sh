@@ -33,6 +33,20 @@ script() {
         seq "$timers" | sed 's/.*/new t& &us/'
         printf 'sleep 1h\nend\n'
         ;;
+    buffered) printf 'chan c 1\nfunc main\nmake c\n' && repeated $'send c 1\nrecv c' "$(($2 / 2))" && echo "end" ;;
+    pairs)
+        printf 'chan c 0\nfunc main\nmake c\ngo a\n' && repeated "send c 1" "$2" && echo "end"
+        echo "func a" && repeated "recv c" "$2" && echo "end"
+        ;;
+    senders)
+        local waiting=$(($2 / 3))
+        printf 'chan c 0\nfunc main\nmake c\n' && repeated "go a" "$waiting" && echo "sleep 1ms"
+        repeated "recv c" "$waiting" && printf 'sleep 1ms\nend\nfunc a\nsend c 1\nend\n'
+        ;;
+    closed)
+        printf 'chan c 0\nfunc main\nmake c\n' && repeated "go a" "$(($2 / 3))"
+        printf 'sleep 1ms\nclose c\nsleep 1ms\nend\nfunc a\nrecv c\nend\n'
+        ;;
     go) printf 'timer t\nfunc main\nnew t 1ms\nstop t\ngo a\nrecv t\nend\nfunc a\ngo a\nend\n' ;;
     esac
 }
@@ -44,7 +58,7 @@ instructions() {
 }
 
 # A chain of goroutines goes on until its limit, the others to their end. A script has fewer than 4,096 timers.
-for kind in say loop sleep reset receive go sleepers timers; do
+for kind in say loop sleep reset receive go sleepers timers buffered pairs senders closed; do
     for count in 1000 99000; do
         limit=200000
         if [ "$kind" = timers ] && [ "$count" -gt 12000 ]; then count=12000; fi
