@@ -19,12 +19,12 @@ pub record Panics (b : BookView) (g : ℕ) : Type 0 where
   pub reason : Reason
   pub step : next_of b g ≡ Some (Step.Makes (Entry.Panic (plainly g) reason))
 
-pub panic-or-needs : (b : BookView) (g : ℕ) (i : Instr) (op : TimerOp) → stands_at b.script b.state g ≡ Some i → step_of_instr b.state g i ≡ Step.Needs op
+pub panic-or-needs : (b : BookView) (g : ℕ) (i : Instr) (op : TimerOp) → stands_at b.script b.state g ≡ Some i → step_of_instr b.script b.state b.schedule g i ≡ Step.Needs op
     → Panics b g ⊎ (next_of b g ≡ Some (Step.Needs op))
 panic-or-needs b g i op stands needs =
-    let is : next_of b g ≡ Some (step_or_panic b.state g i (fault b.script b.state i)) =
-    ap (λ (o : Option Instr). elim o as (λ o. Option Step) [ None ↦ None | Some i ↦ Some (step_or_panic b.state g i (fault b.script b.state i)) ]) stands in
-    elim (fault b.script b.state i) as (λ f. next_of b g ≡ Some (step_or_panic b.state g i f) → Panics b g ⊎ (next_of b g ≡ Some (Step.Needs op))) [
+    let is : next_of b g ≡ Some (step_or_panic b.script b.state b.schedule g i (fault b.script b.state i)) =
+    ap (λ (o : Option Instr). elim o as (λ o. Option Step) [ None ↦ None | Some i ↦ Some (step_or_panic b.script b.state b.schedule g i (fault b.script b.state i)) ]) stands in
+    elim (fault b.script b.state i) as (λ f. next_of b g ≡ Some (step_or_panic b.script b.state b.schedule g i f) → Panics b g ⊎ (next_of b g ≡ Some (Step.Needs op))) [
       | None ↦ λ k. inr (k ∙ ap Some needs)
       | Some reason ↦ λ k. inl (record { reason = reason; step = k })
     ] is
@@ -32,6 +32,7 @@ panic-or-needs b g i op stands needs =
 -- what a section answers where the step was made without it
 abbrev pub Echoes : {Done : Type 0} → (Outcome → Done) → Done → Did → Done → Type 0
 Echoes over fine Did.Entered done = done ≡ fine
+Echoes over fine Did.Parked done = done ≡ fine
 Echoes over fine (Did.Over outcome) done = done ≡ over outcome
 Echoes over fine (Did.Timer op) done = ⊥
 

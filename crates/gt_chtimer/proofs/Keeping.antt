@@ -1,5 +1,5 @@
 -- A record agrees with the machine after an entry as before.
-use Rattle.std.proofs.Common.{◌≡◌, ℕ, ◌<◌, ◌-◌, cond, nat_lt, length, Bool, true, false, refl, sym, ap, ◌∙◌, Option, Some}
+use Rattle.std.proofs.Common.{◌≡◌, ℕ, ◌<◌, ◌-◌, ◌==◌, cond, nat_lt, length, Bool, true, false, refl, sym, ap, ◌∙◌, Option, Some}
 use Rattle.std.proofs.lemmas.Bool.{lt-ltb, eq-eqb}
 use Rattle.gt_model.specs.declared.entry.Entry.{Entry}
 use Rattle.gt_model.specs.declared.entry.Party.{Party}
@@ -60,12 +60,16 @@ same-cond : {X : Type 0} (b : Bool) (x : X) → cond b x x ≡ x
 same-cond true x = refl
 same-cond false x = refl
 
+outer : {X : Type 0} (b : Bool) {x now : X} → now ≡ x → cond b x now ≡ x
+outer true is = refl
+outer false is = is
+
 -- a panic is nobody's timer
 pub agrees-panicked : (old : BookView) (p : Party) (reason : Reason) (new : BookView) (r : Rec) → IsLawful old → Enters old (Entry.Panic p reason) new
     → Agrees old.script old.state r → Agrees new.script new.state r
 agrees-panicked old p reason new r lawful entered agrees =
     agrees-entered old (Entry.Panic p reason) new r r lawful entered agrees (refl, refl)
-    (sym (same-cond (nat_lt r.id (length old.script.decls)) (shown r)))
+    (sym (outer (nat_lt r.id (length old.script.decls)) (same-cond (r.id - length old.script.decls == p.g) (shown r))))
     (sym (same-cond (nat_lt r.id (length old.script.decls)) r.period))
 
 -- the record of a declaration shows the due time of its timer

@@ -9,6 +9,7 @@ use Rattle.gt_model.specs.declared.script.What.{What}
 use Rattle.gt_model.specs.Script.{is_timer, names_timer}
 use Rattle.gt_model.proofs.Declared.{timer_setting, setting_declared}
 use Rattle.gt_rules.specs.State.{State, clock, due_of}
+use Rattle.gt_rules.specs.Operations.{receives_from}
 use Rattle.gt_rules.specs.declared.change.Setting.{Setting}
 use Rattle.gt_rec.specs.declared.RecKind.{RecKind}
 use Rattle.gt_rec.specs.Ticks.{due_left}
@@ -37,6 +38,7 @@ channel-what : (what : What) (kind : RecKind) → has_channel kind ≡ true → 
 channel-what What.Timer kind h is = let same : RecKind.Timer ≡ kind = cc in (refl, sym same)
 channel-what (What.AfterFunc f) kind h is = let same : RecKind.Func ≡ kind = cc in absurd (no-channel kind RecKind.Func h same refl)
 channel-what What.Function kind h is = cc
+channel-what (What.Chan cap) kind h is = cc
 
 channel-decl : (o : Option Decl) (kind : RecKind) → has_channel kind ≡ true
     → (elim o as (λ _. Option RecKind) [ None ↦ Some RecKind.Sleep | Some decl ↦ kind_of_what decl.what ]) ≡ Some kind
@@ -92,7 +94,7 @@ pub record ReceiveComes (b : BookView) (p : Party) (t due : ℕ) (next : Option 
   pub in_time : is_gone b (Op.TRecv p t due next) ≡ false
 
 pub receive-comes : (b : BookView) (r : Rec) (p : Party) (t due : ℕ) (next : Option ℕ) → IsLawful b → outcome_of b ≡ None → IsLentRec b r → has_channel r.kind ≡ true
-    → is_parked_at b.script b.state b.schedule p r.id ≡ true → t ≡ r.id → received r (clock b.state 0) ≡ Some (due, next) → ReceiveComes b p t due next
+    → is_parked_at b.script b.state b.schedule p (receives_from r.id) ≡ true → t ≡ r.id → received r (clock b.state 0) ≡ Some (due, next) → ReceiveComes b p t due next
 receive-comes b r p t due next lawful running lent channel waits its is =
     let g : Got r (clock b.state 0) due next = got r (clock b.state 0) due next is in
     let timer : IsChannel b.script r.id r.kind = channel-timer b.script r.id r.kind channel lent.agrees.kind in

@@ -46,14 +46,14 @@ record SetsBy_instr (b : BookView) (g t : ℕ) : Type 0 where
   stands : stands_at b.script b.state g ≡ Some instr
   d : ℕ
   anew : Bool
-  asks : step_of_instr b.state g instr ≡ Step.Needs (TimerOp.Set t d anew)
+  asks : step_of_instr b.script b.state b.schedule g instr ≡ Step.Needs (TimerOp.Set t d anew)
 
 set-instr : (b : BookView) (g t : ℕ) → SetsAt b g t → SetsBy_instr b g t
 set-instr b g t h =
-    elim (stands_at b.script b.state g) as (λ o. stands_at b.script b.state g ≡ o → (elim o as (λ _. Type 0) [ None ↦ ⊥ | Some i ↦ sets (step_of_instr b.state g i) ≡ Some t ]) → SetsBy_instr b g t) [
+    elim (stands_at b.script b.state g) as (λ o. stands_at b.script b.state g ≡ o → (elim o as (λ _. Type 0) [ None ↦ ⊥ | Some i ↦ sets (step_of_instr b.script b.state b.schedule g i) ≡ Some t ]) → SetsBy_instr b g t) [
       | None ↦ λ q k. absurd k
       | Some i ↦ λ q k.
-          let s : Sets t (step_of_instr b.state g i) = sets-is (step_of_instr b.state g i) t k in
+          let s : Sets t (step_of_instr b.script b.state b.schedule g i) = sets-is (step_of_instr b.script b.state b.schedule g i) t k in
           record { instr = i; stands = q; d = s.d; anew = s.anew; asks = s.is }
     ] refl h
 
@@ -85,7 +85,7 @@ set-declared b g t lawful stands =
     let i : SetsBy_instr b g t = set-instr b g t stands in
     let there : Standing b.script b.state g i.instr = standing b.script b.state g i.instr i.stands in
     let names : NamesRightly b.script (set_instr t i.d i.anew) =
-    subst (NamesRightly b.script) (instr-set b.state g t i.d i.anew i.instr i.asks) (names-instr_at b.script there.who.place i.instr lawful.good there.on) in
+    subst (NamesRightly b.script) (instr-set b.script b.state b.schedule g t i.d i.anew i.instr i.asks) (names-instr_at b.script there.who.place i.instr lawful.good there.on) in
     subst (λ (n : ℕ). t < n) lawful.formed.timers (setting_within b.script b.state t lawful.formed (names-setting b.script t i.d i.anew names))
 
 -- an operation on this timer is needed

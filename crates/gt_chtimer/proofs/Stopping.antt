@@ -61,9 +61,9 @@ calm-standing script s g i e faultless =
 -- a step that needs the record is of an instruction without a fault
 needs-faultless : (b : BookView) (g t : ℕ) → StopsAt b g t → next_of b g ≡ Some (Step.Needs (TimerOp.Stop t)) → fault b.script b.state (Instr.Stop t) ≡ None
 needs-faultless b g t stands step =
-    let is : next_of b g ≡ Some (step_or_panic b.state g (Instr.Stop t) (fault b.script b.state (Instr.Stop t))) =
-    ap (λ (o : Option Instr). elim o as (λ o. Option Step) [ None ↦ None | Some i ↦ Some (step_or_panic b.state g i (fault b.script b.state i)) ]) (stop-stands b g t stands) in
-    elim (fault b.script b.state (Instr.Stop t)) as (λ f. Some (step_or_panic b.state g (Instr.Stop t) f) ≡ Some (Step.Needs (TimerOp.Stop t)) → f ≡ None) [
+    let is : next_of b g ≡ Some (step_or_panic b.script b.state b.schedule g (Instr.Stop t) (fault b.script b.state (Instr.Stop t))) =
+    ap (λ (o : Option Instr). elim o as (λ o. Option Step) [ None ↦ None | Some i ↦ Some (step_or_panic b.script b.state b.schedule g i (fault b.script b.state i)) ]) (stop-stands b g t stands) in
+    elim (fault b.script b.state (Instr.Stop t)) as (λ f. Some (step_or_panic b.script b.state b.schedule g (Instr.Stop t) f) ≡ Some (Step.Needs (TimerOp.Stop t)) → f ≡ None) [
       | None ↦ λ h. refl
       | Some reason ↦ λ h. cc
     ] (sym is ∙ step)
@@ -76,7 +76,7 @@ may-stop b g t was stands running step in_hand was_set =
     let at : stands_at b.script b.state g ≡ Some (Instr.Stop t) = stop-stands b g t stands in
     let calm : panic_at b.script b.state g ≡ None = calm-standing b.script b.state g (Instr.Stop t) at (needs-faultless b g t stands step) in
     let does : Does b.script b.state g (Instr.Stop t) = record { stands = at; calm = calm } in
-    (((does, ap Some was_set), in_hand-goes (status_of b.schedule g) in_hand, tt), ap (λ (o : Option Outcome). is_some o || false) running)
+    (((does, ap Some was_set), (in_hand-goes (status_of b.schedule g) in_hand, tt), tt), ap (λ (o : Option Outcome). is_some o || false) running)
 
 -- a timer that is stopped is declared
 pub stop-declared : (b : BookView) (g t : ℕ) → IsLawful b → StopsAt b g t → t < length b.script.decls

@@ -6,7 +6,8 @@ ghost use Rattle.gt_rec.specs.Rec.{BitsRight, has_channel, shown};
 ghost use Rattle.gt_rec.specs.Changes.{received};
 ghost use Rattle.gt_schedule.specs.Schedule.{HasMarkRoom, IsLive};
 ghost use Rattle.gt_schedule.specs.Schedule as schedule;
-ghost use Rattle.gt_book.specs.View.{is_at_receive, outcome_of};
+ghost use Rattle.gt_rules.specs.Operations.{receives_from};
+ghost use Rattle.gt_book.specs.View.{is_at, outcome_of};
 ghost use Rattle.gt_rows.specs.Lent.{IsKept, IsLent, IsPlaced, Settles, joins};
 ghost use Rattle.gt_rows.specs.Rows.{BlockRow, Blocks};
 
@@ -22,7 +23,7 @@ use gt_schedule::{Ticket, plainly};
 pub fn sec_block(heap: &mut Lazy, rec: &mut TimerRec, book: &mut Book, ticket: Ticket) -> BlockDone
     requires lent { IsLent book.old heap.old rec.old }
     requires channel { IsTrue (has_channel rec.old.kind) }
-    requires waits { IsLive book.old.schedule ticket → IsTrue (is_at_receive book.old.script book.old.state (schedule.plainly ticket.g) rec.old.id) }
+    requires waits { IsLive book.old.schedule ticket → IsTrue (is_at book.old.script book.old.state (schedule.plainly ticket.g) (receives_from rec.old.id)) }
     requires room { IsLive book.old.schedule ticket → HasMarkRoom book.old.schedule ticket.g }
     ensures row { BlockRow (record { heap = heap.old; rec = rec.old; book = book.old }) ticket (record { heap = heap.new; rec = rec.new; book = book.new }) result }
     ensures kept { IsKept book.new heap.new rec.new }
@@ -46,7 +47,7 @@ pub fn sec_block(heap: &mut Lazy, rec: &mut TimerRec, book: &mut Book, ticket: T
 fn count(heap: &mut Lazy, rec: &mut TimerRec, book: &mut Book, ticket: Ticket) -> BlockDone
     requires lent { IsLent book.old heap.old rec.old }
     requires live { IsLive book.old.schedule ticket }
-    requires waits { IsTrue (is_at_receive book.old.script book.old.state (schedule.plainly ticket.g) rec.old.id) }
+    requires waits { IsTrue (is_at book.old.script book.old.state (schedule.plainly ticket.g) (receives_from rec.old.id)) }
     requires room { HasMarkRoom book.old.schedule ticket.g }
     ensures row { Blocks (record { heap = heap.old; rec = rec.old; book = book.old }) ticket.g (record { heap = heap.new; rec = rec.new; book = book.new }) result }
     ensures kept { IsKept book.new heap.new rec.new }

@@ -2,6 +2,7 @@
 
 ghost use Rattle.std.specs.Prelude.{◌≡◌, IsTrue, None};
 ghost use Rattle.gt_rules.specs.State as at;
+ghost use Rattle.gt_rules.specs.Operations.{receives_from};
 ghost use Rattle.gt_rec.specs.Rec.{has_channel};
 ghost use Rattle.gt_rec.specs.Changes.{received};
 ghost use Rattle.gt_book.specs.View.{is_parked_at, outcome_of};
@@ -18,7 +19,7 @@ pub fn receive(rec: &mut TimerRec, book: &mut Book, p: Party) -> Option<Commit>
     requires running { outcome_of book.old ≡ None }
     requires lent { IsLentRec book.old rec.old }
     requires channel { IsTrue (has_channel rec.old.kind) }
-    requires waits { IsTrue (is_parked_at book.old.script book.old.state book.old.schedule p rec.old.id) }
+    requires waits { IsTrue (is_parked_at book.old.script book.old.state book.old.schedule p (receives_from rec.old.id)) }
     ensures received { ReceivesBy rec.old book.old p rec.new book.new result (received rec.old (at.clock book.old.state 0)) }
     ensures kept { IsLentRec book.new rec.new }
 {

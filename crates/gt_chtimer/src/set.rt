@@ -50,7 +50,9 @@ pub fn sec_set(heap: &mut Lazy, rec: &mut TimerRec, book: &mut Book, g: u32) -> 
                 due,
             )
         }
-        Did::Timer(TimerOp::Stop(_) | TimerOp::Enrolled(_) | TimerOp::Sleep(_)) => unreachable!(),
+        Did::Parked | Did::Timer(TimerOp::Stop(_) | TimerOp::Enrolled(_) | TimerOp::Sleep(_)) => {
+            unreachable!()
+        }
     }
 }
 

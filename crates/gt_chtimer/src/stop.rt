@@ -21,7 +21,8 @@ pub fn sec_stop(rec: &mut TimerRec, book: &mut Book, g: u32) -> StopDone
 {
     book.lawful();
     match book.step_plain(g) {
-        Did::Entered => StopDone::Done,
+        // A stop waits for nobody.
+        Did::Entered | Did::Parked => StopDone::Done,
         Did::Over(outcome) => StopDone::Over(outcome),
         Did::Timer(_) => {
             let was = rec.disarm();

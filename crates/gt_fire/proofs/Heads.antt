@@ -36,6 +36,7 @@ what-func : (what : What) → kind_of_what what ≡ Some RecKind.Func → names_
 what-func What.Timer h = cc
 what-func (What.AfterFunc f) h = refl
 what-func What.Function h = cc
+what-func (What.Chan cap) h = cc
 
 kind-func : (script : Script) (id : ℕ) → kind_by script id ≡ Some RecKind.Func → is_func script id ≡ true
 kind-func script id h =
@@ -49,6 +50,7 @@ what-no_sleep : (what : What) → kind_of_what what ≡ Some RecKind.Sleep → �
 what-no_sleep What.Timer h = cc
 what-no_sleep (What.AfterFunc f) h = cc
 what-no_sleep What.Function h = cc
+what-no_sleep (What.Chan cap) h = cc
 
 behind : {X : Type 0} (xs : List X) (i : ℕ) → slice_get xs i ≡ None → length xs ≤ i
 behind [] i h = omega arith
@@ -67,6 +69,7 @@ what-no_deadline : (what : What) → kind_of_what what ≡ Some RecKind.Deadline
 what-no_deadline What.Timer h = cc
 what-no_deadline (What.AfterFunc f) h = cc
 what-no_deadline What.Function h = cc
+what-no_deadline (What.Chan cap) h = cc
 
 kind-no_deadline : (script : Script) (id : ℕ) → kind_by script id ≡ Some RecKind.Deadline → ⊥
 kind-no_deadline script id h =
@@ -253,6 +256,6 @@ kept-fired old seq new reply k h r after now due number next lawful lent kind fi
         agrees-set old (Entry.FireFunc r.id (next_number old.state)) new r after (Setting.Ended None) lawful fired.0 lent.agrees below refl from.same (ap shown is) from.period
     agrees-fired old seq new reply RecKind.Sleep r after now due lawful lent kind fired is set from =
         let beyond : length old.script.decls ≤ r.id = kind-sleep old.script r.id (lent.agrees.kind ∙ ap Some kind) in
-        agrees-moved old (Entry.Wake (r.id - length old.script.decls)) new r after (Move.GoesOn 0) lawful fired.0 lent.agrees (not-below r.id (length old.script.decls) beyond) refl from.same
+        agrees-moved old (Entry.Wake (r.id - length old.script.decls)) new r after (Move.GoesOn 0) lawful fired.0 lent.agrees (not-below r.id (length old.script.decls) beyond) refl refl from.same
         (ap shown is) from.period
     agrees-fired old seq new reply RecKind.Deadline r after now due lawful lent kind fired is set from = absurd fired

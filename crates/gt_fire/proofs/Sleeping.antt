@@ -1,5 +1,5 @@
 -- A goroutine that falls asleep: what it asks for, and the record of its sleep afterwards.
-use Rattle.std.proofs.Common.{◌≡◌, ℕ, zero, suc, ◌+◌, ◌-◌, min, nat_lt, length, Bool, true, false, refl, sym, ap, subst, ◌∙◌, Option, None, Some, MatchOption, arith}
+use Rattle.std.proofs.Common.{◌≡◌, ◌⊎◌, inl, inr, ℕ, zero, suc, ◌+◌, ◌-◌, min, nat_lt, length, Bool, true, false, refl, sym, ap, subst, ◌∙◌, Option, None, Some, MatchOption, arith}
 use Rattle.gt_model.specs.Times.{greatest_time}
 use Rattle.gt_model.specs.declared.entry.Entry.{Entry}
 use Rattle.gt_model.specs.declared.entry.Outcome.{Outcome}
@@ -30,7 +30,7 @@ use Rattle.gt_fire.proofs.Heads.{not-below}
 
 -- ---- what it asks for
 
-instr-asks : (b : BookView) (g : ℕ) (i : Instr) → sleeps i ≡ true → (d : ℕ) × (step_or_panic b.state g i (fault b.script b.state i) ≡ Step.Needs (TimerOp.Sleep d))
+instr-asks : (b : BookView) (g : ℕ) (i : Instr) → sleeps i ≡ true → (d : ℕ) × (step_or_panic b.script b.state b.schedule g i (fault b.script b.state i) ≡ Step.Needs (TimerOp.Sleep d))
 instr-asks b g (Instr.Sleep zero) h = cc
 instr-asks b g (Instr.Sleep (suc d)) h = (suc d, refl)
 instr-asks b g _ h = cc
@@ -38,7 +38,7 @@ instr-asks b g _ h = cc
 sleep-step : (b : BookView) (g : ℕ) → StandsAtSleep b g → (d : ℕ) × (next_of b g ≡ Some (Step.Needs (TimerOp.Sleep d)))
 sleep-step b g stands =
     elim (stands_at b.script b.state g) as (λ o. (elim o as (λ o. Type 0) [ None ↦ ⊥ | Some i ↦ sleeps i ≡ true ])
-    → (d : ℕ) × ((elim o as (λ o. Option Step) [ None ↦ None | Some i ↦ Some (step_or_panic b.state g i (fault b.script b.state i)) ]) ≡ Some (Step.Needs (TimerOp.Sleep d)))) [
+    → (d : ℕ) × ((elim o as (λ o. Option Step) [ None ↦ None | Some i ↦ Some (step_or_panic b.script b.state b.schedule g i (fault b.script b.state i)) ]) ≡ Some (Step.Needs (TimerOp.Sleep d)))) [
       | None ↦ λ h. absurd h
       | Some i ↦ λ h. let asks = instr-asks b g i h in (asks.0, ap Some asks.1)
     ] stands
@@ -67,12 +67,12 @@ sleep-asks old g new did stands steps =
     record { same = answers.0; d = asks.0; step = asks.1; answer = answers.1 }
 
 -- it is asked for nothing else
-pub asks-nothing_else : (old : BookView) (g : ℕ) (new : BookView) → StandsAtSleep old g → Steps old g new Did.Entered → ⊥
-asks-nothing_else old g new stands steps =
-    let asks : AsksOnly old g new Did.Entered = sleep-asks old g new Did.Entered stands steps in
-    elim (outcome_of old) as (λ o. MatchOption o (Did.Entered ≡ Did.Timer (TimerOp.Sleep asks.d)) (λ outcome. Did.Entered ≡ Did.Over outcome) → ⊥) [
-      | None ↦ λ h. cc
-      | Some outcome ↦ λ h. cc
+pub asks-nothing_else : (old : BookView) (g : ℕ) (new : BookView) (did : Did) → (did ≡ Did.Entered) ⊎ (did ≡ Did.Parked) → StandsAtSleep old g → Steps old g new did → ⊥
+asks-nothing_else old g new did other stands steps =
+    let asks : AsksOnly old g new did = sleep-asks old g new did stands steps in
+    elim (outcome_of old) as (λ o. MatchOption o (did ≡ Did.Timer (TimerOp.Sleep asks.d)) (λ outcome. did ≡ Did.Over outcome) → ⊥) [
+      | None ↦ λ h. elim other [ inl is ↦ cc | inr is ↦ cc ]
+      | Some outcome ↦ λ h. elim other [ inl is ↦ cc | inr is ↦ cc ]
     ] asks.answer
 
 pub kept-lent : (b new : BookView) (h : LazyHeap) (r : Rec) → new ≡ b → IsLent b h r → IsKept new h r
@@ -160,7 +160,7 @@ sleep-kept old new g d until did answer reply f lent its placed bits =
     record {
       rec = record {
         agrees = agrees-moved old.book (Entry.Sleep g (Some until)) new.book old.rec new.rec (Move.FallsAsleep until) f.lawful all.0 lent.rec.agrees beyond
-            (ap (λ g. Some (g, Move.FallsAsleep until)) who) now.same now.shows (now.period ∙ sym none);
+            (ap (λ g. Some (g, Move.FallsAsleep until)) who) refl now.same now.shows (now.period ∙ sym none);
         bits = bits;
       };
       placed = placed;

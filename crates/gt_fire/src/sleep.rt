@@ -35,7 +35,7 @@ pub fn sec_sleep(heap: &mut Lazy, rec: &mut TimerRec, book: &mut Book, g: u32) -
         Did::Over(outcome) => SetDone::Over(outcome),
         // An instruction to sleep for some time asks for nothing else.
         Did::Timer(_) => SetDone::Done,
-        Did::Entered => SetDone::Done,
+        Did::Entered | Did::Parked => SetDone::Done,
     }
 }
 

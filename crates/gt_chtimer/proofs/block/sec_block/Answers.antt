@@ -1,9 +1,10 @@
 use Rattle.std.proofs.Common.{◌≡◌, None, IsTrue, sym, subst, rules, refl}
 use Rattle.gt_rules.specs.State.{clock}
+use Rattle.gt_rules.specs.Operations.{receives_from}
 use Rattle.gt_rec.specs.Rec.{Rec}
 use Rattle.gt_rec.specs.Changes.{received}
 use Rattle.gt_schedule.specs.Schedule.{plainly, IsLive, HasMarkRoom}
-use Rattle.gt_book.specs.View.{BookView, is_at_receive, outcome_of}
+use Rattle.gt_book.specs.View.{BookView, is_at, outcome_of}
 use Rattle.gt_rows.specs.Lent.{IsLent}
 use Rattle.gt_rows.specs.declared.answers.BlockDone.{BlockDone}
 use Rattle.gt_chtimer.specs.Receive.{ReceivesBy}
@@ -32,8 +33,8 @@ count-requires-clause-waits c =
     empty-by c.args.rec.now c.args.book.now c.plainly.result c.receive.new.rec c.receive.new.book c.receive.result (received c.args.rec.now (clock c.args.book.now.state 0))
     c.in_default-receive.is c.receive.ensures.received in
     let live : IsLive c.args.book.now.schedule c.args.ticket = search rules in
-    subst (λ (b : BookView). IsTrue (is_at_receive b.script b.state (plainly c.args.ticket.g) c.receive.new.rec.id)) (sym e.book)
-    (subst (λ (r : Rec). IsTrue (is_at_receive c.args.book.now.script c.args.book.now.state (plainly c.args.ticket.g) r.id)) (sym e.rec) (c.requires.waits live))
+    subst (λ (b : BookView). IsTrue (is_at b.script b.state (plainly c.args.ticket.g) (receives_from c.receive.new.rec.id))) (sym e.book)
+    (subst (λ (r : Rec). IsTrue (is_at c.args.book.now.script c.args.book.now.state (plainly c.args.ticket.g) (receives_from r.id))) (sym e.rec) (c.requires.waits live))
 
 pub count-requires-clause-room : goal.count-requires-clause-room
 count-requires-clause-room c =

@@ -1,4 +1,5 @@
 use Rattle.std.proofs.Common.{◌≡◌, IsNone, IsSome, ℕ, None, Some, sym, ap, ◌∙◌, rules, true, refl, slice_get, subst}
+use Rattle.gt_rules.specs.Operations.{receives_from}
 use Rattle.gt_rec.specs.Rec.{Rec, in_flight, is_awaited}
 use Rattle.gt_schedule.specs.Schedule.{parties_at}
 use Rattle.gt_book.specs.View.{is_parked_at, outcome_of}
@@ -17,7 +18,7 @@ receive-requires-clause-waits c =
     let running : outcome_of c.args.book.now ≡ None = search rules in
     let first : slice_get (parties_at c.args.book.now.schedule.receivers c.args.rec.now.id) 0 ≡ Some c.in-Some-timer_waiter.p =
     subst (λ (id : ℕ). slice_get (parties_at c.args.book.now.schedule.receivers id) 0 ≡ Some c.in-Some-timer_waiter.p) (ap (λ (r : Rec). r.id) c.rec.view_is ∙ its) here in
-    subst (λ (id : ℕ). is_parked_at c.args.book.now.script c.args.book.now.state c.args.book.now.schedule c.in-Some-timer_waiter.p id ≡ true) (sym its)
+    subst (λ (id : ℕ). is_parked_at c.args.book.now.script c.args.book.now.state c.args.book.now.schedule c.in-Some-timer_waiter.p (receives_from id) ≡ true) (sym its)
     (parked-first c.args.book.now c.args.rec.now.id c.in-Some-timer_waiter.p c.lawful.ensures.lawful timer.timer first)
 
 pub returns-in-Over-clause-row : goal.returns-in-Over-clause-row

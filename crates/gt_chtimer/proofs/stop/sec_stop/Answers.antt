@@ -1,4 +1,4 @@
-use Rattle.std.proofs.Common.{◌≡◌, ℕ, Some, Bool, sym, ap, subst, ◌∙◌, is_some, refl}
+use Rattle.std.proofs.Common.{◌≡◌, inl, inr, ℕ, Some, Bool, sym, ap, subst, ◌∙◌, is_some, refl}
 use Rattle.gt_model.specs.declared.entry.Entry.{Entry}
 use Rattle.gt_rec.specs.Rec.{Rec, BitsRight, shown}
 use Rattle.gt_rec.specs.Fields.{rec_of}
@@ -36,7 +36,7 @@ commit-requires c =
 pub returns-in-Entered-clause-kept : goal.returns-in-Entered-clause-kept
 returns-in-Entered-clause-kept c =
     plain-kept c.args.book.now c.args.g c.step_plain.result c.args.rec.now c.step_plain.new.self StopDone.Done c.lawful.ensures.lawful c.requires.stands c.requires.lent c.step_plain.ensures
-    (rw c.in-Entered.is refl)
+    (elim c.in-Entered.is [ inl is ↦ rw is refl | inr is ↦ rw is refl ])
 
 pub returns-in-Over-clause-kept : goal.returns-in-Over-clause-kept
 returns-in-Over-clause-kept c =

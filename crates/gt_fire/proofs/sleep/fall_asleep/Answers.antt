@@ -1,12 +1,21 @@
-use Rattle.std.proofs.Common.{◌≡◌, ◌⊎◌, inl, inr, ◌∙◌, ◌+◌, sym, ap, refl, subst, min}
+use Rattle.std.proofs.Common.{◌≡◌, ◌⊎◌, inl, inr, ◌∙◌, ◌+◌, sym, ap, refl, subst, min, false}
 use Rattle.gt_model.specs.Times.{greatest_time}
 use Rattle.gt_book.specs.declared.answers.Commit.{Commit}
 use Rattle.gt_book.specs.declared.answers.Op.{Op}
-use Rattle.gt_book.specs.Steps.{Commits}
+use Rattle.gt_rules.specs.State.{clock}
+use Rattle.gt_book.specs.Steps.{Commits, MayCommit, is_gone}
+use Rattle.gt_book.proofs.Committing.{may-sleep}
 use Rattle.gt_rows.specs.declared.answers.SetDone.{SetDone}
 use Rattle.gt_rows.specs.Rows.{Parts}
 use Rattle.gt_fire.proofs.Sleeping.{FallsAsleep, Tells, sleep-arms, sleep-kept}
 use Rattle.gt_fire.proofs.sleep.fall_asleep.Goals as goal
+
+pub commit-requires : goal.commit-requires
+commit-requires c =
+    let until_is : c.due_after-until.result ≡ min (clock c.args.book.now.state 0 + c.args.d) greatest_time = c.due_after-until.ensures ∙ ap (λ now. min (now + c.args.d) greatest_time) c.clock_of.ensures in
+    let may : MayCommit c.args.book.now (Op.Sleep c.args.g c.due_after-until.result) × (is_gone c.args.book.now (Op.Sleep c.args.g c.due_after-until.result) ≡ false) =
+    may-sleep c.args.book.now c.args.g c.args.d c.due_after-until.result c.lawful.ensures.lawful c.requires.running c.requires.asks c.requires.in_hand until_is in
+    λ in_time. may.0
 
 pub returns-in-Over-clause-arms : goal.returns-in-Over-clause-arms
 returns-in-Over-clause-arms c =

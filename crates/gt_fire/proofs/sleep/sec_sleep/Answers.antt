@@ -18,8 +18,7 @@ returns-in-Over-clause-kept c =
 
 pub returns-in-Entered : goal.returns-in-Entered
 returns-in-Entered c =
-    absurd (asks-nothing_else c.args.book.now c.args.g c.step_plain.new.self c.requires.stands.stands
-    (subst (λ (did : Did). Steps c.args.book.now c.args.g c.step_plain.new.self did) c.in-Entered.is c.step_plain.ensures))
+    absurd (asks-nothing_else c.args.book.now c.args.g c.step_plain.new.self c.step_plain.result c.in-Entered.is c.requires.stands.stands c.step_plain.ensures)
 
 pub returns-in-Timer-clause-kept : goal.returns-in-Timer-clause-kept
 returns-in-Timer-clause-kept c =
