@@ -1,5 +1,5 @@
 -- What a whole call of a goroutine in hand does to a run.
-use Rattle.std.proofs.Common.{◌≡◌, ◌≢◌, ℕ, zero, suc, ◌+◌, ◌<◌, ◌≤◌, List, [], ◌∷◌, length, set, slice_get, count_by, refl, sym, ap, subst, ◌∙◌, arith, Option, None, Some, IsNone, MatchOption, Bool, true, false, ◌||◌, is_some, inr, ◌⊎◌, IfSome}
+use Rattle.std.proofs.Common.{◌≡◌, ◌≢◌, ℕ, zero, suc, ◌+◌, ◌<◌, ◌≤◌, List, [], ◌∷◌, length, set, slice_get, count_by, refl, sym, ap, subst, ◌∙◌, arith, Option, None, Some, IsNone, MatchOption, Bool, true, false, ◌||◌, is_some, inr, IfSome}
 use Rattle.std.specs.Option.{option_map}
 use Rattle.std.proofs.lemmas.Option.{slice_get_within}
 use Rattle.gt_model.specs.declared.script.Script.{Script}
@@ -255,7 +255,7 @@ tended-plain x x' e tended lawful enters leaves records_are heap_is noted_is =
       stays = λ j. stays-enters x.book e x'.book x.heap x.heap j lawful enters (leaves j) refl refl;
     })
 
--- what a step makes touches no record: who moves by it did not sleep, and falls not asleep
+-- what a step makes touches no record: who moves by it did not sleep, and does not fall asleep
 awake-until : (m : Move) → IsAwake m → until_after m None ≡ None
 awake-until (Move.GoesOn n) h = refl
 awake-until (Move.FallsAsleep until) h = absurd h

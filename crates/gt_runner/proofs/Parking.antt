@@ -1,5 +1,5 @@
--- A call that parks its goroutine at a channel leaves records, heap and marks alone: it awaits no timer.
-use Rattle.std.proofs.Common.{◌≡◌, ◌≢◌, ℕ, zero, suc, cond, List, [], ◌∷◌, refl, sym, ap, subst, ◌∙◌, Option, None, Some, MatchOption, Bool, true, false, ◌||◌, inl, inr}
+-- What a step does that asks for no record. One that parks its goroutine at a channel leaves records, heap and marks alone: no timer is awaited there.
+use Rattle.std.proofs.Common.{◌≡◌, ◌<◌, ℕ, cond, List, [], ◌∷◌, refl, sym, ap, subst, ◌∙◌, Option, None, Some, MatchOption, true, false, inl, inr}
 use Rattle.std.proofs.lemmas.Bool.{cases_eq}
 use Rattle.gt_model.specs.declared.script.Script.{Script}
 use Rattle.gt_model.specs.declared.script.Instr.{Instr}
@@ -10,15 +10,16 @@ use Rattle.gt_model.specs.declared.entry.Reason.{Reason}
 use Rattle.gt_model.specs.Script.{is_timer, is_chan}
 use Rattle.gt_model.specs.Tables.{numbered}
 use Rattle.gt_model.proofs.Items.{numbered-change_same, numbered-change_other}
-use Rattle.gt_rules.specs.State.{State, stands_at, items_of, is_closed}
+use Rattle.gt_rules.specs.State.{State, items_of, is_closed}
 use Rattle.gt_rules.specs.Panics.{fault}
 use Rattle.gt_schedule.specs.declared.status.RunStatus.{RunStatus}
+use Rattle.gt_schedule.specs.Counts.{times}
 use Rattle.gt_schedule.specs.Schedule.{Schedule, plainly, status_of, marks_at, parked, parked_at, ticket_of}
 use Rattle.gt_book.specs.declared.step.Step.{Step}
 use Rattle.gt_book.specs.declared.answers.TimerOp.{TimerOp}
 use Rattle.gt_book.specs.declared.answers.Did.{Did}
 use Rattle.gt_book.specs.Steps.{step_of_instr, step_or_panic, recv_by, partner_in, Does, Steps}
-use Rattle.gt_book.specs.View.{BookView, IsLawful, outcome_of, with_schedule}
+use Rattle.gt_book.specs.View.{BookView, IsLawful, with_schedule}
 use Rattle.gt_book.proofs.Going.{IsStep, step-is, WaitsRightly, waits-rightly}
 use Rattle.gt_rows.specs.Rows.{next_of}
 use Rattle.gt_runner.specs.declared.runner.Runner.{Runner}
@@ -90,7 +91,7 @@ parked-fits v g kind fit in_hand none h =
     ]
 
 parked-named : (v : BookView) (g : ℕ) (kind : CaseKind) → NamesTimers v → NamesTimers (with_schedule v (parked_at v.schedule (plainly g) kind))
-parked-named v g kind named h t some = named h t (subst (λ ts. Rattle.std.proofs.Common.◌<◌ 0 (Rattle.gt_schedule.specs.Counts.times t ts)) (parked_at-marks_at v.schedule (plainly g) kind h) some)
+parked-named v g kind named h t some = named h t (subst (λ ts. 0 < times t ts) (parked_at-marks_at v.schedule (plainly g) kind h) some)
 
 -- ---- the call
 

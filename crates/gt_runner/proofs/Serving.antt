@@ -1,7 +1,7 @@
 -- The head whose time has come is served: one entry is made, and the run is tended as before.
-use Rattle.std.proofs.Common.{◌≡◌, ◌≢◌, eqb, ℕ, zero, suc, ◌+◌, ◌-◌, ◌<◌, ◌≤◌, nat_lt, nat_le, if◌then◌else◌, List, [], ◌∷◌, length, set, slice_get, refl, sym, ap, subst, ◌∙◌, arith, Option, None, Some, IsSome, IsTrue, IsSomeAnd, MatchOption, Bool, true, false, not, ◌&&◌, ◌||◌, is_some, is_none, eq-eqb, inl, inr}
+use Rattle.std.proofs.Common.{◌≡◌, ◌≢◌, ℕ, zero, suc, ◌+◌, ◌-◌, ◌<◌, ◌≤◌, nat_lt, nat_le, if◌then◌else◌, List, [], ◌∷◌, length, set, slice_get, refl, sym, ap, subst, ◌∙◌, arith, Option, None, Some, IsSome, IsSomeAnd, MatchOption, Bool, true, false, not, ◌&&◌, ◌||◌, is_some, is_none, eq-eqb, inl, inr}
 use Rattle.std.specs.Option.{option_or, option_map, option_and_then}
-use Rattle.std.proofs.lemmas.Bool.{le-ltb, le-leb, ltb-true, eqb-true}
+use Rattle.std.proofs.lemmas.Bool.{le-ltb, le-leb, ltb-true}
 use Rattle.gt_model.specs.declared.script.Instr.{Instr}
 use Rattle.gt_model.specs.declared.entry.Entry.{Entry}
 use Rattle.gt_model.specs.declared.entry.Party.{Party}
