@@ -124,6 +124,7 @@ first-kind script limits h id w (Some kind) empty is what bits =
     kinds : (w : What) (kind : RecKind) → kind_of_what w ≡ Some kind → kind ≡ kind_at w
     kinds What.Timer kind e = cc
     kinds (What.AfterFunc f) kind e = cc
+    kinds (What.Chan cap) kind e = cc
     kinds What.Function kind e = cc
 
 get-some : {X : Type 0} (xs : List X) (i : ℕ) → i < length xs → (x : X) × (slice_get xs i ≡ Some x)

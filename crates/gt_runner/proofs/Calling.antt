@@ -1,7 +1,8 @@
 -- What a whole call of a goroutine in hand does to a run.
-use Rattle.std.proofs.Common.{◌≡◌, ◌≢◌, ℕ, zero, suc, ◌+◌, ◌<◌, ◌≤◌, List, [], ◌∷◌, length, set, slice_get, count_by, refl, sym, ap, subst, ◌∙◌, arith, Option, None, Some, IsNone, MatchOption, Bool, true, false, ◌||◌, is_some, inr, ◌⊎◌, IfSome}
+use Rattle.std.proofs.Common.{◌≡◌, ◌≢◌, ℕ, zero, suc, ◌+◌, ◌<◌, ◌≤◌, List, [], ◌∷◌, length, set, slice_get, count_by, refl, sym, ap, subst, ◌∙◌, arith, Option, None, Some, IsNone, MatchOption, Bool, true, false, ◌||◌, is_some, inr, IfSome}
 use Rattle.std.specs.Option.{option_map}
 use Rattle.std.proofs.lemmas.Option.{slice_get_within}
+use Rattle.gt_model.specs.declared.script.Script.{Script}
 use Rattle.gt_model.specs.declared.script.Decl.{Decl}
 use Rattle.gt_model.specs.declared.script.What.{What}
 use Rattle.gt_model.specs.declared.script.Instr.{Instr}
@@ -15,7 +16,7 @@ use Rattle.gt_model.specs.declared.entry.Outcome.{Outcome}
 use Rattle.gt_model.proofs.Declared.{setting_declared}
 use Rattle.gt_rules.specs.State.{State, stands_at, until_of, sleeps_until, clock_of}
 use Rattle.gt_rules.specs.Panics.{fault}
-use Rattle.gt_rules.specs.Change.{change_of}
+use Rattle.gt_rules.specs.Change.{Change, change_of}
 use Rattle.gt_rules.specs.History.{ClockJumps}
 use Rattle.gt_rules.specs.Legal.{due_at}
 use Rattle.gt_rules.specs.After.{new_period}
@@ -29,26 +30,27 @@ use Rattle.gt_rows.specs.declared.answers.SetDone.{SetDone}
 use Rattle.gt_rows.specs.Lent.{IsLent, IsKept}
 use Rattle.gt_rows.specs.Rows.{Parts, sets, SetsAt, SetsBy, SetRow, Arms, UnlessOver, next_of}
 use Rattle.gt_schedule.specs.declared.status.RunStatus.{RunStatus}
-use Rattle.gt_schedule.specs.Schedule.{plainly, status_of, ticket_of, ServedBy}
+use Rattle.gt_schedule.specs.Schedule.{plainly, Schedule, status_of, Served}
 use Rattle.gt_schedule.proofs.Counting.{count-cons}
 use Rattle.gt_schedule.specs.Counts.{as_number}
 use Rattle.gt_book.specs.declared.step.Step.{Step}
 use Rattle.gt_book.specs.declared.answers.TimerOp.{TimerOp}
-use Rattle.gt_book.specs.declared.answers.Did.{Did}
-use Rattle.gt_book.specs.Steps.{set_instr, set_entry, step_of_instr, step_or_panic, Does, Steps}
+use Rattle.gt_book.specs.Steps.{set_instr, set_entry, step_of_instr, step_or_panic}
 use Rattle.gt_book.specs.View.{BookView, Enters, IsLawful, Agrees, outcome_of}
 use Rattle.gt_book.proofs.Fitting.{Known, known}
 use Rattle.gt_rules.specs.declared.change.Move.{Move}
 use Rattle.gt_rules.specs.declared.change.Setting.{Setting}
 use Rattle.gt_rows.specs.Frames.{until_after}
-use Rattle.gt_book.proofs.Going.{IsStep, step-is, in_hand-goes, makes-served, IsCall, IsAwake, calm-call}
+use Rattle.gt_book.specs.Calm.{IsCalm}
+use Rattle.gt_book.proofs.Going.{IsStep, step-is, in_hand-goes, makes-served, makes-awake, makes-call, waits-rightly, IsCall, IsAwake, AreAwake}
+use Rattle.gt_book.proofs.Meeting.{recv-is, send-is}
 use Rattle.gt_book.proofs.Setting.{instr-set}
 use Rattle.gt_book.proofs.Passing.{enters-script, enters-limits}
 use Rattle.gt_runner.specs.declared.runner.Runner.{Runner}
 use Rattle.gt_runner.specs.Calls.{HasRecord, After, Ready, WantsSet}
 use Rattle.gt_runner.specs.Served.{IsWatched, AtKind, IsAt, AtNumber, IsTended, is_heaped, record_count, noted_at}
 use Rattle.gt_runner.proofs.Fitting.{fit-enters, named-enters}
-use Rattle.gt_runner.proofs.Leaving.{Leaves}
+use Rattle.gt_runner.proofs.Leaving.{Leaves, LeavesSleep}
 use Rattle.gt_runner.proofs.Tending.{tended-spared, tended-touched}
 use Rattle.gt_runner.proofs.Touching.{stays-enters, sets-touches}
 use Rattle.gt_runner.proofs.Passes.{goes-enters, makes-no_clock}
@@ -75,52 +77,63 @@ stands-awake v g i e = standing-awake v g i e
 
 -- ---- the instruction that asks for a record
 
-asks-stop : (s : State) (g : ℕ) (i : Instr) (t : ℕ) → step_of_instr s g i ≡ Step.Needs (TimerOp.Stop t) → i ≡ Instr.Stop t
-asks-stop s g (Instr.Stop u) t h = (let a : u ≡ t = cc in ap Instr.Stop a)
-asks-stop s g (Instr.Sleep zero) t h = cc
-asks-stop s g (Instr.Sleep (suc c)) t h = cc
-asks-stop s g _ t h = cc
+-- what an instruction asks for of a record
+abbrev stopped_by : Step → Option ℕ
+stopped_by (Step.Needs (TimerOp.Stop t)) = Some t
+stopped_by _ = None
 
-asks-sleep : (s : State) (g : ℕ) (i : Instr) (d : ℕ) → step_of_instr s g i ≡ Step.Needs (TimerOp.Sleep d) → (k : ℕ) × (i ≡ Instr.Sleep (suc k))
-asks-sleep s g (Instr.Sleep zero) d h = cc
-asks-sleep s g (Instr.Sleep (suc c)) d h = (c, refl)
-asks-sleep s g _ d h = cc
+abbrev stopped_at : Instr → Option ℕ
+stopped_at (Instr.Stop t) = Some t
+stopped_at _ = None
 
-asks-recv : (s : State) (g : ℕ) (i : Instr) (t : ℕ) → step_of_instr s g i ≡ Step.Waits t → i ≡ Instr.Recv t
-asks-recv s g (Instr.Recv u) t h = (let a : u ≡ t = cc in ap Instr.Recv a)
-asks-recv s g (Instr.Sleep zero) t h = cc
-asks-recv s g (Instr.Sleep (suc c)) t h = cc
-asks-recv s g _ t h = cc
+same-stop : (script : Script) (s : State) (m : Schedule) (g : ℕ) (i : Instr) → stopped_by (step_of_instr script s m g i) ≡ stopped_at i
+same-stop script s m g (Instr.Sleep zero) = refl
+same-stop script s m g (Instr.Sleep (suc d)) = refl
+same-stop script s m g (Instr.Recv o) = recv-is (λ step. stopped_by step ≡ None) (λ e. refl) (λ kind. refl) (λ t. refl) script s m g o
+same-stop script s m g (Instr.Send c v) = send-is (λ step. stopped_by step ≡ None) (λ e. refl) (λ kind. refl) script s m g c v
+same-stop script s m g _ = refl
+
+only-stop : (i : Instr) (t : ℕ) → stopped_at i ≡ Some t → i ≡ Instr.Stop t
+only-stop (Instr.Stop u) t h = (let a : u ≡ t = cc in ap Instr.Stop a)
+only-stop _ t h = cc
+
+asks-stop : (script : Script) (s : State) (m : Schedule) (g : ℕ) (i : Instr) (t : ℕ) → step_of_instr script s m g i ≡ Step.Needs (TimerOp.Stop t) → i ≡ Instr.Stop t
+asks-stop script s m g i t h = only-stop i t (sym (same-stop script s m g i) ∙ ap stopped_by h)
+
+asks-sleep : (script : Script) (s : State) (m : Schedule) (g : ℕ) (i : Instr) (d : ℕ) → step_of_instr script s m g i ≡ Step.Needs (TimerOp.Sleep d) → (k : ℕ) × (i ≡ Instr.Sleep (suc k))
+asks-sleep script s m g (Instr.Sleep zero) d h = cc
+asks-sleep script s m g (Instr.Sleep (suc c)) d h = (c, refl)
+asks-sleep script s m g (Instr.Recv o) d h = absurd (recv-is (λ step. step ≡ Step.Needs (TimerOp.Sleep d) → ⊥) (λ e k. cc) (λ kind k. cc) (λ t k. cc) script s m g o h)
+asks-sleep script s m g (Instr.Send c v) d h = absurd (send-is (λ step. step ≡ Step.Needs (TimerOp.Sleep d) → ⊥) (λ e k. cc) (λ kind k. cc) script s m g c v h)
+asks-sleep script s m g _ d h = cc
 
 -- no panic asks for a record
-no-panic : (s : State) (g : ℕ) (i : Instr) (o : Option Reason) (step : Step) (P : Type 0) → step_or_panic s g i o ≡ step → ((e : Entry) → Step.Makes e ≡ step → P)
-    → (step_of_instr s g i ≡ step → P) → P
-no-panic s g i None step P h panics calm = calm h
-no-panic s g i (Some reason) step P h panics calm = panics (Entry.Panic (plainly g) reason) h
+no-panic : (script : Script) (s : State) (m : Schedule) (g : ℕ) (i : Instr) (o : Option Reason) (step : Step) (P : Type 0) → step_or_panic script s m g i o ≡ step
+    → ((e : Entry) → Step.Makes e ≡ step → P) → (step_of_instr script s m g i ≡ step → P) → P
+no-panic script s m g i None step P h panics calm = calm h
+no-panic script s m g i (Some reason) step P h panics calm = panics (Entry.Panic (plainly g) reason) h
 
 pub stands-set : (v : BookView) (g t d : ℕ) (anew : Bool) → next_of v g ≡ Some (Step.Needs (TimerOp.Set t d anew)) → stands_at v.script v.state g ≡ Some (set_instr t d anew)
 stands-set v g t d anew e =
-    let st : IsStep v.script v.state g (Step.Needs (TimerOp.Set t d anew)) = step-is v.script v.state v.schedule g (Step.Needs (TimerOp.Set t d anew)) e in
-    no-panic v.state g st.instr (fault v.script v.state st.instr) (Step.Needs (TimerOp.Set t d anew)) (stands_at v.script v.state g ≡ Some (set_instr t d anew)) st.is (λ x h. cc)
-    (λ h. st.stands ∙ ap Some (instr-set v.state g t d anew st.instr h))
+    let st : IsStep v.script v.state v.schedule g (Step.Needs (TimerOp.Set t d anew)) = step-is v.script v.state v.schedule g (Step.Needs (TimerOp.Set t d anew)) e in
+    no-panic v.script v.state v.schedule g st.instr (fault v.script v.state st.instr) (Step.Needs (TimerOp.Set t d anew)) (stands_at v.script v.state g ≡ Some (set_instr t d anew)) st.is (λ x h. cc)
+    (λ h. st.stands ∙ ap Some (instr-set v.script v.state v.schedule g t d anew st.instr h))
 
 pub stands-stop : (v : BookView) (g t : ℕ) → next_of v g ≡ Some (Step.Needs (TimerOp.Stop t)) → stands_at v.script v.state g ≡ Some (Instr.Stop t)
 stands-stop v g t e =
-    let st : IsStep v.script v.state g (Step.Needs (TimerOp.Stop t)) = step-is v.script v.state v.schedule g (Step.Needs (TimerOp.Stop t)) e in
-    no-panic v.state g st.instr (fault v.script v.state st.instr) (Step.Needs (TimerOp.Stop t)) (stands_at v.script v.state g ≡ Some (Instr.Stop t)) st.is (λ x h. cc)
-    (λ h. st.stands ∙ ap Some (asks-stop v.state g st.instr t h))
+    let st : IsStep v.script v.state v.schedule g (Step.Needs (TimerOp.Stop t)) = step-is v.script v.state v.schedule g (Step.Needs (TimerOp.Stop t)) e in
+    no-panic v.script v.state v.schedule g st.instr (fault v.script v.state st.instr) (Step.Needs (TimerOp.Stop t)) (stands_at v.script v.state g ≡ Some (Instr.Stop t)) st.is (λ x h. cc)
+    (λ h. st.stands ∙ ap Some (asks-stop v.script v.state v.schedule g st.instr t h))
 
 pub stands-sleep : (v : BookView) (g d : ℕ) → next_of v g ≡ Some (Step.Needs (TimerOp.Sleep d)) → (k : ℕ) × (stands_at v.script v.state g ≡ Some (Instr.Sleep (suc k)))
 stands-sleep v g d e =
-    let st : IsStep v.script v.state g (Step.Needs (TimerOp.Sleep d)) = step-is v.script v.state v.schedule g (Step.Needs (TimerOp.Sleep d)) e in
-    no-panic v.state g st.instr (fault v.script v.state st.instr) (Step.Needs (TimerOp.Sleep d)) ((k : ℕ) × (stands_at v.script v.state g ≡ Some (Instr.Sleep (suc k)))) st.is (λ x h. cc)
-    (λ h. let found = asks-sleep v.state g st.instr d h in (found.0, st.stands ∙ ap Some found.1))
+    let st : IsStep v.script v.state v.schedule g (Step.Needs (TimerOp.Sleep d)) = step-is v.script v.state v.schedule g (Step.Needs (TimerOp.Sleep d)) e in
+    no-panic v.script v.state v.schedule g st.instr (fault v.script v.state st.instr) (Step.Needs (TimerOp.Sleep d)) ((k : ℕ) × (stands_at v.script v.state g ≡ Some (Instr.Sleep (suc k)))) st.is (λ x h. cc)
+    (λ h. let found = asks-sleep v.script v.state v.schedule g st.instr d h in (found.0, st.stands ∙ ap Some found.1))
 
-pub stands-recv : (v : BookView) (g t : ℕ) → next_of v g ≡ Some (Step.Waits t) → stands_at v.script v.state g ≡ Some (Instr.Recv t)
-stands-recv v g t e =
-    let st : IsStep v.script v.state g (Step.Waits t) = step-is v.script v.state v.schedule g (Step.Waits t) e in
-    no-panic v.state g st.instr (fault v.script v.state st.instr) (Step.Waits t) (stands_at v.script v.state g ≡ Some (Instr.Recv t)) st.is (λ x h. cc)
-    (λ h. st.stands ∙ ap Some (asks-recv v.state g st.instr t h))
+-- who waits at a timer stands at its receive
+pub stands-recv : (v : BookView) (g t : ℕ) → IsLawful v → next_of v g ≡ Some (Step.Waits t) → stands_at v.script v.state g ≡ Some (Instr.Recv t)
+stands-recv v g t lawful e = (waits-rightly v.script v.state v.schedule g t lawful.good lawful.formed e).stands
 
 -- ---- the records of timers
 
@@ -132,6 +145,7 @@ some-kind (Some decl) h = of_what decl.what h
     of_what : (w : What) → (names_timer (Some w) || names_func (Some w)) ≡ true → (kind : RecKind) × (kind_of_what w ≡ Some kind)
     of_what What.Timer h = (RecKind.Timer, refl)
     of_what (What.AfterFunc f) h = (RecKind.Func, refl)
+    of_what (What.Chan cap) h = cc
     of_what What.Function h = cc
 
 get-some : {X : Type 0} (xs : List X) (i : ℕ) → i < length xs → (x : X) × (slice_get xs i ≡ Some x)
@@ -221,7 +235,7 @@ record-is x id r h there =
 
 -- ---- after an entry of a goroutine in hand
 
-pub after-enters : (x x' : Runner) (g : ℕ) (e : Entry) → Ready x g → Enters x.book e x'.book → ServedBy x.book.schedule (change_of e).mover
+pub after-enters : (x x' : Runner) (g : ℕ) (e : Entry) → Ready x g → Enters x.book e x'.book → Served x.book.schedule e
     → ClockJumps x.book.script 0 x.book.state e → IsTended x' → After x x' g
 after-enters x x' g e ready enters served clock tended = record {
   goes = goes-enters x.book e x'.book g ready.lawful enters clock ready.alone;
@@ -241,38 +255,37 @@ tended-plain x x' e tended lawful enters leaves records_are heap_is noted_is =
       stays = λ j. stays-enters x.book e x'.book x.heap x.heap j lawful enters (leaves j) refl refl;
     })
 
--- what a step makes touches no record
-awake-until : (m : Move) → IsAwake m → until_after m ≡ None
+-- what a step makes touches no record: who moves by it did not sleep, and does not fall asleep
+awake-until : (m : Move) → IsAwake m → until_after m None ≡ None
 awake-until (Move.GoesOn n) h = refl
 awake-until (Move.FallsAsleep until) h = absurd h
 awake-until Move.Ends h = refl
+awake-until Move.Panics h = refl
 
-calm-leaves : (v : BookView) (g : ℕ) (i : Instr) (e : Entry) (j : ℕ) → sleeps_until v.state g ≡ None → step_of_instr v.state g i ≡ Step.Makes e → Leaves v (change_of e) j
-calm-leaves v g i e j awake h =
-    let call : IsCall g (change_of e) = calm-call v.state g i e h in
-    record {
-      timer = subst (λ (o : Option (ℕ × Setting)). IfSome o (λ x. x.0 ≢ j)) (sym call.timer) tt;
-      mover = subst (λ (o : Option (ℕ × Move)). IfSome o (λ x. (length v.script.decls + x.0 ≢ j) ⊎ ((sleeps_until v.state x.0 ≡ None) × (until_after x.1 ≡ None)))) (sym call.mover)
-          (inr (awake, awake-until call.move call.awake));
-    }
+moved-leaves : (v : BookView) (o : Option (ℕ × Move)) (j : ℕ) → IfSome o (λ (x : ℕ × Move). IsAwake x.1) → IfSome o (λ (x : ℕ × Move). sleeps_until v.state x.0 ≡ None) → IfSome o (LeavesSleep v j)
+moved-leaves v None j stays awake = tt
+moved-leaves v (Some x) j stays awake = inr (awake, awake-until x.1 stays)
 
-pub makes-leaves : (v : BookView) (g : ℕ) (e : Entry) (j : ℕ) → sleeps_until v.state g ≡ None → next_of v g ≡ Some (Step.Makes e) → Leaves v (change_of e) j
-makes-leaves v g e j awake h =
-    let st : IsStep v.script v.state g (Step.Makes e) = step-is v.script v.state v.schedule g (Step.Makes e) h in
-    elim (fault v.script v.state st.instr) as (λ o. step_or_panic v.state g st.instr o ≡ Step.Makes e → Leaves v (change_of e) j) [
-      | None ↦ λ k. calm-leaves v g st.instr e j awake k
-      | Some reason ↦ λ k. let is : Entry.Panic (plainly g) reason ≡ e = cc in subst (λ e. Leaves v (change_of e) j) is (record { timer = tt; mover = tt })
-    ] st.is
+pub call-leaves : (v : BookView) (c : Change) (j : ℕ) → IsCall c → AreAwake v.state c → Leaves v c j
+call-leaves v c j call awake = record {
+  timer = subst (λ (o : Option (ℕ × Setting)). IfSome o (λ x. x.0 ≢ j)) (sym call.timer) tt;
+  mover = moved-leaves v c.mover j call.mover awake.mover;
+  partner = moved-leaves v c.partner j call.partner awake.partner;
+}
 
 -- ---- the calls, one by one
 
 pub after-makes : (x x' : Runner) (g : ℕ) (e : Entry) → Ready x g → next_of x.book g ≡ Some (Step.Makes e) → Enters x.book e x'.book
     → x'.records ≡ x.records → x'.heap ≡ x.heap → x'.noted ≡ x.noted → After x x' g
 after-makes x x' g e ready next enters records_are heap_is noted_is =
-    after-enters x x' g e ready enters (makes-served x.book.script x.book.state x.book.schedule g e next ready.alone.in_hand)
-    (makes-no_clock x.book g e next)
-    (tended-plain x x' e ready.served.tended ready.lawful enters
-    (λ j. makes-leaves x.book g e j (in_hand-awake x.book g ready.lawful ready.alone.in_hand) next) records_are heap_is noted_is)
+    let v : BookView = x.book in
+    let calm : IsCalm v.script v.state v.schedule = λ h waits. ready.lawful.calm ready.running h waits in
+    let call : IsCall (change_of e) = makes-call v.script v.state v.schedule g e next in
+    let awake : AreAwake v.state (change_of e) = makes-awake v.script v.state v.schedule g e ready.lawful.good ready.lawful.formed ready.lawful.fits calm ready.alone.in_hand next in
+    after-enters x x' g e ready enters
+    (makes-served v.script v.state v.schedule g e ready.lawful.good ready.lawful.formed ready.lawful.fits calm ready.alone.in_hand next)
+    (makes-no_clock v g e next)
+    (tended-plain x x' e ready.served.tended ready.lawful enters (λ j. call-leaves v (change_of e) j call awake) records_are heap_is noted_is)
 
 -- a section that arms a record
 pub record Armed (x x' : Runner) (g id : ℕ) (r r' : Rec) (e : Entry) (due period : ℕ) (done : SetDone) : Type 0 where
@@ -285,7 +298,7 @@ pub record Armed (x x' : Runner) (g id : ℕ) (r r' : Rec) (e : Entry) (due peri
   pub arms : Arms (record { heap = x.heap; rec = r; book = x.book }) e due period (record { heap = x'.heap; rec = r'; book = x'.book }) done
   pub kept : IsKept x'.book x'.heap r'
   pub leaves : (j : ℕ) → j ≢ id → Leaves x.book (change_of e) j
-  pub served : ServedBy x.book.schedule (change_of e).mover
+  pub served : Served x.book.schedule e
   pub clock : ClockJumps x.book.script 0 x.book.state e
 
 pub after-armed : (x x' : Runner) (g id : ℕ) (r r' : Rec) (e : Entry) (due period : ℕ) (done : SetDone) → Ready x g → Armed x x' g id r r' e due period done → After x x' g
@@ -315,20 +328,20 @@ wants-setting v g t lawful w =
 
 pub wants-sets : (v : BookView) (g t : ℕ) → WantsSet v g t → SetsAt v g t
 wants-sets v g t w =
-    let st : IsStep v.script v.state g (Step.Needs (TimerOp.Set t w.d w.anew)) = step-is v.script v.state v.schedule g (Step.Needs (TimerOp.Set t w.d w.anew)) w.wants in
-    no-panic v.state g st.instr (fault v.script v.state st.instr) (Step.Needs (TimerOp.Set t w.d w.anew)) (SetsAt v g t) st.is (λ x h. cc)
-    (λ h. subst (λ o. elim o as (λ _. Type 0) [ None ↦ ⊥ | Some i ↦ sets (step_of_instr v.state g i) ≡ Some t ]) (sym st.stands) (ap sets h))
+    let st : IsStep v.script v.state v.schedule g (Step.Needs (TimerOp.Set t w.d w.anew)) = step-is v.script v.state v.schedule g (Step.Needs (TimerOp.Set t w.d w.anew)) w.wants in
+    no-panic v.script v.state v.schedule g st.instr (fault v.script v.state st.instr) (Step.Needs (TimerOp.Set t w.d w.anew)) (SetsAt v g t) st.is (λ x h. cc)
+    (λ h. subst (λ o. elim o as (λ _. Type 0) [ None ↦ ⊥ | Some i ↦ sets (step_of_instr v.script v.state v.schedule g i) ≡ Some t ]) (sym st.stands) (ap sets h))
 
 -- ---- setting a timer
 
 -- the entry of a setting touches no other record and moves no clock, and its goroutine may make it
 set-leaves : (v : BookView) (g t due : ℕ) (anew was : Bool) (j : ℕ) → sleeps_until v.state g ≡ None → j ≢ t → Leaves v (change_of (set_entry g t anew was due)) j
-set-leaves v g t due true was j awake n = record { timer = λ e. n (sym e); mover = inr (awake, refl) }
-set-leaves v g t due false was j awake n = record { timer = λ e. n (sym e); mover = inr (awake, refl) }
+set-leaves v g t due true was j awake n = record { timer = λ e. n (sym e); mover = inr (awake, refl); partner = tt }
+set-leaves v g t due false was j awake n = record { timer = λ e. n (sym e); mover = inr (awake, refl); partner = tt }
 
-set-served : (v : BookView) (g t due : ℕ) (anew was : Bool) → status_of v.schedule g ≡ Some RunStatus.InHand → ServedBy v.schedule (change_of (set_entry g t anew was due)).mover
-set-served v g t due true was in_hand = in_hand-goes (status_of v.schedule g) in_hand
-set-served v g t due false was in_hand = in_hand-goes (status_of v.schedule g) in_hand
+set-served : (v : BookView) (g t due : ℕ) (anew was : Bool) → status_of v.schedule g ≡ Some RunStatus.InHand → Served v.schedule (set_entry g t anew was due)
+set-served v g t due true was in_hand = (in_hand-goes (status_of v.schedule g) in_hand, tt)
+set-served v g t due false was in_hand = (in_hand-goes (status_of v.schedule g) in_hand, tt)
 
 set-no_clock : (v : BookView) (g t due : ℕ) (anew was : Bool) → ClockJumps v.script 0 v.state (set_entry g t anew was due)
 set-no_clock v g t due true was = tt
@@ -362,21 +375,3 @@ after-set x x' g t r r' done ready wants h there records_are spare noted_is row 
       served = set-served x.book g t due wants.anew was ready.alone.in_hand;
       clock = set-no_clock x.book g t due wants.anew was;
     })
-
--- a step that asks for no record
-does-after : (x x' : Runner) (g : ℕ) (step : Step) (did : Did) → Ready x g → next_of x.book g ≡ Some step → Does x.book g step x'.book did → ((w : TimerOp) → did ≡ Did.Timer w → ⊥)
-    → x'.records ≡ x.records → x'.heap ≡ x.heap → x'.noted ≡ x.noted → After x x' g
-does-after x x' g (Step.Makes e) did ready next does other records_are heap_is noted_is = after-makes x x' g e ready next does.0 records_are heap_is noted_is
-does-after x x' g (Step.Waits t) did ready next does other records_are heap_is noted_is = absurd (other (TimerOp.Enrolled (ticket_of x.book.schedule g)) does.1)
-does-after x x' g (Step.Needs op) did ready next does other records_are heap_is noted_is = absurd (other op does.1)
-does-after x x' g Step.Nowhere did ready next does other records_are heap_is noted_is = absurd does
-
-pub steps-after : (x x' : Runner) (g : ℕ) (did : Did) → Ready x g → Steps x.book g x'.book did → ((w : TimerOp) → did ≡ Did.Timer w → ⊥)
-    → x'.records ≡ x.records → x'.heap ≡ x.heap → x'.noted ≡ x.noted → After x x' g
-steps-after x x' g did ready h other records_are heap_is noted_is =
-    let does : MatchOption (next_of x.book g) ⊥ (λ step. Does x.book g step x'.book did) =
-    subst (λ (o : Option Outcome). MatchOption o (MatchOption (next_of x.book g) ⊥ (λ step. Does x.book g step x'.book did)) (λ outcome. (did ≡ Did.Over outcome) × (x'.book ≡ x.book))) ready.running h in
-    elim (next_of x.book g) as (λ o. next_of x.book g ≡ o → MatchOption o ⊥ (λ step. Does x.book g step x'.book did) → After x x' g) [
-      | None ↦ λ q k. absurd k
-      | Some step ↦ λ q k. does-after x x' g step did ready q k other records_are heap_is noted_is
-    ] refl does

@@ -1,5 +1,5 @@
--- Every entry keeps the marks fitting: who is woken or goes on is where its marks allow it.
-use Rattle.std.proofs.Common.{◌≡◌, ◌≢◌, ℕ, zero, suc, ◌+◌, ◌<◌, ◌≤◌, List, [], ◌∷◌, ◌++◌, length, length-append, refl, sym, ap, subst, ◌∙◌, arith, Option, None, Some, Bool, true, false, ◌||◌, IsTrue, inl, inr}
+-- Every entry keeps the marks fitting: who is woken, goes on or panics is where its marks allow it.
+use Rattle.std.proofs.Common.{◌≡◌, ◌≢◌, cond, ℕ, zero, suc, ◌+◌, ◌<◌, ◌≤◌, List, [], ◌∷◌, ◌++◌, length, length-append, refl, sym, ap, subst, ◌∙◌, arith, Option, None, Some, Bool, true, false, ◌||◌, IsTrue, inl, inr}
 use Rattle.std.proofs.lemmas.Bool.{cases_eq}
 use Rattle.gt_model.specs.declared.script.Script.{Script}
 use Rattle.gt_model.specs.declared.script.Instr.{Instr}
@@ -18,12 +18,14 @@ use Rattle.gt_rules.specs.declared.change.Move.{Move}
 use Rattle.gt_rules.specs.declared.change.Start.{Start}
 use Rattle.gt_machine.specs.Outcomes.{due_outcome}
 use Rattle.gt_schedule.specs.declared.status.RunStatus.{RunStatus}
-use Rattle.gt_schedule.specs.Schedule.{Schedule, plainly, status_of, is_in_hand, is_parked, marks_at, gone_on, turned, moved_by, begun_by, with_new, rescheduled, scheduled, schedule_after, MayMove, ServedBy}
-use Rattle.gt_book.specs.View.{BookView, Enters, AreWoken, IsLawful, with_schedule, is_move, goer, maker, finish_by, is_firm_at}
+use Rattle.gt_schedule.specs.Schedule.{Schedule, plainly, status_of, is_in_hand, is_parked, marks_at, gone_on, turned, moved_by, begun_by, with_new, rescheduled, scheduled, schedule_after, MayMove, ServedBy, ServedIn, Served}
+use Rattle.gt_book.specs.View.{BookView, Enters, AreWoken, IsLawful, with_schedule, finish_by}
 use Rattle.std.proofs.Common.{eqb}
 use Rattle.std.proofs.lemmas.Bool.{eqb-true}
-use Rattle.gt_model.specs.Script.{is_timer}
+use Rattle.gt_model.specs.Script.{is_timer, is_chan}
 use Rattle.gt_schedule.specs.Counts.{as_number, times}
+use Rattle.gt_book.proofs.Fitting.{unchanged}
+use Rattle.gt_book.proofs.Going.{parked-goes}
 use Rattle.gt_book.proofs.Passing.{enters-script}
 use Rattle.gt_rows.proofs.Frames.{enters-marks}
 use Rattle.gt_runner.specs.Served.{NamesTimers, timers_of, awaited_by, MarkFits, MarkFitsAt}
@@ -31,22 +33,22 @@ use Rattle.gt_runner.specs.Served.{NamesTimers, timers_of, awaited_by, MarkFits,
 -- ---- the timers that a goroutine awaits
 
 abbrev awaited_in : Script → Option Goroutine → List ℕ
-awaited_in script o = elim (elim o as (λ _. Option Instr) [ None ↦ None | Some r ↦ stands script r ]) [ None ↦ [] | Some i ↦ timers_of i ]
+awaited_in script o = elim (elim o as (λ _. Option Instr) [ None ↦ None | Some r ↦ stands script r ]) [ None ↦ [] | Some i ↦ timers_of script i ]
 
-one-timer : (o : Option Instr) → length (elim o as (λ _. List ℕ) [ None ↦ [] | Some i ↦ timers_of i ]) ≤ 1
-one-timer None = omega arith
-one-timer (Some (Instr.Recv o)) = omega arith
-one-timer (Some _) = omega arith
+one-timer : (script : Script) (o : Option Instr) → length (elim o as (λ _. List ℕ) [ None ↦ [] | Some i ↦ timers_of script i ]) ≤ 1
+one-timer script None = omega arith
+one-timer script (Some (Instr.Recv o)) = elim (is_chan script o) as (λ b. length (cond b [] (o ∷ [])) ≤ 1) [ true ↦ omega arith | false ↦ omega arith ]
+one-timer script (Some _) = omega arith
 
 pub one-awaited : (script : Script) (s : State) (g : ℕ) → length (awaited_by script s g) ≤ 1
-one-awaited script s g = one-timer (stands_at script s g)
+one-awaited script s g = one-timer script (stands_at script s g)
 
 none-elsewhere : (script : Script) (r : Goroutine) (mode : Mode) → r.mode ≡ mode → (mode ≡ Mode.At → ⊥) → awaited_in script (Some r) ≡ []
 none-elsewhere script r Mode.At e h = absurd (h refl)
 none-elsewhere script r (Mode.Sleeping until) e h =
-    ap (λ (mode : Mode). elim (elim mode as (λ _. Option Instr) [ Mode.At ↦ stands script (record r { mode = Mode.At }) | _ ↦ None ]) as (λ _. List ℕ) [ None ↦ [] | Some i ↦ timers_of i ]) e
+    ap (λ (mode : Mode). elim (elim mode as (λ _. Option Instr) [ Mode.At ↦ stands script (record r { mode = Mode.At }) | _ ↦ None ]) as (λ _. List ℕ) [ None ↦ [] | Some i ↦ timers_of script i ]) e
 none-elsewhere script r Mode.Ended e h =
-    ap (λ (mode : Mode). elim (elim mode as (λ _. Option Instr) [ Mode.At ↦ stands script (record r { mode = Mode.At }) | _ ↦ None ]) as (λ _. List ℕ) [ None ↦ [] | Some i ↦ timers_of i ]) e
+    ap (λ (mode : Mode). elim (elim mode as (λ _. Option Instr) [ Mode.At ↦ stands script (record r { mode = Mode.At }) | _ ↦ None ]) as (λ _. List ℕ) [ None ↦ [] | Some i ↦ timers_of script i ]) e
 
 -- ---- the marks of everybody, with the goroutines as a list
 
@@ -59,7 +61,7 @@ record AllFit (script : Script) (gs : List Goroutine) (m : Schedule) : Type 0 wh
   each : (h : ℕ) → FitIn script gs m h
 
 -- what is known of marks, goroutine and status
-fit-is : (a b : List ℕ) (x y : List ℕ) (p q : Option RunStatus) → a ≡ b → x ≡ y → p ≡ q → MarkFits b y q → MarkFits a x p
+pub fit-is : (a b : List ℕ) (x y : List ℕ) (p q : Option RunStatus) → a ≡ b → x ≡ y → p ≡ q → MarkFits b y q → MarkFits a x p
 fit-is a b x y p q marks awaited status fit =
     subst (λ a. MarkFits a x p) (sym marks) (subst (λ x. MarkFits b x p) (sym awaited) (subst (λ p. MarkFits b y p) (sym status) fit))
 
@@ -129,7 +131,7 @@ fit-gone_on : (script : Script) (gs : List Goroutine) (m : Schedule) (g n : ℕ)
 fit-gone_on script gs m g n true e all may =
     let was = parked-some (status_of m g) e in
     let fits : marks_at m g ≡ awaited_in script (numbered gs g) = subst (MarkFits (marks_at m g) (awaited_in script (numbered gs g))) was.1 (all.each g) in
-    let few : length (awaited_in script (numbered gs g)) ≤ 1 = one-timer (elim (numbered gs g) as (λ _. Option Instr) [ None ↦ None | Some r ↦ stands script r ]) in
+    let few : length (awaited_in script (numbered gs g)) ≤ 1 = one-timer script (elim (numbered gs g) as (λ _. Option Instr) [ None ↦ None | Some r ↦ stands script r ]) in
     fit-status script gs m (gone_on m g true) g (moved script (Move.GoesOn n)) (RunStatus.Parked was.0) RunStatus.Queued all was.1 refl refl
     (λ r k. subst (λ ts. length ts ≤ 1) (sym fits) few)
 fit-gone_on script gs m g n false e all may =
@@ -146,6 +148,7 @@ fit-turned script gs m g (Move.FallsAsleep until) all may =
 fit-turned script gs m g Move.Ends all may =
     fit-status script gs m (turned m g Move.Ends) g (moved script Move.Ends) RunStatus.InHand RunStatus.Ended all may refl refl
     (λ r k. marks-in_hand script gs m g all may)
+fit-turned script gs m g Move.Panics all may = subst (λ gs. AllFit script gs m) (sym (unchanged gs g)) all
 
 fit-moved : (script : Script) (gs : List Goroutine) (m : Schedule) (o : Option (ℕ × Move)) → AllFit script gs m → ServedBy m o → AllFit script (with_mover script gs o) (moved_by m o)
 fit-moved script gs m None all served = all
@@ -183,59 +186,44 @@ fit-begun : (script : Script) (s : State) (gs : List Goroutine) (m : Schedule) (
 fit-begun script s gs m [] all = all
 fit-begun script s gs m (x ∷ xs) all = fit-begun script s (gs ++ started_by script s x ∷ []) (with_new m) xs (fit-begins script gs m (started_by script s x) all)
 
-fit-changed : (script : Script) (s : State) (m : Schedule) (c : Change) → AllFit script s.goroutines m → ServedBy m c.mover → AllFit script (changed script s c).goroutines (rescheduled m c)
-fit-changed script s m c all served = fit-begun script s (with_mover script s.goroutines c.mover) (moved_by m c.mover) c.starts (fit-moved script s.goroutines m c.mover all served)
+fit-changed : (script : Script) (s : State) (m : Schedule) (c : Change) → AllFit script s.goroutines m → ServedIn m c → AllFit script (changed script s c).goroutines (rescheduled m c)
+fit-changed script s m c all served =
+    let gs : List Goroutine = with_mover script s.goroutines c.mover in
+    fit-begun script s (with_mover script gs c.partner) (moved_by (moved_by m c.mover) c.partner) c.starts
+    (fit-moved script gs (moved_by m c.mover) c.partner (fit-moved script s.goroutines m c.mover all served.0) served.1)
 
 -- ---- entries
 
--- who is woken was parked, and goes on
-record Goer (o : Option (ℕ × Move)) (g : ℕ) : Type 0 where
-  case_no : ℕ
-  is : o ≡ Some (g, Move.GoesOn case_no)
-
-goer-is : (o : Option (ℕ × Move)) (g : ℕ) → goer o ≡ Some g → Goer o g
-goer-is None g e = cc
-goer-is (Some (h, Move.GoesOn case_no)) g e = let is : h ≡ g = cc in record { case_no = case_no; is = ap (λ k. Some (k, Move.GoesOn case_no)) is }
-goer-is (Some (h, Move.FallsAsleep until)) g e = cc
-goer-is (Some (h, Move.Ends)) g e = cc
-
-maker-goer : (b : Bool) (o : Option ℕ) (g : ℕ) → Rattle.std.proofs.Common.cond b o None ≡ Some g → o ≡ Some g
-maker-goer true o g e = e
-maker-goer false o g e = cc
-
-parked-may : (o : Option RunStatus) → is_parked o ≡ true → IsTrue (is_in_hand o || is_parked o)
-parked-may o h = either (is_in_hand o) (is_parked o) h
-  where
-    either : (a b : Bool) → b ≡ true → (a || b) ≡ true
-    either true b h = refl
-    either false b h = h
-
-woken-served : (m : Schedule) (e : Entry) (g : ℕ) → maker e ≡ Some g → is_parked (status_of m g) ≡ true → ServedBy m (change_of e).mover
-woken-served m e g is parked =
-    let goes : Goer (change_of e).mover g = goer-is (change_of e).mover g (maker-goer (is_move (change_of e)) (goer (change_of e).mover) g is) in
-    subst (ServedBy m) (sym goes.is) (parked-may (status_of m g) parked)
+-- who is woken was parked, and goes on or panics, alone
+woken-served : (script : Script) (s : State) (m : Schedule) (e : Entry) (h : List Entry) → AreWoken script s m (e ∷ h) → Served m e
+woken-served script s m (Entry.Say g n) h woken = (parked-goes (status_of m g) woken.0.0, tt)
+woken-served script s m (Entry.Now g at) h woken = (parked-goes (status_of m g) woken.0.0, tt)
+woken-served script s m (Entry.Sleep g None) h woken = (parked-goes (status_of m g) woken.0.0, tt)
+woken-served script s m (Entry.Wake g) h woken = (parked-goes (status_of m g) woken.0.0, tt)
+woken-served script s m (Entry.Make g c) h woken = (parked-goes (status_of m g) woken.0.0, tt)
+woken-served script s m (Entry.Send p c v) h woken = (parked-goes (status_of m p.g) woken.0.0, tt)
+woken-served script s m (Entry.Recv p c v) h woken = (parked-goes (status_of m p.g) woken.0.0, tt)
+woken-served script s m (Entry.Close g c) h woken = (parked-goes (status_of m g) woken.0.0, tt)
+woken-served script s m (Entry.Panic p reason) h woken = (parked-goes (status_of m p.g) woken.0.0, tt)
+woken-served script s m _ h woken = absurd woken.0
 
 fit-finished : (script : Script) (s : State) (m : Schedule) (o : Option Outcome) → AllFit script s.goroutines m
     → AllFit script (state_after script s (finish_by o)).goroutines (schedule_after m (finish_by o))
 fit-finished script s m None all = all
-fit-finished script s m (Some outcome) all = fit-changed script s m (change_of (Entry.Finish outcome)) all tt
+fit-finished script s m (Some outcome) all = fit-changed script s m (change_of (Entry.Finish outcome)) all (tt, tt)
 
 fit-woken : (script : Script) (s : State) (m : Schedule) (h : List Entry) (o : Option Outcome) → AreWoken script s m h → AllFit script s.goroutines m
     → AllFit script (state_after script s (h ++ finish_by o)).goroutines (schedule_after m (h ++ finish_by o))
 fit-woken script s m [] o woken all = fit-finished script s m o all
 fit-woken script s m (e ∷ h) o woken all =
-    elim (maker e) as (λ x. maker e ≡ x → (elim x as (λ _. Type 0) [ None ↦ ⊥ | Some g ↦ IsTrue (is_parked (status_of m g)) × IsTrue (is_firm_at script s g) ])
-    → AllFit script (state_after script (after script s e) (h ++ finish_by o)).goroutines (schedule_after (scheduled m e) (h ++ finish_by o))) [
-      | None ↦ λ q k. absurd k
-      | Some g ↦ λ q k. fit-woken script (after script s e) (scheduled m e) h o woken.1 (fit-changed script s m (change_of e) all (woken-served m e g q k.0))
-    ] refl woken.0
+    fit-woken script (after script s e) (scheduled m e) h o woken.1 (fit-changed script s m (change_of e) all (woken-served script s m e h woken))
 
 -- everybody's marks fit in a book
 abbrev pub MarksFit : BookView → Type 0
 MarksFit b = (g : ℕ) → MarkFitsAt b.script b.state b.schedule g
 
 pub fit-enters : (old : BookView) (e : Entry) (new : BookView) → IsLawful old → length old.schedule.marks ≡ length old.schedule.statuses → Enters old e new
-    → ServedBy old.schedule (change_of e).mover → MarksFit old → MarksFit new
+    → Served old.schedule e → MarksFit old → MarksFit new
 fit-enters old e new lawful marks enters served fit =
     let all : AllFit old.script old.state.goroutines old.schedule = record { as_many = lawful.fits.as_many; marks = marks; each = fit } in
     let first : AllFit old.script (after old.script old.state e).goroutines (scheduled old.schedule e) = fit-changed old.script old.state old.schedule (change_of e) all served in

@@ -16,17 +16,22 @@ use Rattle.gt_rows.specs.Agrees.{due_by, period_by}
 use Rattle.gt_rows.specs.Frames.{due_after, until_after, timer_touched, sleep_touched, period_after, timer_period_touched}
 use Rattle.gt_rows.proofs.Frames.{enters-dues, enters-periods, enters-marks}
 
--- a change does not touch the record of number j: its timer is another, and who moves is another or neither slept nor falls asleep
+-- who moves has another record, or neither slept nor falls asleep
+abbrev pub LeavesSleep : BookView → ℕ → ℕ × Move → Type 0
+LeavesSleep b j x = (length b.script.decls + x.0 ≢ j) ⊎ ((sleeps_until b.state x.0 ≡ None) × (until_after x.1 None ≡ None))
+
+-- a change does not touch the record of number j: its timer is another, and so are the sleeps of the two that may move
 pub record Leaves (b : BookView) (c : Change) (j : ℕ) : Type 0 where
   pub timer : IfSome c.timer (λ x. x.0 ≢ j)
-  pub mover : IfSome c.mover (λ x. (length b.script.decls + x.0 ≢ j) ⊎ ((sleeps_until b.state x.0 ≡ None) × (until_after x.1 ≡ None)))
+  pub mover : IfSome c.mover (LeavesSleep b j)
+  pub partner : IfSome c.partner (LeavesSleep b j)
 
 timer-stays : (o : Option (ℕ × Setting)) (j : ℕ) (before : Option ℕ) → IfSome o (λ x. x.0 ≢ j) → timer_touched o j before ≡ before
 timer-stays None j before h = refl
 timer-stays (Some x) j before h = ap (λ b. cond b (due_after x.1) before) (ne_eqb j x.0 (λ e. h (sym e)))
 
 sleep-stays : (b : BookView) (o : Option (ℕ × Move)) (j : ℕ) → length b.script.decls ≤ j
-    → IfSome o (λ x. (length b.script.decls + x.0 ≢ j) ⊎ ((sleeps_until b.state x.0 ≡ None) × (until_after x.1 ≡ None)))
+    → IfSome o (LeavesSleep b j)
     → sleep_touched o (j - length b.script.decls) (sleeps_until b.state (j - length b.script.decls)) ≡ sleeps_until b.state (j - length b.script.decls)
 sleep-stays b None j behind h = refl
 sleep-stays b (Some x) j behind h =
@@ -34,17 +39,22 @@ sleep-stays b (Some x) j behind h =
     elim (cases_eq g x.0) [
       | inl e ↦ elim h [
         | inl other ↦ absurd (other (omega arith))
-        | inr none ↦ ap (λ q. cond q (until_after x.1) (sleeps_until b.state g)) (eq-eqb g x.0 e) ∙ (none.1 ∙ sym (ap (sleeps_until b.state) e ∙ none.0))
+        | inr none ↦
+            let awake : sleeps_until b.state g ≡ None = ap (sleeps_until b.state) e ∙ none.0 in
+            ap (λ q. cond q (until_after x.1 (sleeps_until b.state g)) (sleeps_until b.state g)) (eq-eqb g x.0 e) ∙ (ap (until_after x.1) awake ∙ (none.1 ∙ sym awake))
       ]
-      | inr n ↦ ap (λ q. cond q (until_after x.1) (sleeps_until b.state g)) (ne_eqb g x.0 n)
+      | inr n ↦ ap (λ q. cond q (until_after x.1 (sleeps_until b.state g)) (sleeps_until b.state g)) (ne_eqb g x.0 n)
     ]
 
 touched-stays : (b : BookView) (c : Change) (j : ℕ) (declared : Bool) → nat_lt j (length b.script.decls) ≡ declared → Leaves b c j
     → cond declared (timer_touched c.timer j (cond declared (due_of b.state j) (sleeps_until b.state (j - length b.script.decls))))
-    (sleep_touched c.mover (j - length b.script.decls) (cond declared (due_of b.state j) (sleeps_until b.state (j - length b.script.decls))))
+    (sleep_touched c.partner (j - length b.script.decls)
+    (sleep_touched c.mover (j - length b.script.decls) (cond declared (due_of b.state j) (sleeps_until b.state (j - length b.script.decls)))))
     ≡ cond declared (due_of b.state j) (sleeps_until b.state (j - length b.script.decls))
 touched-stays b c j true e h = timer-stays c.timer j (due_of b.state j) h.timer
-touched-stays b c j false e h = sleep-stays b c.mover j (ltb-false j (length b.script.decls) e) h.mover
+touched-stays b c j false e h =
+    let behind : length b.script.decls ≤ j = ltb-false j (length b.script.decls) e in
+    ap (sleep_touched c.partner (j - length b.script.decls)) (sleep-stays b c.mover j behind h.mover) ∙ sleep-stays b c.partner j behind h.partner
 
 pub leaves-due : (old : BookView) (e : Entry) (new : BookView) → IsLawful old → Enters old e new → (j : ℕ) → Leaves old (change_of e) j
     → due_by new.script new.state j ≡ due_by old.script old.state j

@@ -4,12 +4,14 @@ pub mod Marks
 pub mod Fitting
 pub mod Leaving
 pub mod Tending
+pub mod Named
 pub mod Watching
 pub mod Needing
 pub mod Touching
 pub mod Cleanings
 pub mod Calling
 pub mod Waiting
+pub mod Parking
 pub mod Growing
 pub mod Unblocking
 pub mod Serving

@@ -6,14 +6,11 @@ use Rattle.std.proofs.lemmas.Option.{slice_get_within}
 use Rattle.gt_model.specs.declared.script.Script.{Script}
 use Rattle.gt_model.specs.declared.script.Decl.{Decl}
 use Rattle.gt_model.specs.declared.script.What.{What}
-use Rattle.gt_model.specs.declared.script.Instr.{Instr}
 use Rattle.gt_model.specs.declared.state.Goroutine.{Goroutine}
 use Rattle.gt_model.specs.declared.state.Timer.{Timer}
 use Rattle.gt_model.specs.Script.{what_at, is_func, is_timer, names_func, names_timer}
 use Rattle.gt_rules.specs.State.{State, goroutine_at, timer_at, until_of, sleeps_until, due_of}
 use Rattle.gt_rules.specs.Counted.{sleep_of, is_awaited, counted_timer}
-use Rattle.gt_facts.proofs.Lookups.{Standing, standing}
-use Rattle.gt_facts.proofs.Named.{names-instr_at}
 use Rattle.gt_rec.specs.declared.RecKind.{RecKind}
 use Rattle.gt_rec.specs.Rec.{Rec, needs_heap, has_channel, in_flight, due_of_send, shown}
 use Rattle.gt_schedule.specs.Schedule.{mark_count}
@@ -22,6 +19,7 @@ use Rattle.gt_book.specs.View.{BookView, IsLawful}
 use Rattle.gt_rows.specs.Agrees.{kind_by, kind_of_what, due_by, of_declaration}
 use Rattle.gt_runner.specs.declared.runner.Runner.{Runner}
 use Rattle.gt_runner.specs.Served.{IsWatched, AtKind, IsAt, AtNumber, IsServed, MarkFitsAt}
+use Rattle.gt_runner.proofs.Named.{due-setting, timer-plain}
 use Rattle.gt_runner.proofs.Watching.{stands-marked, marked-stands, awaited-stands, stands-awaited, right-of}
 
 -- ---- what a record shows that has no value
@@ -41,6 +39,7 @@ kind-timer (Some decl) e = of_what decl.what e
     of_what : (w : What) → kind_of_what w ≡ Some RecKind.Timer → names_timer (Some w) ≡ true
     of_what What.Timer e = refl
     of_what (What.AfterFunc f) e = cc
+    of_what (What.Chan cap) e = cc
     of_what What.Function e = cc
 
 kind-func : (o : Option Decl) → (elim o as (λ _. Option RecKind) [ None ↦ Some RecKind.Sleep | Some decl ↦ kind_of_what decl.what ]) ≡ Some RecKind.Func → names_func (option_map (λ (d : Decl). d.what) o) ≡ true
@@ -50,6 +49,7 @@ kind-func (Some decl) e = of_what decl.what e
     of_what : (w : What) → kind_of_what w ≡ Some RecKind.Func → names_func (Some w) ≡ true
     of_what What.Timer e = cc
     of_what (What.AfterFunc f) e = refl
+    of_what (What.Chan cap) e = cc
     of_what What.Function e = cc
 
 pub kind-sleep : (o : Option Decl) → (elim o as (λ _. Option RecKind) [ None ↦ Some RecKind.Sleep | Some decl ↦ kind_of_what decl.what ]) ≡ Some RecKind.Sleep → o ≡ None
@@ -59,6 +59,7 @@ kind-sleep (Some decl) e = absurd (of_what decl.what e)
     of_what : (w : What) → kind_of_what w ≡ Some RecKind.Sleep → ⊥
     of_what What.Timer e = cc
     of_what (What.AfterFunc f) e = cc
+    of_what (What.Chan cap) e = cc
     of_what What.Function e = cc
 
 kind-other : (o : Option Decl) (kind : RecKind) → (elim o as (λ _. Option RecKind) [ None ↦ Some RecKind.Sleep | Some decl ↦ kind_of_what decl.what ]) ≡ Some kind
@@ -69,6 +70,7 @@ kind-other (Some decl) kind e = of_what decl.what kind e
     of_what : (w : What) (kind : RecKind) → kind_of_what w ≡ Some kind → (kind ≡ RecKind.Ticker → ⊥) × (kind ≡ RecKind.Deadline → ⊥)
     of_what What.Timer kind e = let is : RecKind.Timer ≡ kind = cc in (λ h. cc, λ h. cc)
     of_what (What.AfterFunc f) kind e = let is : RecKind.Func ≡ kind = cc in (λ h. cc, λ h. cc)
+    of_what (What.Chan cap) kind e = cc
     of_what What.Function kind e = cc
 
 pub never-ticker : (script : Script) (id : ℕ) (r : Rec) → kind_by script id ≡ Some r.kind → r.kind ≡ RecKind.Ticker → ⊥
@@ -253,22 +255,22 @@ not-named (Some decl) e = of_what decl.what e
     of_what : (w : What) → kind_of_what w ≡ None → (names_func (Some w) ≡ false) × (names_timer (Some w) ≡ false)
     of_what What.Timer e = cc
     of_what (What.AfterFunc f) e = cc
+    of_what (What.Chan cap) e = (refl, refl)
     of_what What.Function e = (refl, refl)
 
 both-ways : (b : Bool) → b ≡ true → b ≡ false → ⊥
 both-ways true e h = cc
 both-ways false e h = cc
 
-awaited-timer : (v : BookView) (id : ℕ) → IsLawful v → is_awaited v.script v.state 0 id ≡ true → is_timer v.script id ≡ true
-awaited-timer v id lawful e =
-    let stands = awaited-stands v.script v.state id e in
-    let st : Standing v.script v.state stands.0 (Instr.Recv id) = standing v.script v.state stands.0 (Instr.Recv id) stands.1 in
-    names-instr_at v.script st.who.place (Instr.Recv id) lawful.good st.on
+neither : (a b : Bool) → (a || b) ≡ true → a ≡ false → b ≡ false → ⊥
+neither true b h p q = cc
+neither false b h p q = both-ways b h q
 
 func-not_timer : (o : Option What) → names_func o ≡ true → names_timer o ≡ true → ⊥
 func-not_timer None e h = cc
 func-not_timer (Some What.Timer) e h = cc
 func-not_timer (Some (What.AfterFunc f)) e h = cc
+func-not_timer (Some (What.Chan cap)) e h = cc
 func-not_timer (Some What.Function) e h = cc
 
 channel-timer : (o : Option Decl) (kind : RecKind) → (elim o as (λ _. Option RecKind) [ None ↦ Some RecKind.Sleep | Some decl ↦ kind_of_what decl.what ]) ≡ Some kind → has_channel kind ≡ true
@@ -279,6 +281,7 @@ channel-timer (Some decl) kind e h = of_what decl.what kind e h
     of_what : (w : What) (kind : RecKind) → kind_of_what w ≡ Some kind → has_channel kind ≡ true → names_timer (Some w) ≡ true
     of_what What.Timer kind e h = refl
     of_what (What.AfterFunc f) kind e h = let is : RecKind.Func ≡ kind = cc in absurd (both-ways (has_channel kind) h (ap has_channel (sym is)))
+    of_what (What.Chan cap) kind e h = cc
     of_what What.Function kind e h = cc
 
 declared-needing : (x : Runner) (id w : ℕ) → IsLawful x.book → NobodyRuns x.book → IsServed x → id < length x.book.script.decls → Counts x.book id w → Needing x id w
@@ -290,14 +293,14 @@ declared-needing x id w lawful nobody served within c =
     elim (kind_by v.script id) as (λ o. kind_by v.script id ≡ o → AtKind x.book x.heap x.noted id found.0 o → Needing x id w) [
       | None ↦ λ q k.
           let none = not-named (of_declaration v.script id) q in
-          absurd (both-ways (is_timer v.script id) (awaited-timer v id lawful (or-true (is_func v.script id) _ (λ e. both-ways (is_func v.script id) e none.0) c.counts)) none.1)
+          absurd (neither (is_timer v.script id) (is_func v.script id) (due-setting v id w lawful c.due) none.1 none.0)
       | Some kind ↦ λ q k.
           shows-needing x id w found.0 found.1 at.id_is k (due-declared v.script v.state id within ∙ c.due) (λ channel.
           let kind_is : kind_by v.script id ≡ Some found.0.kind = ap (kind_by v.script) (sym at.id_is) ∙ k.kept.rec.agrees.kind in
           let timer : names_timer (what_at v.script id) ≡ true = channel-timer (of_declaration v.script id) found.0.kind kind_is channel in
           let awaited : is_awaited v.script v.state 0 id ≡ true = or-true (is_func v.script id) _ (λ e. func-not_timer (what_at v.script id) e timer) c.counts in
           let stands = awaited-stands v.script v.state id awaited in
-          let some : 0 < mark_count v.schedule id = stands-marked x stands.0 id lawful nobody served.marks stands.1 in
+          let some : 0 < mark_count v.schedule id = stands-marked x stands.0 id lawful nobody served.marks (timer-plain v.script id timer) stands.1 in
           let count : found.0.blocked ≡ mark_count v.schedule id = k.blocked channel ∙ ap (mark_count v.schedule) at.id_is in
           omega arith)
     ] refl at.watched

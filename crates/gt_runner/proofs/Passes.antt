@@ -10,13 +10,12 @@ use Rattle.gt_book.specs.declared.answers.TimerOp.{TimerOp}
 use Rattle.gt_book.specs.declared.step.Step.{Step}
 use Rattle.gt_schedule.specs.Schedule.{plainly, parked_at}
 use Rattle.gt_model.specs.declared.script.Script.{Script}
-use Rattle.gt_model.specs.declared.script.Instr.{Instr}
+use Rattle.gt_model.specs.declared.script.CaseKind.{CaseKind}
 use Rattle.gt_rules.specs.State.{State}
-use Rattle.gt_rules.specs.Panics.{fault}
-use Rattle.gt_book.specs.Steps.{step_of, step_of_instr, step_or_panic, Steps, Does, entry_of, is_gone, Commits}
+use Rattle.gt_book.specs.Steps.{step_of, Steps, Does, entry_of, is_gone, Commits}
 use Rattle.gt_book.specs.declared.answers.Op.{Op}
 use Rattle.gt_book.specs.declared.answers.Commit.{Commit}
-use Rattle.gt_book.proofs.Going.{IsStep, step-is, calm-call}
+use Rattle.gt_book.proofs.Going.{makes-call}
 use Rattle.gt_book.specs.View.{BookView, Enters, IsLawful, outcome_of, with_entries, with_schedule}
 use Rattle.gt_book.proofs.Passing.{jumps-append, enters-script, enters-limits, enters-jumps, enters-longer, enters-hands, parked_at-leaves_hand, parked_at-hands, parked_at-queued_count}
 use Rattle.gt_runner.specs.Run.{HandsFree, IsAlone, Passes, Goes, Moves}
@@ -58,13 +57,13 @@ goes-enters old e new g lawful enters clock alone = record {
   goes = inl (enters-longer old e new enters);
 }
 
-pub goes-waits : (old new : BookView) (g t : ℕ) → new ≡ with_schedule old (parked_at old.schedule (plainly g) t) → IsAlone old g → Goes g old new
-goes-waits old new g t is alone = subst (Goes g old) (sym is) (record {
+pub goes-waits : (old new : BookView) (g : ℕ) (kind : CaseKind) → new ≡ with_schedule old (parked_at old.schedule (plainly g) kind) → IsAlone old g → Goes g old new
+goes-waits old new g kind is alone = subst (Goes g old) (sym is) (record {
   script = refl;
   limits = refl;
   jumps = λ jumps. jumps;
-  hands = λ h q. alone.alone h (parked_at-hands old.schedule (plainly g) t h q);
-  goes = inr (refl, parked_at-queued_count old.schedule (plainly g) t alone.in_hand, parked_at-leaves_hand old.schedule (plainly g) t alone.in_hand);
+  hands = λ h q. alone.alone h (parked_at-hands old.schedule (plainly g) kind h q);
+  goes = inr (refl, parked_at-queued_count old.schedule (plainly g) kind alone.in_hand, parked_at-leaves_hand old.schedule (plainly g) kind alone.in_hand);
 })
 
 -- no step moves a clock
@@ -72,21 +71,14 @@ no-clock : (script : Script) (s : State) (e : Entry) → (change_of e).clock ≡
 no-clock script s (Entry.Clock world to) h = cc
 no-clock script s _ h = tt
 
-calm-no_clock : (script : Script) (s : State) (g : ℕ) (i : Instr) (e : Entry) → step_of_instr s g i ≡ Step.Makes e → ClockJumps script 0 s e
-calm-no_clock script s g i e h = no-clock script s e (calm-call s g i e h).clock
-
 pub makes-no_clock : (old : BookView) (g : ℕ) (e : Entry) → step_of old.script old.state old.schedule g ≡ Some (Step.Makes e) → ClockJumps old.script 0 old.state e
-makes-no_clock old g e h =
-    let step : IsStep old.script old.state g (Step.Makes e) = step-is old.script old.state old.schedule g (Step.Makes e) h in
-    elim (fault old.script old.state step.instr) as (λ o. step_or_panic old.state g step.instr o ≡ Step.Makes e → ClockJumps old.script 0 old.state e) [
-      | None ↦ λ k. calm-no_clock old.script old.state g step.instr e k
-      | Some reason ↦ λ k. let is : Entry.Panic (plainly g) reason ≡ e = cc in subst (ClockJumps old.script 0 old.state) is tt
-    ] step.is
+makes-no_clock old g e h = no-clock old.script old.state e (makes-call old.script old.state old.schedule g e h).clock
 
 does-goes : (old : BookView) (g : ℕ) (step : Step) (new : BookView) (did : Did) → IsLawful old → IsAlone old g → step_of old.script old.state old.schedule g ≡ Some step
     → Does old g step new did → ((x : TimerOp) → did ≡ Did.Timer x → ⊥) → Goes g old new
 does-goes old g (Step.Makes e) new did lawful alone is h other = goes-enters old e new g lawful h.0 (makes-no_clock old g e is) alone
-does-goes old g (Step.Waits t) new did lawful alone is h other = goes-waits old new g t h.0 alone
+does-goes old g (Step.Waits t) new did lawful alone is h other = goes-waits old new g (CaseKind.Recv t) h.0 alone
+does-goes old g (Step.Parks kind) new did lawful alone is h other = goes-waits old new g kind h.0 alone
 does-goes old g (Step.Needs op) new did lawful alone is h other = absurd (other op h.1)
 does-goes old g Step.Nowhere new did lawful alone is h other = absurd h
 

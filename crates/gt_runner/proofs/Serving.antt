@@ -1,13 +1,14 @@
 -- The head whose time has come is served: one entry is made, and the run is tended as before.
-use Rattle.std.proofs.Common.{◌≡◌, ◌≢◌, eqb, ℕ, zero, suc, ◌+◌, ◌-◌, ◌<◌, ◌≤◌, nat_lt, nat_le, if◌then◌else◌, List, [], ◌∷◌, length, set, slice_get, refl, sym, ap, subst, ◌∙◌, arith, Option, None, Some, IsSome, IsTrue, IsSomeAnd, MatchOption, Bool, true, false, not, ◌&&◌, ◌||◌, is_some, is_none, eq-eqb, inl, inr}
+use Rattle.std.proofs.Common.{◌≡◌, ◌≢◌, ℕ, zero, suc, ◌+◌, ◌-◌, ◌<◌, ◌≤◌, nat_lt, nat_le, if◌then◌else◌, List, [], ◌∷◌, length, set, slice_get, refl, sym, ap, subst, ◌∙◌, arith, Option, None, Some, IsSome, IsSomeAnd, MatchOption, Bool, true, false, not, ◌&&◌, ◌||◌, is_some, is_none, eq-eqb, inl, inr}
 use Rattle.std.specs.Option.{option_or, option_map, option_and_then}
-use Rattle.std.proofs.lemmas.Bool.{le-ltb, le-leb, ltb-true, eqb-true}
+use Rattle.std.proofs.lemmas.Bool.{le-ltb, le-leb, ltb-true}
 use Rattle.gt_model.specs.declared.script.Instr.{Instr}
 use Rattle.gt_model.specs.declared.entry.Entry.{Entry}
 use Rattle.gt_model.specs.declared.entry.Party.{Party}
 use Rattle.gt_model.specs.declared.entry.Outcome.{Outcome}
 use Rattle.gt_rules.specs.State.{clock, sleeps_until, next_number}
 use Rattle.gt_rules.specs.Legal.{operation_at}
+use Rattle.gt_rules.specs.Operations.{receives_from}
 use Rattle.gt_rules.specs.Change.{change_of}
 use Rattle.gt_rules.specs.History.{ClockJumps}
 use Rattle.gt_facts.proofs.Lookups.{stands_recv}
@@ -23,9 +24,11 @@ use Rattle.gt_rows.specs.declared.answers.Delivered.{Delivered}
 use Rattle.gt_rows.specs.Lent.{IsKept, IsLentRec}
 use Rattle.gt_rows.specs.Rows.{Pair, Parts, Answers, HeadRow, HeadBy, FiresAs, Fires, Runs, DeliverRow, DeliversBy, DeliversTo, Gives}
 use Rattle.gt_schedule.specs.Counts.{as_number, often}
-use Rattle.gt_schedule.specs.Schedule.{plainly, status_of, is_parked, is_in_hand, parties_at, mark_count, ServedBy}
-use Rattle.gt_book.specs.View.{BookView, Enters, outcome_of, is_at_receive, is_parked_at}
+use Rattle.gt_schedule.specs.Schedule.{plainly, status_of, is_parked, parties_at, mark_count, Served}
+use Rattle.gt_book.specs.View.{BookView, Enters, outcome_of, is_at, is_parked_at}
 use Rattle.gt_book.proofs.Fitting.{first-waiting, asleep-parked}
+use Rattle.gt_book.proofs.Going.{parked-goes}
+use Rattle.gt_book.proofs.Waking.{at-recv}
 use Rattle.gt_runner.specs.declared.runner.Runner.{Runner}
 use Rattle.gt_runner.specs.Served.{IsWatched, is_heaped}
 use Rattle.gt_runner.specs.Serves.{IsIdleRun, IsDueHead, Passing}
@@ -99,7 +102,7 @@ pub record Leaves_heap (x x' : Runner) (id : ℕ) (r r1 r' : Rec) (e : Entry) : 
   pub needs_not : needs_heap r' ≡ false
   pub none_ready : r'.ready ≡ None
   pub none_sent : r'.sending ≡ None
-  pub served : ServedBy x.book.schedule (change_of e).mover
+  pub served : Served x.book.schedule e
   pub clock : ClockJumps x.book.script 0 x.book.state e
 
 none-some : (o : Option ℕ) → o ≡ None → IsSome o → ⊥
@@ -150,18 +153,11 @@ plain-answer : (r : Rec) (now : ℕ) → has_channel r.kind ≡ false → is_sta
 plain-answer r now plain fresh come =
     answer-due r now fresh come ∙ ap (λ b. if b then send_answer (send_begun r) (begun r now).when else Ran.Fired r.key r.seq None) plain
 
-parked-may : (o : Option Rattle.gt_schedule.specs.declared.status.RunStatus.RunStatus) → is_parked o ≡ true → IsTrue (is_in_hand o || is_parked o)
-parked-may o h = either (is_in_hand o) (is_parked o) h
-  where
-    either : (a b : Bool) → b ≡ true → (a || b) ≡ true
-    either true b h = refl
-    either false b h = h
-
 fires-passing : (x x' : Runner) (id : ℕ) (d : IsDueHead x id) (r r' : Rec) (e : Entry) (reply : HeadDone) → IsIdleRun x → d.rec ≡ r → slice_get x.records.items id ≡ Some r
     → x'.records.items ≡ set x.records.items id r' → x'.records.spare ≡ x.records.spare → x'.noted ≡ x.noted
     → Fires (record { heap = x.heap; rec = r; book = x.book }) e (record { heap = x'.heap; rec = r'; book = x'.book }) reply → IsKept x'.book x'.heap r'
     → run_as r.kind r (clock x.book.state 0) ≡ out_of_heap (disarmed r)
-    → ((j : ℕ) → j ≢ id → Leaves x.book (change_of e) j) → ServedBy x.book.schedule (change_of e).mover → ClockJumps x.book.script 0 x.book.state e → Passing x x'
+    → ((j : ℕ) → j ≢ id → Leaves x.book (change_of e) j) → Served x.book.schedule e → ClockJumps x.book.script 0 x.book.state e → Passing x x'
 fires-passing x x' id d r r' e reply idle is there records_are spare noted_is fires kept runs leaves served jumps =
     let now : ℕ = clock x.book.state 0 in
     let stale : is_stale r ≡ false = subst (λ r. is_stale r ≡ false) is d.fresh in
@@ -245,10 +241,10 @@ due-item x id r d there =
     }
 
 func-leaves : (v : BookView) (t child j : ℕ) → t ≢ j → Leaves v (change_of (Entry.FireFunc t child)) j
-func-leaves v t child j n = record { timer = n; mover = tt }
+func-leaves v t child j n = record { timer = n; mover = tt; partner = tt }
 
 wake-leaves : (v : BookView) (g j : ℕ) → length v.script.decls + g ≢ j → Leaves v (change_of (Entry.Wake g)) j
-wake-leaves v g j n = record { timer = tt; mover = inl n }
+wake-leaves v g j n = record { timer = tt; mover = inl n; partner = tt }
 
 shown-key : (x : Runner) (id : ℕ) (r : Rec) → Due x id r → due_by x.book.script x.book.state id ≡ Some r.key
 shown-key x id r d =
@@ -277,12 +273,12 @@ heads-passing x x' id r r' reply idle d there records_are spare noted_is row kep
       | RecKind.Func ↦ λ k.
           let fires = subst (FiresAs (parts x r) r.seq (parts x' r') reply) k (plain (ap has_channel k)) in
           fires-passing x x' id d.head r r' _ reply idle d.is there records_are spare noted_is fires kept (ap (λ k. run_as k r now) k)
-          (λ j n. func-leaves x.book r.id (next_number x.book.state) j (λ e. n (sym e ∙ d.id_is))) tt tt
+          (λ j n. func-leaves x.book r.id (next_number x.book.state) j (λ e. n (sym e ∙ d.id_is))) (tt, tt) tt
       | RecKind.Sleep ↦ λ k.
           let fires = subst (FiresAs (parts x r) r.seq (parts x' r') reply) k (plain (ap has_channel k)) in
           let served = sleep-served x id r idle d k in
           fires-passing x x' id d.head r r' _ reply idle d.is there records_are spare noted_is fires kept (ap (λ k. run_as k r now) k)
-          (λ j n. wake-leaves x.book (r.id - length x.book.script.decls) j (λ e. n (sym e ∙ served.0))) (parked-may (status_of x.book.schedule (r.id - length x.book.script.decls)) served.1) tt
+          (λ j n. wake-leaves x.book (r.id - length x.book.script.decls) j (λ e. n (sym e ∙ served.0))) (parked-goes (status_of x.book.schedule (r.id - length x.book.script.decls)) served.1, tt) tt
       | RecKind.Timer ↦ λ k.
           let by = head-by x x' r r' reply (Ran.Fired r.key r.seq (begun r now).when) idle row (timer-answer r now r.key (ap has_channel k) d.fresh d.come d.watched.none_ready d.watched.none_sent d.at) in
           let runs = subst (FiresAs (parts x r) r.seq (parts x' r') reply) k by in
@@ -366,21 +362,21 @@ waiter-there x id r idle d kind =
     let blocked : 0 < r.blocked = ltb-true 0 r.blocked (needs-some (has_channel r.kind) (nat_lt 0 r.blocked) r.when d.needs channel) in
     let count : r.blocked ≡ mark_count v.schedule id = d.watched.blocked channel ∙ ap (mark_count v.schedule) d.id_is in
     let stands = marked-stands x id idle.lawful idle.nobody idle.served.marks (omega arith) in
-    let parked : is_parked_at v.script v.state v.schedule (plainly stands.0) id ≡ true = parked-there v stands.0 id idle.lawful idle.nobody stands.1 in
+    let parked : is_parked_at v.script v.state v.schedule (plainly stands.0) (receives_from id) ≡ true = parked-there v stands.0 id idle.lawful idle.nobody stands.1 in
     let named : names_timer (what_at v.script id) ≡ true = kind-timer (of_declaration v.script id) (ap (kind_by v.script) (sym d.id_is) ∙ (d.watched.kept.rec.agrees.kind ∙ ap Some kind)) in
     let within : id < length v.script.decls = named-within v.script id names_timer refl named in
-    let often_is : often (plainly stands.0) (parties_at v.schedule.receivers id) ≡ as_number (is_parked_at v.script v.state v.schedule (plainly stands.0) id) = idle.lawful.fits.waiting id (plainly stands.0) within in
-    let one : as_number (is_parked_at v.script v.state v.schedule (plainly stands.0) id) ≡ 1 = ap as_number parked in
+    let often_is : often (plainly stands.0) (parties_at v.schedule.receivers id) ≡ as_number (is_parked_at v.script v.state v.schedule (plainly stands.0) (receives_from id)) = idle.lawful.fits.waiting id (plainly stands.0) within in
+    let one : as_number (is_parked_at v.script v.state v.schedule (plainly stands.0) (receives_from id)) ≡ 1 = ap as_number parked in
     some-party (parties_at v.schedule.receivers id) (plainly stands.0) (omega arith)
 
 by-delivering : (b : BookView) (reply : Delivered) (Same Row : Type 0) → outcome_of b ≡ None → Rattle.gt_rows.specs.Rows.UnlessOver b Delivered.Over reply Same Row → Row
 by-delivering b reply Same Row none h = subst (λ (o : Option Outcome). MatchOption o Row (λ outcome. (reply ≡ Delivered.Over outcome) × Same)) none h
 
-party-parked : (v : BookView) (p : Party) (id : ℕ) → is_parked_at v.script v.state v.schedule p id ≡ true → (is_parked (status_of v.schedule p.g) ≡ true) × (sleeps_until v.state p.g ≡ None)
+party-parked : (v : BookView) (p : Party) (id : ℕ) → is_parked_at v.script v.state v.schedule p (receives_from id) ≡ true → (is_parked (status_of v.schedule p.g) ≡ true) × (sleeps_until v.state p.g ≡ None)
 party-parked v p id h =
-    let parked : is_parked (status_of v.schedule p.g) ≡ true = left-true (is_parked (status_of v.schedule p.g)) (is_at_receive v.script v.state p id) h in
-    let there : is_at_receive v.script v.state p id ≡ true = right-true (is_parked (status_of v.schedule p.g)) (is_at_receive v.script v.state p id) h in
-    (parked, stands-awake v p.g (Instr.Recv id) (stands_recv v.script v.state p id (at (operation_at v.script v.state p) there)))
+    let parked : is_parked (status_of v.schedule p.g) ≡ true = left-true (is_parked (status_of v.schedule p.g)) (is_at v.script v.state p (receives_from id)) h in
+    let there : is_at v.script v.state p (receives_from id) ≡ true = right-true (is_parked (status_of v.schedule p.g)) (is_at v.script v.state p (receives_from id)) h in
+    (parked, stands-awake v p.g (Instr.Recv id) (stands_recv v.script v.state p id (at-recv (operation_at v.script v.state p) id there)))
   where
     left-true : (a b : Bool) → (a && b) ≡ true → a ≡ true
     left-true true b e = refl
@@ -389,10 +385,6 @@ party-parked v p id h =
     right-true : (a b : Bool) → (a && b) ≡ true → b ≡ true
     right-true true b e = e
     right-true false b e = cc
-
-    at : (o : Option ℕ) → (elim o as (λ _. Bool) [ None ↦ false | Some u ↦ eqb u id ]) ≡ true → o ≡ Some id
-    at None k = cc
-    at (Some u) k = ap Some (eqb-true u id k)
 
 pub sends-passing : (x x' : Runner) (id seq : ℕ) (r r1 r' : Rec) (b1 : BookView) (h1 : LazyHeap) (reply : Delivered) → IsIdleRun x → Due x id r → slice_get x.records.items id ≡ Some r
     → Sends x b1 h1 r r1 seq → x'.records.items ≡ set x.records.items id r' → x'.records.spare ≡ x.records.spare → x'.noted ≡ x.noted → x'.heap ≡ h1
@@ -417,7 +409,7 @@ sends-passing x x' id seq r r1 r' b1 h1 reply idle d there s records_are spare n
     let enters : Enters v (Entry.TRecv waiter.0 id r.key None) x'.book = subst (λ i. Enters v (Entry.TRecv waiter.0 i r.key None) x'.book) id1 gives.entered in
     let named : names_timer (what_at v.script id) ≡ true = kind-timer (of_declaration v.script id) (ap (kind_by v.script) (sym d.id_is) ∙ (d.watched.kept.rec.agrees.kind ∙ ap Some s.kind)) in
     let within : id < length v.script.decls = named-within v.script id names_timer refl named in
-    let parked : is_parked_at v.script v.state v.schedule waiter.0 id ≡ true = first-waiting v.script v.state v.schedule waiter.0 id idle.lawful.fits within waiter.1 in
+    let parked : is_parked_at v.script v.state v.schedule waiter.0 (receives_from id) ≡ true = first-waiting v.script v.state v.schedule waiter.0 id idle.lawful.fits within waiter.1 in
     let at = party-parked v waiter.0 id parked in
     let rec_is : r' ≡ taken (ended (out_of_heap (begun r now)) seq) None = gives.rec ∙ ap (λ r. taken (ended r seq) None) s.rec_is in
     let same1 : r'.id ≡ r1.id = ap (λ (r : Rec). r.id) gives.rec in
@@ -430,7 +422,7 @@ sends-passing x x' id seq r r1 r' b1 h1 reply idle d there s records_are spare n
       spare = spare;
       noted_is = noted_is;
       enters = enters;
-      leaves = λ j n. record { timer = λ e. n (sym e); mover = inr (at.1, refl) };
+      leaves = λ j n. record { timer = λ e. n (sym e); mover = inr (at.1, refl); partner = tt };
       scans = subst (λ h. Scans x.heap h 0 r r1) (sym heap_is) s.scans;
       out = ap (λ (r : Rec). r.heaped) s.rec_is;
       kept = record {
@@ -445,7 +437,7 @@ sends-passing x x' id seq r r1 r' b1 h1 reply idle d there s records_are spare n
       needs_not = ap needs_heap rec_is;
       none_ready = ap (λ (r : Rec). r.ready) rec_is;
       none_sent = ap (λ (r : Rec). r.sending) rec_is;
-      served = parked-may (status_of v.schedule waiter.0.g) at.0;
+      served = (parked-goes (status_of v.schedule waiter.0.g) at.0, tt);
       clock = tt;
     })
 

@@ -152,8 +152,8 @@ jump-passing x x1 x' id key idle is low later time enters records_are heap_is no
   moves = subst (λ b. Moves b x'.book) is
       (moves-enters x1.book (Entry.Clock 0 key) x'.book idle.lawful enters (jumps-least x1.book key idle.lawful idle.running idle.nobody low later time) idle.nobody.hands);
   served = λ _. record {
-    tended = tended-plain x1 x' (Entry.Clock 0 key) idle.served.tended idle.lawful enters (λ j. record { timer = tt; mover = tt }) records_are heap_is noted_is;
-    marks = fit-enters x1.book (Entry.Clock 0 key) x'.book idle.lawful idle.marks_many enters tt idle.served.marks;
+    tended = tended-plain x1 x' (Entry.Clock 0 key) idle.served.tended idle.lawful enters (λ j. record { timer = tt; mover = tt; partner = tt }) records_are heap_is noted_is;
+    marks = fit-enters x1.book (Entry.Clock 0 key) x'.book idle.lawful idle.marks_many enters (tt, tt) idle.served.marks;
     named = named-enters x1.book (Entry.Clock 0 key) x'.book enters idle.served.named;
   };
 }

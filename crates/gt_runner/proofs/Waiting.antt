@@ -1,7 +1,8 @@
 -- What a whole call does that stops a timer, falls asleep or waits.
-use Rattle.std.proofs.Common.{◌≡◌, ◌≢◌, ◌⊎◌, ℕ, zero, suc, ◌+◌, ◌-◌, ◌^◌, ◌<◌, ◌≤◌, nat_le, if◌then◌else◌, min, List, [], ◌∷◌, ◌++◌, length, set, slice_get, refl, sym, ap, subst, ◌∙◌, arith, Option, None, Some, IsSome, IsTrue, MatchOption, Bool, true, false, is_some, inl, inr}
+use Rattle.std.proofs.Common.{◌≡◌, ◌≢◌, ◌⊎◌, ℕ, zero, suc, ◌+◌, ◌-◌, ◌^◌, ◌<◌, ◌≤◌, nat_le, cond, if◌then◌else◌, min, List, [], ◌∷◌, ◌++◌, length, set, slice_get, refl, sym, ap, subst, ◌∙◌, arith, Option, None, Some, IsSome, IsTrue, MatchOption, Bool, true, false, is_some, inl, inr}
 use Rattle.std.specs.Option.{option_and_then}
 use Rattle.gt_model.specs.declared.script.Instr.{Instr}
+use Rattle.gt_model.specs.declared.script.CaseKind.{CaseKind}
 use Rattle.gt_model.specs.declared.entry.Entry.{Entry}
 use Rattle.gt_model.specs.Tables.{numbered}
 use Rattle.gt_rules.specs.State.{stands_at, clock}
@@ -32,6 +33,7 @@ use Rattle.gt_model.specs.declared.script.What.{What}
 use Rattle.gt_model.specs.Script.{names_timer, is_timer}
 use Rattle.gt_model.proofs.Declared.{timer_setting}
 use Rattle.gt_runner.proofs.Marks.{count-few}
+use Rattle.gt_runner.proofs.Named.{timer-plain}
 use Rattle.gt_runner.proofs.Fitting.{fit-receives, fit-remarked, fit-few, one-awaited, named-enters, named-remarked, named-one}
 use Rattle.gt_runner.proofs.Needing.{never-ticker}
 use Rattle.gt_book.proofs.Passing.{enters-script, enters-limits, enters-jumps, enters-longer, enters-hands, parked_at-leaves_hand, parked_at-hands, parked_at-queued_count}
@@ -41,7 +43,7 @@ use Rattle.gt_runner.specs.Run.{Goes, Jumps}
 use Rattle.gt_runner.proofs.Tending.{tended-touched, Spares, tended-spared, Stays}
 use Rattle.gt_runner.proofs.Touching.{rests-touches, counts-touches}
 use Rattle.gt_runner.specs.Calls.{HasRecord, After, Ready, IsEnrolled, CountedOrGone, Enrols}
-use Rattle.gt_runner.proofs.Calling.{record-is, after-enters, after-armed, in_hand-awake, stands-awake, stands-stop, stands-sleep, running-row, setting-record, names-standing}
+use Rattle.gt_runner.proofs.Calling.{record-is, after-enters, after-armed, in_hand-awake, stands-awake, stands-stop, stands-sleep, running-row, setting-record}
 
 -- where the record stays is where it was
 pub placed-same : (h : LazyHeap) (r r' : Rec) → r'.id ≡ r.id → r'.heaped ≡ r.heaped → r'.key ≡ r.key → IsPlaced h r → IsPlaced h r'
@@ -68,7 +70,7 @@ after-stop x x' g t r r' reply ready next h there records_are spare noted_is hea
     let same_heaped : r'.heaped ≡ r.heaped = ap (λ (r : Rec). r.heaped) s.rec in
     let same_id : r'.id ≡ r.id = ap (λ (r : Rec). r.id) s.rec in
     let number_is : x'.heap.number ≡ x.heap.number = ap (λ (h : LazyHeap). h.number) heap_is in
-    after-enters x x' g _ ready s.entered (in_hand-goes (status_of x.book.schedule g) ready.alone.in_hand) tt
+    after-enters x x' g _ ready s.entered (in_hand-goes (status_of x.book.schedule g) ready.alone.in_hand, tt) tt
     (tended-touched x x' t r r' ready.served.tended (rests-touches x x' t r r' _ ready.lawful (record {
       there = there;
       id_is = own.1;
@@ -77,7 +79,7 @@ after-stop x x' g t r r' reply ready next h there records_are spare noted_is hea
       spare = spare;
       noted_is = noted_is;
       enters = s.entered;
-      leaves = λ j n. record { timer = λ e. n (sym e); mover = inr (in_hand-awake x.book g ready.lawful ready.alone.in_hand, refl) };
+      leaves = λ j n. record { timer = λ e. n (sym e); mover = inr (in_hand-awake x.book g ready.lawful ready.alone.in_hand, refl); partner = tt };
       slots = λ j n. ap (λ (h : LazyHeap). Rattle.gt_lazy.specs.Slots.slot_with h.slots j) heap_is;
       number_is = number_is;
       room = (let heaped = ap (λ (r : Rec). Rattle.gt_schedule.specs.Counts.as_number (is_heaped r)) s.rec in let free = ap (λ (h : LazyHeap). h.spare) heap_is in rw (heaped, free) refl);
@@ -116,8 +118,8 @@ after-sleep x x' g d id r r' reply ready next its h there records_are spare note
       noted_is = noted_is;
       arms = arms;
       kept = kept;
-      leaves = λ j n. record { timer = tt; mover = inl (λ e. n (sym e ∙ sym its)) };
-      served = ready.alone.in_hand;
+      leaves = λ j n. record { timer = tt; mover = inl (λ e. n (sym e ∙ sym its)); partner = tt };
+      served = (ready.alone.in_hand, tt);
       clock = tt;
     })
 
@@ -174,7 +176,7 @@ blocks-enrols x x' ticket t r r' reply (Some got) en h channel there records_are
           spare = spare;
           noted_is = unnoted;
           enters = enters;
-          leaves = λ j n. record { timer = λ e. n (sym e); mover = inr (stands-awake x.book g (Instr.Recv t) en.waits, refl) };
+          leaves = λ j n. record { timer = λ e. n (sym e); mover = inr (stands-awake x.book g (Instr.Recv t) en.waits, refl); partner = tt };
           slots = λ j n. ap (λ (h : LazyHeap). Rattle.gt_lazy.specs.Slots.slot_with h.slots j) row.heap;
           number_is = number_is;
           room = (let heaped = ap (λ (r : Rec). Rattle.gt_schedule.specs.Counts.as_number (is_heaped r)) rec_is in let free = ap (λ (h : LazyHeap). h.spare) row.heap in rw (heaped, free) refl);
@@ -197,7 +199,8 @@ blocks-enrols x x' ticket t r r' reply None en h channel there records_are spare
     let g : ℕ = ticket.g in
     let book_is : x'.book ≡ with_schedule x.book (marked x.book.schedule g t) = row.book ∙ ap (λ i. with_schedule x.book (marked x.book.schedule g i)) own.1 in
     let awaited : awaited_by x.book.script x.book.state g ≡ t ∷ [] =
-    ap (λ (o : Option Instr). elim o as (λ _. List ℕ) [ None ↦ [] | Some i ↦ timers_of i ]) en.waits in
+    ap (λ (o : Option Instr). elim o as (λ _. List ℕ) [ None ↦ [] | Some i ↦ timers_of x.book.script i ]) en.waits
+    ∙ ap (λ b. cond b [] (t ∷ [])) (timer-plain x.book.script t en.timer) in
     record {
       does = inl book_is;
       served = record {
@@ -218,7 +221,7 @@ blocks-enrols x x' ticket t r r' reply None en h channel there records_are spare
             (fit-remarked x.book g (λ ts. ts ++ t ∷ []) [] en.unmarked en.but.marks
             (subst (MarkFits (t ∷ []) (awaited_by x.book.script x.book.state g)) (sym en.live) (sym awaited)));
         named = subst NamesTimers (sym book_is) (named-remarked x.book g (λ ts. ts ++ t ∷ []) [] en.unmarked en.but.named
-            (λ u h. named-one x.book t u (names-standing x.book g (Instr.Recv t) en.lawful en.waits) h));
+            (λ u h. named-one x.book t u en.timer h));
       };
     }
 
@@ -237,16 +240,16 @@ block-enrols x x' ticket t r r' reply en h channel there records_are spare noted
 parked-jumps : (old new : BookView) (m : Schedule) → new ≡ with_schedule old m → Jumps old → Jumps new
 parked-jumps old new m is jumps = subst Jumps (sym is) jumps
 
-goes-parked : (x x1 x' : Runner) (g t : ℕ) → Ready x g → x1.book ≡ with_schedule x.book (parked_at x.book.schedule (plainly g) t) → IsLawful x1.book → CountedOrGone x1.book g t x'.book → Goes g x.book x'.book
+goes-parked : (x x1 x' : Runner) (g t : ℕ) → Ready x g → x1.book ≡ with_schedule x.book (parked_at x.book.schedule (plainly g) (CaseKind.Recv t)) → IsLawful x1.book → CountedOrGone x1.book g t x'.book → Goes g x.book x'.book
 goes-parked x x1 x' g t ready parked lawful (inl is) =
-    let m : Schedule = parked_at x.book.schedule (plainly g) t in
+    let m : Schedule = parked_at x.book.schedule (plainly g) (CaseKind.Recv t) in
     let both : x'.book ≡ with_schedule x.book (marked m g t) = is ∙ ap (λ (b : BookView). with_schedule b (marked b.schedule g t)) parked in
     subst (Goes g x.book) (sym both) (record {
       script = refl;
       limits = refl;
       jumps = λ jumps. jumps;
-      hands = λ h q. ready.alone.alone h (parked_at-hands x.book.schedule (plainly g) t h q);
-      goes = inr (refl, parked_at-queued_count x.book.schedule (plainly g) t ready.alone.in_hand, parked_at-leaves_hand x.book.schedule (plainly g) t ready.alone.in_hand);
+      hands = λ h q. ready.alone.alone h (parked_at-hands x.book.schedule (plainly g) (CaseKind.Recv t) h q);
+      goes = inr (refl, parked_at-queued_count x.book.schedule (plainly g) (CaseKind.Recv t) ready.alone.in_hand, parked_at-leaves_hand x.book.schedule (plainly g) (CaseKind.Recv t) ready.alone.in_hand);
     })
 goes-parked x x1 x' g t ready parked lawful (inr got) =
     let e : Entry = Entry.TRecv (plainly g) t got.0 got.1.0 in
@@ -254,13 +257,13 @@ goes-parked x x1 x' g t ready parked lawful (inr got) =
     record {
       script = enters-script x1.book e x'.book enters ∙ ap (λ (b : BookView). b.script) parked;
       limits = enters-limits x1.book e x'.book enters ∙ ap (λ (b : BookView). b.limits) parked;
-      jumps = λ jumps. enters-jumps x1.book e x'.book enters lawful.reached tt (parked-jumps x.book x1.book (parked_at x.book.schedule (plainly g) t) parked jumps);
-      hands = λ h q. ready.alone.alone h (parked_at-hands x.book.schedule (plainly g) t h
+      jumps = λ jumps. enters-jumps x1.book e x'.book enters lawful.reached tt (parked-jumps x.book x1.book (parked_at x.book.schedule (plainly g) (CaseKind.Recv t)) parked jumps);
+      hands = λ h q. ready.alone.alone h (parked_at-hands x.book.schedule (plainly g) (CaseKind.Recv t) h
           (subst (λ (b : BookView). status_of b.schedule h ≡ Some RunStatus.InHand) parked (enters-hands x1.book e x'.book h enters q)));
       goes = inl (subst (λ (b : BookView). length b.history < length x'.book.history) parked (enters-longer x1.book e x'.book enters));
     }
 
-pub after-enrols : (x x1 x' : Runner) (g t : ℕ) → Ready x g → x1.book ≡ with_schedule x.book (parked_at x.book.schedule (plainly g) t) → IsLawful x1.book → Enrols x1 x' g t → After x x' g
+pub after-enrols : (x x1 x' : Runner) (g t : ℕ) → Ready x g → x1.book ≡ with_schedule x.book (parked_at x.book.schedule (plainly g) (CaseKind.Recv t)) → IsLawful x1.book → Enrols x1 x' g t → After x x' g
 after-enrols x x1 x' g t ready parked lawful e = record { goes = goes-parked x x1 x' g t ready parked lawful e.does; served = e.served }
 
 -- who was parked is enrolled
@@ -285,7 +288,7 @@ empty-marks m g many e none =
     list_or_none None = []
     list_or_none (Some ts) = ts
 
-spares-parked : (x x1 : Runner) (m : Schedule) → x1.book ≡ with_schedule x.book m → m.marks ≡ x.book.schedule.marks → x1.records ≡ x.records → x1.heap ≡ x.heap → x1.noted ≡ x.noted → Spares x x1
+pub spares-parked : (x x1 : Runner) (m : Schedule) → x1.book ≡ with_schedule x.book m → m.marks ≡ x.book.schedule.marks → x1.records ≡ x.records → x1.heap ≡ x.heap → x1.noted ≡ x.noted → Spares x x1
 spares-parked x x1 m is marks records_are heap_is noted_is = record {
   records_are = records_are;
   heap_is = heap_is;
@@ -302,11 +305,11 @@ spares-parked x x1 m is marks records_are heap_is noted_is = record {
   });
 }
 
-pub parked-enrolled : (x x1 : Runner) (g t : ℕ) → Ready x g → stands_at x.book.script x.book.state g ≡ Some (Instr.Recv t)
-    → x1.book ≡ with_schedule x.book (parked_at x.book.schedule (plainly g) t) → x1.records ≡ x.records → x1.heap ≡ x.heap → x1.noted ≡ x.noted
+pub parked-enrolled : (x x1 : Runner) (g t : ℕ) → Ready x g → stands_at x.book.script x.book.state g ≡ Some (Instr.Recv t) → is_timer x.book.script t ≡ true
+    → x1.book ≡ with_schedule x.book (parked_at x.book.schedule (plainly g) (CaseKind.Recv t)) → x1.records ≡ x.records → x1.heap ≡ x.heap → x1.noted ≡ x.noted
     → IsLawful x1.book → length x1.book.schedule.marks ≡ length x1.book.schedule.statuses → IsEnrolled x1 (ticket_of x.book.schedule g) t
-parked-enrolled x x1 g t ready stands is records_are heap_is noted_is lawful many =
-    let m : Schedule = parked_at x.book.schedule (plainly g) t in
+parked-enrolled x x1 g t ready stands timer is records_are heap_is noted_is lawful many =
+    let m : Schedule = parked_at x.book.schedule (plainly g) (CaseKind.Recv t) in
     let status : RunStatus = RunStatus.Parked x.book.schedule.parks in
     let marks_none : marks_at x.book.schedule g ≡ [] =
     subst (MarkFits (marks_at x.book.schedule g) (awaited_by x.book.script x.book.state g)) ready.alone.in_hand (ready.served.marks g) in
@@ -321,6 +324,7 @@ parked-enrolled x x1 g t ready stands is records_are heap_is noted_is lawful man
       marks_many = many;
       live = subst (λ (b : BookView). status_of b.schedule g ≡ Some status) (sym is) (numbered-change_same x.book.schedule.statuses g (λ _. status) RunStatus.InHand ready.alone.in_hand);
       waits = subst (λ (b : BookView). stands_at b.script b.state g ≡ Some (Instr.Recv t)) (sym is) stands;
+      timer = subst (λ (b : BookView). is_timer b.script t ≡ true) (sym is) timer;
       unmarked = subst (λ (b : BookView). numbered b.schedule.marks g ≡ Some []) (sym is) (empty-marks x.book.schedule g ready.marks ready.alone.in_hand marks_none);
       running = subst (λ (b : BookView). outcome_of b ≡ None) (sym is) ready.running;
     }
@@ -328,7 +332,7 @@ parked-enrolled x x1 g t ready stands is records_are heap_is noted_is lawful man
 -- the timer at which a goroutine waits has a record with a channel
 pub waits-record : (x : Runner) (ticket : Ticket) (t : ℕ) → IsEnrolled x ticket t → HasRecord x t
 waits-record x ticket t en =
-    setting-record x t en.but.tended (timer_setting x.book.script t (names-standing x.book ticket.g (Instr.Recv t) en.lawful en.waits))
+    setting-record x t en.but.tended (timer_setting x.book.script t en.timer)
 
 timer-channel : (o : Option Decl) (kind : RecKind) → names_timer (option_map (λ (d : Decl). d.what) o) ≡ true
     → (elim o as (λ _. Option RecKind) [ None ↦ Some RecKind.Sleep | Some decl ↦ kind_of_what decl.what ]) ≡ Some kind → has_channel kind ≡ true
@@ -338,6 +342,7 @@ timer-channel (Some decl) kind h e = of_what decl.what kind h e
     of_what : (w : What) (kind : RecKind) → names_timer (Some w) ≡ true → kind_of_what w ≡ Some kind → has_channel kind ≡ true
     of_what What.Timer kind h e = let is : RecKind.Timer ≡ kind = cc in ap has_channel (sym is)
     of_what (What.AfterFunc f) kind h e = cc
+    of_what (What.Chan cap) kind h e = cc
     of_what What.Function kind h e = cc
 
 pub channel-of : (x : Runner) (t : ℕ) (r : Rec) → is_timer x.book.script t ≡ true → HasRecord x t × (r.id ≡ t) × IsWatched x.book x.heap x.noted r → has_channel r.kind ≡ true
@@ -347,7 +352,7 @@ channel-of x t r timer own =
 
 pub waits-channel : (x : Runner) (ticket : Ticket) (t : ℕ) (r : Rec) → IsEnrolled x ticket t → slice_get x.records.items t ≡ Some r → has_channel r.kind ≡ true
 waits-channel x ticket t r en there =
-    channel-of x t r (names-standing x.book ticket.g (Instr.Recv t) en.lawful en.waits) (record-is x t r (waits-record x ticket t en) there)
+    channel-of x t r en.timer (record-is x t r (waits-record x ticket t en) there)
 
 -- few goroutines have marks
 marks-few : (x : Runner) (ticket : Ticket) (t : ℕ) → IsEnrolled x ticket t → (g : ℕ) → length (marks_at x.book.schedule g) ≤ 1

@@ -1,22 +1,24 @@
 -- Where nobody runs, the counted times are the due times of the records that need a heap.
-use Rattle.std.proofs.Common.{◌≡◌, ◌≢◌, eqb, ℕ, zero, suc, ◌+◌, ◌<◌, ◌==◌, List, [], ◌∷◌, refl, sym, ap, subst, ◌∙◌, arith, Option, None, Some, Bool, true, false, ◌&&◌, ◌||◌, eq-eqb}
+use Rattle.std.proofs.Common.{◌≡◌, ◌≢◌, eqb, cond, ℕ, zero, suc, ◌+◌, ◌<◌, ◌==◌, List, [], ◌∷◌, refl, sym, ap, subst, ◌∙◌, arith, Option, None, Some, Bool, true, false, ◌&&◌, ◌||◌, eq-eqb}
 use Rattle.std.specs.List.{list_any}
 use Rattle.std.proofs.lemmas.Bool.{eqb-true}
 use Rattle.gt_model.specs.declared.script.Script.{Script}
 use Rattle.gt_model.specs.declared.script.Instr.{Instr}
+use Rattle.gt_model.specs.declared.script.CaseKind.{CaseKind}
+use Rattle.gt_model.specs.Script.{is_chan}
 use Rattle.gt_model.specs.declared.state.Goroutine.{Goroutine}
 use Rattle.gt_model.specs.declared.state.Mode.{Mode}
 use Rattle.gt_model.specs.Tables.{numbered}
 use Rattle.gt_model.proofs.Items.{HasNumber}
 use Rattle.gt_rules.specs.State.{State, goroutine_at, stands, stands_at}
-use Rattle.gt_rules.specs.Counted.{receives, awaits, is_awaited}
+use Rattle.gt_rules.specs.Counted.{awaits, is_awaited}
+use Rattle.gt_rules.specs.Operations.{operation, receives_from, offers}
 use Rattle.gt_facts.proofs.Lookups.{any-numbered, receives-recv, Standing, standing}
 use Rattle.gt_schedule.specs.declared.status.RunStatus.{RunStatus}
 use Rattle.gt_schedule.specs.Counts.{as_number, times}
 use Rattle.gt_schedule.specs.Schedule.{Schedule, plainly, status_of, is_parked, marks_at, mark_count}
 use Rattle.gt_book.specs.Least.{NobodyRuns}
-use Rattle.gt_book.specs.View.{BookView, IsLawful, Agrees, is_at_receive, is_parked_at}
-use Rattle.gt_rules.specs.Legal.{operation}
+use Rattle.gt_book.specs.View.{BookView, IsLawful, Agrees, is_at, is_parked_at}
 use Rattle.gt_book.proofs.Fitting.{has_status, none-queued}
 use Rattle.gt_runner.specs.declared.runner.Runner.{Runner}
 use Rattle.gt_runner.specs.Served.{MarkFits, MarkFitsAt, awaited_by, timers_of}
@@ -60,25 +62,30 @@ marks-option None m g e = rw e refl
 marks-option (Some ts) m g e = rw e refl
 
 pub stands-marked : (x : Runner) (g t : ℕ) → IsLawful x.book → NobodyRuns x.book → ((h : ℕ) → MarkFitsAt x.book.script x.book.state x.book.schedule h)
-    → stands_at x.book.script x.book.state g ≡ Some (Instr.Recv t) → 0 < mark_count x.book.schedule t
-stands-marked x g t lawful nobody fit e =
+    → is_chan x.book.script t ≡ false → stands_at x.book.script x.book.state g ≡ Some (Instr.Recv t) → 0 < mark_count x.book.schedule t
+stands-marked x g t lawful nobody fit plain e =
     let v : BookView = x.book in
     let w : IsWaiting v g t = waiting v g t lawful nobody e in
     let marks : marks_at v.schedule g ≡ awaited_by v.script v.state g = subst (MarkFits (marks_at v.schedule g) (awaited_by v.script v.state g)) w.parked (fit g) in
-    let awaited : awaited_by v.script v.state g ≡ t ∷ [] = ap (λ (o : Option Instr). elim o as (λ _. List ℕ) [ None ↦ [] | Some i ↦ timers_of i ]) e in
+    let awaited : awaited_by v.script v.state g ≡ t ∷ [] =
+    ap (λ (o : Option Instr). elim o as (λ _. List ℕ) [ None ↦ [] | Some i ↦ timers_of v.script i ]) e ∙ ap (λ b. cond b [] (t ∷ [])) plain in
     let one : numbered v.schedule.marks g ≡ Some (t ∷ []) =
     some-marks (numbered v.schedule.marks g) t (sym (marks-option (numbered v.schedule.marks g) v.schedule g refl) ∙ (marks ∙ awaited)) in
     mark-counts v.schedule g t (t ∷ []) one (rw (eq-eqb t t refl) (omega arith))
 
 -- who has a mark and is not to be taken stands there
-recv-only : (o : Option Instr) (t : ℕ) → 0 < times t (elim o as (λ _. List ℕ) [ None ↦ [] | Some i ↦ timers_of i ]) → o ≡ Some (Instr.Recv t)
-recv-only None t h = absurd (omega arith)
-recv-only (Some (Instr.Recv o)) t h = ap (λ k. Some (Instr.Recv k)) (eqb-true o t (one (eqb o t) refl h))
+recv-only : (script : Script) (o : Option Instr) (t : ℕ) → 0 < times t (elim o as (λ _. List ℕ) [ None ↦ [] | Some i ↦ timers_of script i ]) → o ≡ Some (Instr.Recv t)
+recv-only script None t h = absurd (omega arith)
+recv-only script (Some (Instr.Recv o)) t h = by (is_chan script o) h
   where
     one : (b : Bool) → eqb o t ≡ b → 0 < as_number b + 0 → eqb o t ≡ true
     one true e h = e
     one false e h = absurd (omega arith)
-recv-only (Some _) t h = absurd (omega arith)
+
+    by : (chan : Bool) → 0 < times t (cond chan [] (o ∷ [])) → Some (Instr.Recv o) ≡ Some (Instr.Recv t)
+    by true k = absurd (omega arith)
+    by false k = ap (λ k. Some (Instr.Recv k)) (eqb-true o t (one (eqb o t) refl k))
+recv-only script (Some _) t h = absurd (omega arith)
 
 pub marked-stands : (x : Runner) (t : ℕ) → IsLawful x.book → NobodyRuns x.book → ((h : ℕ) → MarkFitsAt x.book.script x.book.state x.book.schedule h)
     → 0 < mark_count x.book.schedule t → (g : ℕ) × (stands_at x.book.script x.book.state g ≡ Some (Instr.Recv t))
@@ -87,7 +94,7 @@ marked-stands x t lawful nobody fit some =
     let m : HasMark v.schedule t = has-mark v.schedule t some in
     let marks : marks_at v.schedule m.who ≡ m.marks = marks-option (Some m.marks) v.schedule m.who m.there in
     let has : 0 < times t (marks_at v.schedule m.who) = subst (λ ts. 0 < times t ts) (sym marks) m.marked in
-    (m.who, recv-only (stands_at v.script v.state m.who) t (by_status (status_of v.schedule m.who) refl has (fit m.who)))
+    (m.who, recv-only v.script (stands_at v.script v.state m.who) t (by_status (status_of v.schedule m.who) refl has (fit m.who)))
   where
     by_status : (o : Option RunStatus) → status_of x.book.schedule (has-mark x.book.schedule t some).who ≡ o
         → 0 < times t (marks_at x.book.schedule (has-mark x.book.schedule t some).who)
@@ -134,10 +141,10 @@ left-of false b e = cc
 
 awaits-recv : (script : Script) (s : State) (g t : ℕ) (r : Goroutine) → goroutine_at s g ≡ Some r → awaits script 0 t r ≡ true → stands_at script s g ≡ Some (Instr.Recv t)
 awaits-recv script s g t r there e =
-    let at : (elim (stands script r) as (λ _. Bool) [ None ↦ false | Some i ↦ receives t i ]) ≡ true = right-of (r.world == 0) _ e in
+    let at : (elim (stands script r) as (λ _. Bool) [ None ↦ false | Some i ↦ offers (receives_from t) i ]) ≡ true = right-of (r.world == 0) _ e in
     ap (λ (o : Option Goroutine). elim o as (λ _. Option Instr) [ None ↦ None | Some r ↦ stands script r ]) there ∙ on (stands script r) at
   where
-    on : (o : Option Instr) → (elim o as (λ _. Bool) [ None ↦ false | Some i ↦ receives t i ]) ≡ true → o ≡ Some (Instr.Recv t)
+    on : (o : Option Instr) → (elim o as (λ _. Bool) [ None ↦ false | Some i ↦ offers (receives_from t) i ]) ≡ true → o ≡ Some (Instr.Recv t)
     on None h = cc
     on (Some i) h = ap Some (receives-recv i t h)
 
@@ -153,14 +160,14 @@ stands-awaited v g t lawful e =
     let on : stands v.script st.who ≡ Some (Instr.Recv t) =
     ap (λ (o : Option Goroutine). elim o as (λ _. Option Instr) [ None ↦ None | Some r ↦ stands v.script r ]) (sym st.there) ∙ e in
     any-numbered (awaits v.script 0 t) v.state.goroutines g st.who st.there
-    (rw (eq-eqb st.who.world 0 world) (ap (λ (o : Option Instr). elim o as (λ _. Bool) [ None ↦ false | Some i ↦ receives t i ]) on ∙ eq-eqb t t refl))
+    (rw (eq-eqb st.who.world 0 world) (ap (λ (o : Option Instr). elim o as (λ _. Bool) [ None ↦ false | Some i ↦ offers (receives_from t) i ]) on ∙ eq-eqb t t refl))
 
 -- whether its party at the plain instruction stands there
-plainly-receiving : (script : Script) (s : State) (g t : ℕ) → stands_at script s g ≡ Some (Instr.Recv t) → is_at_receive script s (plainly g) t ≡ true
+plainly-receiving : (script : Script) (s : State) (g t : ℕ) → stands_at script s g ≡ Some (Instr.Recv t) → is_at script s (plainly g) (receives_from t) ≡ true
 plainly-receiving script s g t e =
-    ap (λ (o : Option Instr). elim (elim o as (λ _. Option ℕ) [ None ↦ None | Some i ↦ operation i 0 ]) as (λ _. Bool) [ None ↦ false | Some u ↦ eqb u t ]) e ∙ eq-eqb t t refl
+    ap (λ (o : Option Instr). elim (elim o as (λ _. Option CaseKind) [ None ↦ None | Some i ↦ operation i 0 ]) as (λ _. Bool) [ None ↦ false | Some kind ↦ receives_from t kind ]) e ∙ eq-eqb t t refl
 
-pub parked-there : (v : BookView) (g t : ℕ) → IsLawful v → NobodyRuns v → stands_at v.script v.state g ≡ Some (Instr.Recv t) → is_parked_at v.script v.state v.schedule (plainly g) t ≡ true
+pub parked-there : (v : BookView) (g t : ℕ) → IsLawful v → NobodyRuns v → stands_at v.script v.state g ≡ Some (Instr.Recv t) → is_parked_at v.script v.state v.schedule (plainly g) (receives_from t) ≡ true
 parked-there v g t lawful nobody e =
     let w : IsWaiting v g t = waiting v g t lawful nobody e in
     let known : is_parked (status_of v.schedule g) ≡ true = ap is_parked w.parked in

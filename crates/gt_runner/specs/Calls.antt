@@ -1,9 +1,10 @@
 -- What a whole call of a goroutine in hand needs, and what it leaves.
-use Rattle.std.specs.Prelude.{ℕ, ◌≡◌, ◌⊎◌, Bool, [], length, slice_get}
+use Rattle.std.specs.Prelude.{ℕ, ◌≡◌, ◌⊎◌, Bool, true, [], length, slice_get}
 use Rattle.std.specs.declared.option.Option.{Option}
 use Rattle.std.specs.declared.option.Option.TheVariants.{None, Some}
 use Rattle.gt_model.specs.declared.script.Instr.{Instr}
 use Rattle.gt_model.specs.declared.entry.Entry.{Entry}
+use Rattle.gt_model.specs.Script.{is_timer}
 use Rattle.gt_model.specs.Tables.{numbered}
 use Rattle.gt_rules.specs.State.{stands_at}
 use Rattle.gt_rec.specs.Rec.{Rec}
@@ -43,13 +44,14 @@ pub record WantsSet (b : BookView) (g t : ℕ) : Type 0 where
   pub anew : Bool
   pub wants : next_of b g ≡ Some (Step.Needs (TimerOp.Set t d anew))
 
--- a run in which g was parked at a receive from t, and is not counted there yet
+-- a run in which g was parked at a receive from timer t, and is not counted there yet
 pub record IsEnrolled (x : Runner) (ticket : Ticket) (t : ℕ) : Type 0 where
   pub but : IsServedBut x ticket.g
   pub lawful : IsLawful x.book
   pub marks_many : length x.book.schedule.marks ≡ length x.book.schedule.statuses
   pub live : IsLive x.book.schedule ticket
   pub waits : stands_at x.book.script x.book.state ticket.g ≡ Some (Instr.Recv t)
+  pub timer : is_timer x.book.script t ≡ true
   pub unmarked : numbered x.book.schedule.marks ticket.g ≡ Some []
   pub running : outcome_of x.book ≡ None
 

@@ -11,7 +11,8 @@ use Rattle.gt_rows.specs.Rows.{next_of}
 use Rattle.gt_schedule.specs.declared.status.Ticket.{Ticket}
 use Rattle.gt_runner.specs.Calls.{WantsSet, IsEnrolled, Enrols}
 use Rattle.gt_runner.proofs.Growing.{ready-same, after-same}
-use Rattle.gt_runner.proofs.Calling.{steps-after, stands-recv}
+use Rattle.gt_runner.proofs.Calling.{stands-recv}
+use Rattle.gt_runner.proofs.Parking.{steps-after, waits-timer}
 use Rattle.gt_runner.proofs.Waiting.{parked-enrolled, after-enrols}
 use Rattle.gt_runner.proofs.calls.call.Goals as goal
 
@@ -49,7 +50,8 @@ wait-requires c =
       enrolled = (
         parks.at,
         subst (λ ticket. IsEnrolled (record x { book = c.step_plain.new.self }) ticket parks.at) (sym parks.its)
-            (parked-enrolled x (record x { book = c.step_plain.new.self }) c.args.g parks.at c.requires.ready (stands-recv x.book c.args.g parks.at parks.waits) parks.parked refl refl refl
+            (parked-enrolled x (record x { book = c.step_plain.new.self }) c.args.g parks.at c.requires.ready (stands-recv x.book c.args.g parks.at c.requires.ready.lawful parks.waits)
+            (waits-timer x.book c.args.g parks.at c.requires.ready.lawful parks.waits) parks.parked refl refl refl
             c.lawful.ensures.lawful c.lawful.ensures.marks),
       );
     }
@@ -109,7 +111,7 @@ returns-in-Enrolled c =
     let parks : ParksUnder x.book c.args.g c.in-Enrolled.ticket b = steps-enrolled x.book c.args.g b c.in-Enrolled.ticket c.requires.ready.running steps in
     let g_is : c.in-Enrolled.ticket.g ≡ c.args.g = ap (λ (t : Ticket). t.g) parks.its in
     let stands : stands_at b.script b.state c.args.g ≡ Some (Instr.Recv parks.at) =
-    subst (λ (b : BookView). stands_at b.script b.state c.args.g ≡ Some (Instr.Recv parks.at)) (sym parks.parked) (stands-recv x.book c.args.g parks.at parks.waits) in
+    subst (λ (b : BookView). stands_at b.script b.state c.args.g ≡ Some (Instr.Recv parks.at)) (sym parks.parked) (stands-recv x.book c.args.g parks.at c.requires.ready.lawful parks.waits) in
     let stands_too : stands_at b.script b.state c.args.g ≡ Some (Instr.Recv c.wait.ensures.0) = subst (λ g. stands_at b.script b.state g ≡ Some (Instr.Recv c.wait.ensures.0)) g_is c.wait.ensures.1.1 in
     let same : c.wait.ensures.0 ≡ parks.at = same-recv (stands_at b.script b.state c.args.g) c.wait.ensures.0 parks.at stands_too stands in
     let enrols : Enrols (record x { book = b }) c.wait.new.run c.args.g parks.at =

@@ -8,8 +8,8 @@ use Rattle.gt_runner.specs.Served.{noted_at}
 use Rattle.gt_runner.specs.Calls.{HasRecord, Ready}
 use Rattle.gt_runner.proofs.Tending.{get-set_same}
 use Rattle.gt_runner.proofs.Growing.{ready-grown, after-same}
-use Rattle.gt_runner.proofs.Calling.{sleep-record, record-lent}
-use Rattle.gt_runner.proofs.Waiting.{after-sleep}
+use Rattle.gt_runner.proofs.Calling.{sleep-record, record-is, record-lent}
+use Rattle.gt_runner.proofs.Waiting.{sleep-sleeps, after-sleep}
 use Rattle.gt_runner.proofs.calls.sleep.Goals as goal
 
 pub sec_sleep-done-requires-clause-lent : goal.sec_sleep-done-requires-clause-lent
@@ -19,6 +19,17 @@ sec_sleep-done-requires-clause-lent c =
     let names : length c.as_slice.result.now ≡ length x1.book.script.decls =
     ap length (c.as_slice.ensures ∙ ap (λ (s : Script). s.decls) (c.script.ensures ∙ ap (λ (b : BookView). b.script) (sym c.grow.ensures.grows.book_is))) in
     record-lent x1 id c.at_mut.result.now c.grow.ensures.served.tended (sleep-record x1 id c.grow.ensures.served.tended (omega arith) c.grow.ensures.within) c.at_mut.ensures.value
+
+pub sec_sleep-done-requires-clause-stands : goal.sec_sleep-done-requires-clause-stands
+sec_sleep-done-requires-clause-stands c =
+    let x1 = c.grow.new.run in
+    let id = length c.as_slice.result.now + c.args.g in
+    let names : length c.as_slice.result.now ≡ length x1.book.script.decls =
+    ap length (c.as_slice.ensures ∙ ap (λ (s : Script). s.decls) (c.script.ensures ∙ ap (λ (b : BookView). b.script) (sym c.grow.ensures.grows.book_is))) in
+    let h : HasRecord x1 id = sleep-record x1 id c.grow.ensures.served.tended (omega arith) c.grow.ensures.within in
+    let own = record-is x1 id c.at_mut.result.now h c.at_mut.ensures.value in
+    let next : next_of x1.book c.args.g ≡ Some (Step.Needs (TimerOp.Sleep c.requires.wants.0)) = subst (λ b. next_of b c.args.g ≡ Some (Step.Needs (TimerOp.Sleep c.requires.wants.0))) (sym c.grow.ensures.grows.book_is) c.requires.wants.1 in
+    record { stands = sleep-sleeps x1.book c.args.g c.requires.wants.0 next; its = own.1 ∙ ap (λ n. n + c.args.g) names }
 
 pub returns : goal.returns
 returns c =
