@@ -1,5 +1,5 @@
 -- What the tests of channels keep from step to step.
-use Rattle.std.specs.Prelude.{◌≡◌, Option, None, IsSome}
+use Rattle.std.specs.Prelude.{◌≡◌, None, IsSome}
 use Rattle.gt_select.specs.Waiting.{Waiting, ticket_of}
 use Rattle.gt_chan.specs.Channel.{Channel, HasLists}
 
