@@ -232,7 +232,8 @@ fn the_limit_ends_a_run(rt: HostRuntime) -> Result<(), Fail> {
 /// An AfterFunc timer that sets itself anew goes on for ever, while main waits at a channel.
 #[test]
 fn a_timer_goes_on_beside_a_channel(rt: HostRuntime) -> Result<(), Fail> {
-    let script = "gotime script 1\nafterfunc f again\nchan c 0\nfunc main\nmake c\nnew f 1ms\nrecv c\nend\n\
+    let script =
+        "gotime script 1\nafterfunc f again\nchan c 0\nfunc main\nmake c\nnew f 1ms\nrecv c\nend\n\
         func again\nreset f 1ms\nend\n";
     let mut trace = String::from_str(rt.alloc(), "make g1 c\nnew g1 f 1000000\n")?;
     for n in 1..13_u64 {
