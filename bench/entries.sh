@@ -34,10 +34,7 @@ script() {
         printf 'sleep 1h\nend\n'
         ;;
     buffered) printf 'chan c 1\nfunc main\nmake c\n' && repeated $'send c 1\nrecv c' "$(($2 / 2))" && echo "end" ;;
-    pairs)
-        printf 'chan c 0\nfunc main\nmake c\ngo a\n' && repeated "send c 1" "$2" && echo "end"
-        echo "func a" && repeated "recv c" "$2" && echo "end"
-        ;;
+    pairs) printf 'chan c 0\nfunc main\nmake c\ngo a\nloop %s\nsend c 1\nend\nend\nfunc a\nloop %s\nrecv c\nend\nend\n' "$2" "$2" ;;
     senders)
         local waiting=$(($2 / 3))
         printf 'chan c 0\nfunc main\nmake c\n' && repeated "go a" "$waiting" && echo "sleep 1ms"
