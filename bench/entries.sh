@@ -44,6 +44,13 @@ script() {
         printf 'chan c 0\nfunc main\nmake c\n' && repeated "go a" "$(($2 / 3))"
         printf 'sleep 1ms\nclose c\nsleep 1ms\nend\nfunc a\nrecv c\nend\n'
         ;;
+    cases)
+        seq -f 'chan c%g 0' 16
+        printf 'func main\n' && seq -f 'make c%g' 16 && seq -f 'go f%g' 16
+        printf 'loop %s\nselect\n' "$(($2 / 16 * 16))" && seq -f 'case recv c%g' 16 && printf 'end\nend\nend\n'
+        local i
+        for i in $(seq 16); do printf 'func f%s\nloop %s\nsend c%s 1\nend\nend\n' "$i" "$(($2 / 16))" "$i"; done
+        ;;
     go) printf 'timer t\nfunc main\nnew t 1ms\nstop t\ngo a\nrecv t\nend\nfunc a\ngo a\nend\n' ;;
     esac
 }
@@ -55,7 +62,7 @@ instructions() {
 }
 
 # A chain of goroutines goes on until its limit, the others to their end. A script has fewer than 4,096 timers.
-for kind in say loop sleep reset receive go sleepers timers buffered pairs senders closed; do
+for kind in say loop sleep reset receive go sleepers timers buffered pairs senders closed cases; do
     for count in 1000 99000; do
         limit=200000
         if [ "$kind" = timers ] && [ "$count" -gt 12000 ]; then count=12000; fi

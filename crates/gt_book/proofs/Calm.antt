@@ -6,6 +6,7 @@ use Rattle.std.proofs.Math.ListN.{length-append}
 use Rattle.gt_model.specs.declared.script.Script.{Script}
 use Rattle.gt_model.specs.declared.script.Instr.{Instr}
 use Rattle.gt_model.specs.declared.script.CaseKind.{CaseKind}
+use Rattle.gt_model.specs.declared.script.Case.{Case}
 use Rattle.gt_model.specs.declared.entry.Entry.{Entry}
 use Rattle.gt_model.specs.declared.state.Goroutine.{Goroutine}
 use Rattle.gt_model.specs.declared.state.Mode.{Mode}
@@ -17,24 +18,24 @@ use Rattle.gt_rules.specs.State.{State, goroutine_at, channel_at, stands_at}
 use Rattle.gt_rules.specs.Operations.{operation, offers, receives_from, sends_to}
 use Rattle.gt_rules.specs.After.{after, changed, moved, in_mode, with_mover, with_starts, started_by}
 use Rattle.gt_rules.specs.Change.{Change, change_of}
-use Rattle.gt_rules.specs.Legal.{May}
-use Rattle.gt_rules.specs.Panics.{fault, panic_at}
+use Rattle.gt_rules.specs.Legal.{May, Does}
+use Rattle.gt_rules.specs.Panics.{fault, choice_fault, panic_at}
 use Rattle.gt_rules.specs.Ready.{is_firm, is_ready_case, is_ready_alone, has_partner, partner_waits, no_timer, everyone}
 use Rattle.gt_rules.specs.declared.change.Move.{Move}
 use Rattle.gt_rules.specs.declared.change.Start.{Start}
 use Rattle.gt_rules.specs.declared.change.Trade.{Trade}
 use Rattle.gt_facts.specs.Formed.{IsFormed}
 use Rattle.gt_facts.specs.Quiet.{none_firm}
-use Rattle.gt_facts.proofs.Lookups.{Standing, standing, AtOperation, at_operation, is_recv, is_send, SendsTo, sends-send, receives-recv, names-Does}
+use Rattle.gt_facts.proofs.Lookups.{Standing, standing, AtOperation, at_operation, SendsTo, sends-send, ReceivesFrom, receives-recv, offers-operation, names-Does, names-operation}
 use Rattle.gt_facts.proofs.Partners.{Partner, partner, partner-waits}
 use Rattle.gt_schedule.specs.declared.status.RunStatus.{RunStatus}
-use Rattle.gt_schedule.specs.Schedule.{Schedule, plainly, status_of, is_parked, taken, parked_at, with_new, gone_on, turned, moved_by, begun_by, rescheduled, scheduled, MayMove, ServedBy, ServedIn, Served}
+use Rattle.gt_schedule.specs.Schedule.{Schedule, plainly, at_case, status_of, is_parked, taken, parked, parked_at, parked_cases, with_new, gone_on, turned, moved_by, begun_by, rescheduled, scheduled, MayMove, ServedBy, ServedIn, Served}
 use Rattle.gt_schedule.proofs.Counting.{Parking, status-parked}
 use Rattle.gt_schedule.proofs.Parties.{parked_at-status_other}
 use Rattle.gt_book.specs.View.{Agrees, is_waiting, is_firm_at, Fits}
 use Rattle.gt_book.specs.Calm.{IsCalm, IsCalmBut}
-use Rattle.gt_book.proofs.Fitting.{Known, known, has_status, unchanged, fits-moved, fits-both, Waiter}
-use Rattle.gt_book.proofs.Firm.{WasThere, waited, sleeps, AllWere, Stays, firm_of, firm_on, stood, operation_of, has_fault, firm-stood, firm-fault, firm-partner, firm-next, never-both, both-false, unless-true, no-reason, calm-standing, nowhere, calm-nowhere, calm_but-next, calm-next}
+use Rattle.gt_book.proofs.Fitting.{Known, known, has_status, unchanged, fits-moved, fits-both, Waiter, cases-statuses}
+use Rattle.gt_book.proofs.Firm.{WasThere, waited, sleeps, AllWere, Stays, firm_of, firm_on, stood, firm-stood, firm-fault, IsQuiet, firm-each, firm-waits, quiet-firm, waits-polls, any-none, never-both, both-false, unless-true, no-reason, calm-standing, nowhere, calm-nowhere, calm_but-next, calm-next}
 use Rattle.gt_book.proofs.Stays.{trades_at, stays-May, stays-wider, stays-same, traded-made-May}
 
 -- ---- who is parked after a move
@@ -190,24 +191,51 @@ plain-firm script s counts g (Instr.Send c v) kind has none alone partner =
     (subst (λ k. is_ready_case script s no_timer counts g k ≡ false) (sym is) (both-false (is_ready_alone script s no_timer kind) _ alone partner))
 plain-firm script s counts g i kind has none alone partner = cc
 
--- who waits at such an operation leaves nobody firmly ready
-module _ (script : Script) (s : State) (m : Schedule) (g : ℕ) (kind : CaseKind) (good : IsGood script) (can : CanPark script s m g kind) (calm : IsCalm script s m) where
-  abbrev then : Schedule
-  then = parked_at m (plainly g) kind
+-- One that is to wait where it stands, where it is not firmly ready by those that are parked
+pub record CanWait (script : Script) (s : State) (m : Schedule) (g : ℕ) : Type 0 where
+  pub instr : Instr
+  pub stands : stands_at script s g ≡ Some instr
+  pub firm : firm_on script s (is_waiting m) g (Some instr) ≡ false
 
+pub parks-waits : (script : Script) (s : State) (m : Schedule) (g : ℕ) (kind : CaseKind) → CanPark script s m g kind → CanWait script s m g
+parks-waits script s m g kind can = record {
+  instr = can.waiter.instr;
+  stands = can.waiter.stands;
+  firm = plain-firm script s (is_waiting m) g can.waiter.instr kind can.waiter.has can.faultless can.alone can.partner;
+}
+
+-- a choice without a default may wait where none of its cases is ready
+pub chooses-waits : (script : Script) (s : State) (m : Schedule) (g : ℕ) (cases : List Case) → stands_at script s g ≡ Some (Instr.Select cases None) → choice_fault s cases ≡ None
+    → ((k : ℕ) (c : Case) → slice_get cases k ≡ Some c → is_ready_case script s no_timer (is_waiting m) g c.kind ≡ false) → CanWait script s m g
+chooses-waits script s m g cases stands none each = record {
+  instr = Instr.Select cases None;
+  stands = stands;
+  firm = both-false (is_some (choice_fault s cases)) _ (ap is_some none) (any-none (λ (c : Case). is_ready_case script s no_timer (is_waiting m) g c.kind) cases each);
+}
+
+-- who waits at such operations leaves nobody firmly ready
+module _ (script : Script) (s : State) (m then : Schedule) (g : ℕ) (others_stay : (h : ℕ) → h ≢ g → status_of then h ≡ status_of m h) (good : IsGood script) (can : CanWait script s m g)
+    (calm : IsCalm script s m) where
   abbrev instr : Instr
-  instr = can.waiter.instr
+  instr = can.instr
+
+  quiet : (n : ℕ) (kind : CaseKind) → operation instr n ≡ Some kind → IsQuiet script s (is_waiting m) g kind
+  quiet n kind has = firm-each script s (is_waiting m) g (Some instr) n kind can.firm has
 
   -- who is parked then, but g, was parked before
   waited-before : (h : ℕ) → h ≢ g → is_waiting then h ≡ true → is_waiting m h ≡ true
-  waited-before h other waits = sym (ap is_parked (parked_at-status_other m (plainly g) kind h other)) ∙ waits
+  waited-before h other waits = sym (ap is_parked (others_stay h other)) ∙ waits
 
   partner-other : (h : ℕ) (test : CaseKind → Bool) (p : Partner script s (is_waiting then) h test) → p.number ≢ g → Partner script s (is_waiting m) h test
-  partner-other h test p other =
-      record { number = p.number; instr = p.instr; other = p.other; counted = waited-before p.number other p.counted; does = p.does; passes = p.passes }
-
-  own-calm : panic_at script s g ≡ None
-  own-calm = calm-standing script s g instr can.waiter.stands can.faultless
+  partner-other h test p other = record {
+    number = p.number;
+    instr = p.instr;
+    other = p.other;
+    counted = waited-before p.number other p.counted;
+    does = p.does;
+    waits = p.waits;
+    passes = p.passes;
+  }
 
   -- g itself meets nobody
   alone-partner : (test : CaseKind → Bool) → partner_waits script s (is_waiting then) g test ≡ true → partner_waits script s (is_waiting m) g test ≡ true
@@ -225,72 +253,78 @@ module _ (script : Script) (s : State) (m : Schedule) (g : ℕ) (kind : CaseKind
 
   own-firm : is_firm_at script s then g ≡ false
   own-firm =
-      let none : has_partner script s (is_waiting then) g kind ≡ false =
-      unless-true (has_partner script s (is_waiting then) g kind) (λ h. never-both (has_partner script s (is_waiting m) g kind) (has-back kind h) can.partner) in
       firm-stood script s (is_waiting then) g (goroutine_at s g)
-      ∙ (ap (firm_on script s (is_waiting then) g) can.waiter.stands ∙ plain-firm script s (is_waiting then) g instr kind can.waiter.has can.faultless can.alone none)
+      ∙ (ap (firm_on script s (is_waiting then) g) can.stands
+      ∙ quiet-firm script s (is_waiting then) g (Some instr) (firm-waits script s (is_waiting m) g (Some instr) can.firm) (λ n kind has.
+      let x : IsQuiet script s (is_waiting m) g kind = quiet n kind has in
+      record {
+        sound = x.sound;
+        alone = x.alone;
+        partner = unless-true (has_partner script s (is_waiting then) g kind) (λ h. never-both (has_partner script s (is_waiting m) g kind) (has-back kind h) x.partner);
+      }))
+
+  -- one that was parked before, where it stands
+  record Parked (h : ℕ) (i : Instr) : Type 0 where
+    other : h ≢ g
+    waits : is_waiting m h ≡ true
+    stands : stands_at script s h ≡ Some i
+    firm : firm_on script s (is_waiting m) h (Some i) ≡ false
+
+  parked-does : (h : ℕ) (i : Instr) → Parked h i → Does script s h i
+  parked-does h i p = record { stands = p.stands; calm = calm-standing script s h i p.stands (no-reason (fault script s i) (firm-fault script s (is_waiting m) h (Some i) p.firm)) }
 
   -- another one whom g would meet would be met by g: it is parked, and makes no misuse
-  meets-back : (h : ℕ) (i : Instr) (test : CaseKind → Bool) → h ≢ g → is_waiting m h ≡ true → stands_at script s h ≡ Some i → fault script s i ≡ None → offers test i ≡ true
-      → partner_waits script s (is_waiting m) g test ≡ true
-  meets-back h i test other waits on none passes =
+  meets-back : (h : ℕ) (i : Instr) (test : CaseKind → Bool) → Parked h i → offers test i ≡ true → partner_waits script s (is_waiting m) g test ≡ true
+  meets-back h i test p passes =
       partner-waits script s (is_waiting m) g test (record {
         number = h;
         instr = i;
-        other = other;
-        counted = waits;
-        does = record { stands = on; calm = calm-standing script s h i on none };
+        other = p.other;
+        counted = p.waits;
+        does = parked-does h i p;
+        waits = waits-polls i (firm-waits script s (is_waiting m) h (Some i) p.firm);
         passes = passes;
       })
 
-  -- where g stands, its operation is this one
-  same-kind : (n : ℕ) (i : Instr) (k : CaseKind) → n ≡ g → stands_at script s n ≡ Some i → operation i 0 ≡ Some k → kind ≡ k
-  same-kind n i k is on has =
-      let same : Some instr ≡ Some i = sym can.waiter.stands ∙ (ap (stands_at script s) (sym is) ∙ on) in
-      let both : Some kind ≡ Some k = sym can.waiter.has ∙ (ap operation_of same ∙ has) in
+  -- where g stands, its instruction is this one
+  same-instr : (n : ℕ) (i : Instr) → n ≡ g → stands_at script s n ≡ Some i → i ≡ instr
+  same-instr n i is on =
+      let same : Some instr ≡ Some i = sym can.stands ∙ (ap (stands_at script s) (sym is) ∙ on) in
       cc
 
-  declared : (h : ℕ) (i : Instr) (c v : ℕ) → i ≡ Instr.Send c v → stands_at script s h ≡ Some i → fault script s i ≡ None → IsTrue (is_chan script c)
-  declared h i c v is on none =
-      names-Does script s h (Instr.Send c v) good (record {
-        stands = on ∙ ap Some is;
-        calm = calm-standing script s h i on none;
-      })
-
   -- a partner of another one is not g
-  not-met : (h : ℕ) (i : Instr) (k : CaseKind) → h ≢ g → is_waiting m h ≡ true → stands_at script s h ≡ Some i → fault script s i ≡ None → operation i 0 ≡ Some k
-      → has_partner script s (is_waiting then) h k ≡ true → has_partner script s (is_waiting m) h k ≡ true
-  not-met h i (CaseKind.Recv o) other waits on none has full =
+  not-met : (h n : ℕ) (i : Instr) (k : CaseKind) → Parked h i → operation i n ≡ Some k → has_partner script s (is_waiting then) h k ≡ true → has_partner script s (is_waiting m) h k ≡ true
+  not-met h n i (CaseKind.Recv o) at has full =
       let parts = and_parts (is_chan script o && capacity_of script o == 0) (partner_waits script s (is_waiting then) h (sends_to o)) full in
       let room = and_parts (is_chan script o) (capacity_of script o == 0) parts.0 in
       let p : Partner script s (is_waiting then) h (sends_to o) = partner script s (is_waiting then) h (sends_to o) parts.1 in
       elim (cases_eq p.number g) [
         | inl is ↦
-            let sends : SendsTo p.instr o = sends-send p.instr o p.passes in
-            let at : kind ≡ CaseKind.Send o sends.value = same-kind p.number p.instr (CaseKind.Send o sends.value) is p.does.stands (ap (λ i. operation i 0) sends.is) in
-            let is_recv_here : i ≡ Instr.Recv o = is_recv i 0 o has in
+            let sends : SendsTo instr o =
+            sends-send instr o (subst (λ i. offers (sends_to o) i ≡ true) (same-instr p.number p.instr is p.does.stands) p.passes) in
             let met : partner_waits script s (is_waiting m) g (receives_from o) ≡ true =
-            meets-back h i (receives_from o) other waits on none (ap (offers (receives_from o)) is_recv_here ∙ eq-eqb o o refl) in
-            absurd (never-both (has_partner script s (is_waiting m) g kind)
-            (ap (has_partner script s (is_waiting m) g) at ∙ and_from (capacity_of script o == 0) (partner_waits script s (is_waiting m) g (receives_from o)) room.1 met) can.partner)
+            meets-back h i (receives_from o) at (offers-operation (receives_from o) i n (CaseKind.Recv o) has (eq-eqb o o refl)) in
+            absurd (never-both (has_partner script s (is_waiting m) g (CaseKind.Send o sends.value))
+            (and_from (capacity_of script o == 0) (partner_waits script s (is_waiting m) g (receives_from o)) room.1 met)
+            (quiet sends.case_no (CaseKind.Send o sends.value) sends.has).partner)
         | inr apart ↦
             and_from (is_chan script o && capacity_of script o == 0) (partner_waits script s (is_waiting m) h (sends_to o)) parts.0
             (partner-waits script s (is_waiting m) h (sends_to o) (partner-other h (sends_to o) p apart))
       ]
-  not-met h i (CaseKind.Send c v) other waits on none has full =
+  not-met h n i (CaseKind.Send c v) at has full =
       let parts = and_parts (capacity_of script c == 0) (partner_waits script s (is_waiting then) h (receives_from c)) full in
       let p : Partner script s (is_waiting then) h (receives_from c) = partner script s (is_waiting then) h (receives_from c) parts.1 in
       elim (cases_eq p.number g) [
         | inl is ↦
-            let receives : p.instr ≡ Instr.Recv c = receives-recv p.instr c p.passes in
-            let at : kind ≡ CaseKind.Recv c = same-kind p.number p.instr (CaseKind.Recv c) is p.does.stands (ap (λ i. operation i 0) receives) in
-            let is_send_here : i ≡ Instr.Send c v = is_send i 0 c v has in
+            let receives : ReceivesFrom instr c =
+            receives-recv instr c (subst (λ i. offers (receives_from c) i ≡ true) (same-instr p.number p.instr is p.does.stands) p.passes) in
             let met : partner_waits script s (is_waiting m) g (sends_to c) ≡ true =
-            meets-back h i (sends_to c) other waits on none (ap (offers (sends_to c)) is_send_here ∙ eq-eqb c c refl) in
-            absurd (never-both (has_partner script s (is_waiting m) g kind)
-            (ap (has_partner script s (is_waiting m) g) at
-            ∙ and_from (is_chan script c && capacity_of script c == 0) (partner_waits script s (is_waiting m) g (sends_to c))
-            (and_from (is_chan script c) (capacity_of script c == 0) (declared h i c v is_send_here on none) parts.0) met) can.partner)
+            meets-back h i (sends_to c) at (offers-operation (sends_to c) i n (CaseKind.Send c v) has (eq-eqb c c refl)) in
+            let declared : IsTrue (is_chan script c) = names-operation script i n (CaseKind.Send c v) has (names-Does script s h i good (parked-does h i at)) in
+            absurd (never-both (has_partner script s (is_waiting m) g (CaseKind.Recv c))
+            (and_from (is_chan script c && capacity_of script c == 0) (partner_waits script s (is_waiting m) g (sends_to c))
+            (and_from (is_chan script c) (capacity_of script c == 0) declared parts.0) met)
+            (quiet receives.case_no (CaseKind.Recv c) receives.has).partner)
         | inr apart ↦
             and_from (capacity_of script c == 0) (partner_waits script s (is_waiting m) h (receives_from c)) parts.0
             (partner-waits script s (is_waiting m) h (receives_from c) (partner-other h (receives_from c) p apart))
@@ -302,20 +336,32 @@ module _ (script : Script) (s : State) (m : Schedule) (g : ℕ) (kind : CaseKind
       let on : Option Instr = stood script (goroutine_at s h) in
       let firm : firm_on script s (is_waiting m) h on ≡ false = sym (firm-stood script s (is_waiting m) h (goroutine_at s h)) ∙ calm h before in
       firm-stood script s (is_waiting then) h (goroutine_at s h)
-      ∙ firm-next script s s (is_waiting m) (is_waiting then) h nowhere on (stays-same s nowhere) (λ k e. refl)
-      (λ k e.
-      let at : AtOperation script s (plainly h) k = at_operation script s (plainly h) k e in
-      let none : fault script s at.instr ≡ None = no-reason (fault script s at.instr) (sym (ap (has_fault script s) at.stands) ∙ firm-fault script s (is_waiting m) h on firm) in
-      unless-true (has_partner script s (is_waiting then) h k)
-      (λ full. never-both (has_partner script s (is_waiting m) h k) (not-met h at.instr k other before at.stands none at.has full) (firm-partner script s (is_waiting m) h on k firm e)))
-      firm
+      ∙ quiet-firm script s (is_waiting then) h on (firm-waits script s (is_waiting m) h on firm) (λ n k e.
+      let x : IsQuiet script s (is_waiting m) h k = firm-each script s (is_waiting m) h on n k firm e in
+      let at : AtOperation script s (at_case h n) k = at_operation script s (at_case h n) k e in
+      let parked : Parked h at.instr = record { other = other; waits = before; stands = at.stands; firm = ap (firm_on script s (is_waiting m) h) (sym at.stands) ∙ firm } in
+      record {
+        sound = x.sound;
+        alone = x.alone;
+        partner = unless-true (has_partner script s (is_waiting then) h k) (λ full. never-both (has_partner script s (is_waiting m) h k) (not-met h n at.instr k parked at.has full) x.partner);
+      })
+
+  pub calm-parked : IsCalm script s then
+  calm-parked h waits =
+      elim (cases_eq h g) [
+        | inl is ↦ subst (λ h. is_firm_at script s then h ≡ false) (sym is) own-firm
+        | inr other ↦ other-firm h other waits
+      ]
 
 pub calm-parked_at : (script : Script) (s : State) (m : Schedule) (g : ℕ) (kind : CaseKind) → IsGood script → CanPark script s m g kind → IsCalm script s m → IsCalm script s (parked_at m (plainly g) kind)
-calm-parked_at script s m g kind good can calm h waits =
-    elim (cases_eq h g) [
-      | inl is ↦ subst (λ h. is_firm_at script s (parked_at m (plainly g) kind) h ≡ false) (sym is) (own-firm script s m g kind good can calm)
-      | inr other ↦ other-firm script s m g kind good can calm h other waits
-    ]
+calm-parked_at script s m g kind good can calm =
+    calm-parked script s m (parked_at m (plainly g) kind) g (λ h other. parked_at-status_other m (plainly g) kind h other) good (parks-waits script s m g kind can) calm
+
+-- and who waits at a choice leaves nobody either
+pub calm-parked_cases : (script : Script) (s : State) (m : Schedule) (g : ℕ) (cases : List Case) → IsGood script → CanWait script s m g → IsCalm script s m → IsCalm script s (parked_cases m g cases)
+calm-parked_cases script s m g cases good can calm =
+    calm-parked script s m (parked_cases m g cases) g
+    (λ h other. ap (λ (ss : List RunStatus). numbered ss h) (cases-statuses (parked m g) g 1 cases) ∙ numbered-change_other m.statuses g h (λ _. RunStatus.Parked m.parks) other) good can calm
 
 -- ---- the idle point
 
@@ -352,7 +398,7 @@ module _ (script : Script) (s : State) (m : Schedule) (fits : Fits script s m) (
   everyone-back g test h =
       let p : Partner script s everyone g test = partner script s everyone g test h in
       partner-waits script s (is_waiting m) g test
-      (record { number = p.number; instr = p.instr; other = p.other; counted = standing-waits p.number p.instr p.does.stands; does = p.does; passes = p.passes })
+      (record { number = p.number; instr = p.instr; other = p.other; counted = standing-waits p.number p.instr p.does.stands; does = p.does; waits = p.waits; passes = p.passes })
 
   everyone-partner : (g : ℕ) (k : CaseKind) → has_partner script s everyone g k ≡ true → has_partner script s (is_waiting m) g k ≡ true
   everyone-partner g (CaseKind.Recv o) h =
@@ -368,10 +414,13 @@ module _ (script : Script) (s : State) (m : Schedule) (fits : Fits script s m) (
       let waits : is_waiting m g ≡ true = standing-waits g i e in
       let firm : firm_on script s (is_waiting m) g (Some i) ≡ false =
       sym (ap (firm_on script s (is_waiting m) g) e) ∙ (sym (firm-stood script s (is_waiting m) g (goroutine_at s g)) ∙ calm g waits) in
-      firm-next script s s (is_waiting m) everyone g nowhere (Some i) (stays-same s nowhere) (λ k q. refl)
-      (λ k q. unless-true (has_partner script s everyone g k)
-      (λ h. never-both (has_partner script s (is_waiting m) g k) (everyone-partner g k h) (firm-partner script s (is_waiting m) g (Some i) k firm q)))
-      firm
+      quiet-firm script s everyone g (Some i) (firm-waits script s (is_waiting m) g (Some i) firm) (λ n k q.
+      let x : IsQuiet script s (is_waiting m) g k = firm-each script s (is_waiting m) g (Some i) n k firm q in
+      record {
+        sound = x.sound;
+        alone = x.alone;
+        partner = unless-true (has_partner script s everyone g k) (λ h. never-both (has_partner script s (is_waiting m) g k) (everyone-partner g k h) x.partner);
+      })
 
   pub quiet-calm : none_firm script s ≡ true
   quiet-calm =

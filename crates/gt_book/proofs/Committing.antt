@@ -1,18 +1,19 @@
 -- What an operation needs that is committed while the run goes on.
-use Rattle.std.proofs.lemmas.Bool.{le-leb}
-use Rattle.std.proofs.Common.{◌≡◌, IsSomeAnd, ℕ, zero, suc, ◌+◌, ◌<◌, ◌≤◌, min, length, refl, sym, ap, subst, ◌∙◌, slice_get, Option, None, Some, Bool, true, false, not, ◌&&◌, ◌||◌, IsTrue, is_some}
+use Rattle.std.proofs.lemmas.Bool.{le-leb, eq-eqb}
+use Rattle.std.specs.List.{list_any}
+use Rattle.std.proofs.Common.{◌≡◌, IsSomeAnd, ℕ, zero, suc, ◌+◌, ◌<◌, ◌≤◌, min, length, refl, sym, ap, subst, ◌∙◌, slice_get, Option, None, Some, Bool, true, false, not, ◌&&◌, ◌||◌, IsTrue, is_some, List, [], ◌∷◌, cond, arith, option_map}
 use Rattle.gt_model.specs.Times.{greatest_time}
 use Rattle.gt_model.specs.declared.script.Script.{Script}
 use Rattle.gt_model.specs.declared.script.Instr.{Instr}
+use Rattle.gt_model.specs.declared.script.Case.{Case}
 use Rattle.gt_model.specs.declared.entry.Outcome.{Outcome}
-use Rattle.gt_model.specs.declared.entry.Reason.{Reason}
-use Rattle.gt_rules.specs.State.{State, timer_at, channel_at, clock, clock_of, due_of, sleeps_until}
+use Rattle.gt_rules.specs.State.{State, timer_at, stands_at, clock, clock_of, due_of, sleeps_until}
 use Rattle.gt_model.specs.Script.{is_timer, is_func}
 use Rattle.gt_model.specs.declared.state.Timer.{Timer}
 use Rattle.gt_rules.specs.Ready.{is_due}
 use Rattle.gt_model.specs.declared.script.CaseKind.{CaseKind}
-use Rattle.gt_rules.specs.Operations.{operation, receives_from}
-use Rattle.gt_rules.specs.Panics.{fault, when}
+use Rattle.gt_rules.specs.Operations.{operation, offers, receives_from}
+use Rattle.gt_rules.specs.Panics.{fault}
 use Rattle.gt_rules.specs.Legal.{May, Does, Operates, operation_at, due_at, sleep_end}
 use Rattle.gt_model.specs.declared.entry.Party.{Party}
 use Rattle.gt_schedule.specs.declared.status.RunStatus.{RunStatus}
@@ -20,16 +21,17 @@ use Rattle.gt_book.specs.declared.step.Step.{Step}
 use Rattle.gt_book.specs.declared.answers.Op.{Op}
 use Rattle.gt_book.specs.declared.answers.TimerOp.{TimerOp}
 use Rattle.gt_schedule.specs.Schedule.{Schedule, Served, status_of, is_in_hand, is_parked, parties_at}
-use Rattle.gt_book.specs.Steps.{step_of, step_or_panic, step_of_instr, set_instr, set_entry, is_receiving, is_late, is_gone, MayCommit}
-use Rattle.gt_book.specs.View.{BookView, IsLawful, outcome_of, is_at, is_parked_at}
+use Rattle.gt_book.specs.Steps.{come_timer, step_of, step_or_panic, step_of_instr, set_instr, set_entry, is_receiving, is_late, is_gone, MayCommit}
+use Rattle.gt_book.specs.View.{BookView, IsLawful, outcome_of, is_at, is_parked_at, first_case, case_of, receiver_of}
 use Rattle.gt_facts.proofs.Within.{timer_within}
-use Rattle.gt_facts.proofs.Lookups.{Asleep, sleeper, AtOperation, at_operation, is_recv}
+use Rattle.gt_facts.proofs.Lookups.{Asleep, sleeper, offers-operation}
 use Rattle.gt_facts.proofs.Formed.{world_of-zero}
 use Rattle.gt_book.proofs.Firm.{calm-standing}
 use Rattle.gt_book.proofs.Fitting.{first-waiting, asleep-parked}
-use Rattle.gt_book.proofs.Meeting.{at-receives, recv-is, send-is}
+use Rattle.gt_book.proofs.Meeting.{at-receives, receives-kind, parked-operates, recv-is, send-is, choice-is}
 use Rattle.gt_book.proofs.Going.{IsStep, step-is, in_hand-goes, parked-goes}
 use Rattle.gt_book.proofs.Setting.{instr-set}
+use Rattle.gt_book.proofs.Options.{ChoiceIs, case_goes, case_polls, all_rest, all_wait, choice-so}
 
 -- an operation that is not late for its goroutine is not gone while the run goes on
 not_gone : (b : BookView) (op : Op) → outcome_of b ≡ None → is_late b op ≡ false → is_gone b op ≡ false
@@ -40,20 +42,6 @@ one_clock : (b : BookView) (g : ℕ) → IsLawful b → clock_of b.state g ≡ c
 one_clock b g lawful = ap (clock b.state) (world_of-zero b.script b.state g lawful.formed)
 
 -- ---- what time brings
-
--- a timer that is set was made
-set-made : (s : State) (t at : ℕ) → due_of s t ≡ Some at → is_some (timer_at s t) ≡ true
-set-made s t at e =
-    elim (timer_at s t) as (λ o. (elim o [ None ↦ None | Some r ↦ r.due ]) ≡ Some at → is_some o ≡ true) [
-      | None ↦ λ h. cc
-      | Some r ↦ λ h. refl
-    ] e
-
--- who stands at the receive of a timer that was made makes no misuse
-operation-faultless : (script : Script) (s : State) (i : Instr) (n t : ℕ) → operation i n ≡ Some (CaseKind.Recv t) → is_some (timer_at s t) ≡ true → fault script s i ≡ None
-operation-faultless script s i n t e made =
-    let is : i ≡ Instr.Recv t = is_recv i n t e in
-    ap (fault script s) is ∙ ap (λ b. when (not (b || is_some (channel_at s t))) Reason.Unmade) made
 
 left-true : (a b : Bool) → (a && b) ≡ true → a ≡ true
 left-true true b h = refl
@@ -71,13 +59,9 @@ may-receive b t at p lawful running timer set due parked =
     let waits : is_parked (status_of b.schedule p.g) ≡ true = left-true (is_parked (status_of b.schedule p.g)) (is_at b.script b.state p (receives_from t)) parked in
     let there : is_at b.script b.state p (receives_from t) ≡ true = right-true (is_parked (status_of b.schedule p.g)) (is_at b.script b.state p (receives_from t)) parked in
     let stands : operation_at b.script b.state p ≡ Some (CaseKind.Recv t) = at-receives b.script b.state p t there in
-    let on : AtOperation b.script b.state p (CaseKind.Recv t) = at_operation b.script b.state p (CaseKind.Recv t) stands in
     let goes : IsTrue (is_in_hand (status_of b.schedule p.g) || is_parked (status_of b.schedule p.g)) = parked-goes (status_of b.schedule p.g) waits in
     let receiving : is_receiving b.script b.state b.schedule p t ≡ true = rw (goes, there) refl in
-    let receives : Operates b.script b.state p (CaseKind.Recv t) = record {
-      stands = stands;
-      calm = calm-standing b.script b.state p.g on.instr on.stands (operation-faultless b.script b.state on.instr p.case_no t on.has (set-made b.state t at set));
-    } in
+    let receives : Operates b.script b.state p (CaseKind.Recv t) = parked-operates b.script b.state b.schedule p (CaseKind.Recv t) (lawful.calm running) waits stands in
     let come : at ≤ clock_of b.state p.g = subst (λ now. at ≤ now) (sym (one_clock b p.g lawful)) due in
     (((receives, timer, set, come, refl), (goes, tt), tt), not_gone b (Op.TRecv p t at None) running (ap not receiving))
 
@@ -142,6 +126,8 @@ instr-sleeps : (script : Script) (s : State) (m : Schedule) (g d : ℕ) (i : Ins
 instr-sleeps script s m g d (Instr.Sleep zero) h = cc
 instr-sleeps script s m g d (Instr.Recv o) h = absurd (recv-is (λ step. step ≡ Step.Needs (TimerOp.Sleep d) → ⊥) (λ e q. cc) (λ kind q. cc) (λ t q. cc) script s m g o h)
 instr-sleeps script s m g d (Instr.Send c v) h = absurd (send-is (λ step. step ≡ Step.Needs (TimerOp.Sleep d) → ⊥) (λ e q. cc) (λ kind q. cc) script s m g c v h)
+instr-sleeps script s m g d (Instr.Select cases default_to) h =
+    absurd (choice-is (λ step. step ≡ Step.Needs (TimerOp.Sleep d) → ⊥) (λ e q. cc) (λ t q. cc) (λ timed q. cc) script s m g cases default_to h)
 instr-sleeps script s m g d (Instr.Sleep (suc e)) h =
     let same : suc e ≡ d = cc in
     record { is = ap Instr.Sleep same; ends = λ now. subst (λ d. sleep_end now d ≡ Some (due_at now d)) same refl }
@@ -176,3 +162,91 @@ may-set b g t d due anew was lawful running step in_hand was_set e =
     let does : Does b.script b.state g (set_instr t d anew) = subst (Does b.script b.state g) (instr-set b.script b.state b.schedule g t d anew asks.instr asks.is) asks.does in
     let is : due ≡ due_at (clock_of b.state g) d = e ∙ ap (λ now. due_at now d) (sym (one_clock b g lawful)) in
     ((set-may b.script b.state g t d due anew was does was_set is, set-served b.schedule g t due anew was in_hand, refl), not_gone b (Op.Set g t anew was due 0) running refl)
+
+-- ---- a choice with a default polls a timer
+
+-- the first case that passes a test, where the first one has the number n
+record IsFirst (test : CaseKind → Bool) (n : ℕ) (cases : List Case) : Type 0 where
+  place : ℕ
+  item : Case
+  number : first_case test n cases ≡ n + place
+  there : slice_get cases place ≡ Some item
+  passes : test item.kind ≡ true
+
+first-is : (test : CaseKind → Bool) (n : ℕ) (cases : List Case) → list_any (λ (c : Case). test c.kind) cases ≡ true → IsFirst test n cases
+first-is test n [] h = cc
+first-is test n (c ∷ cases) h =
+    elim (test c.kind) as (λ b. test c.kind ≡ b → (b || list_any (λ (c : Case). test c.kind) cases) ≡ true → IsFirst test n (c ∷ cases)) [
+      | true ↦ λ e k.
+          let here : n ≡ n + 0 = omega arith in
+          record { place = 0; item = c; number = ap (λ b. cond b n (first_case test (n + 1) cases)) e ∙ here; there = refl; passes = e }
+      | false ↦ λ e k.
+          let rest : IsFirst test (n + 1) cases = first-is test (n + 1) cases k in
+          let next : (n + 1) + rest.place ≡ n + suc rest.place = omega arith in
+          record {
+            place = suc rest.place;
+            item = rest.item;
+            number = ap (λ b. cond b n (first_case test (n + 1) cases)) e ∙ (rest.number ∙ next);
+            there = rest.there;
+            passes = rest.passes;
+          }
+    ] refl h
+
+receives-there : (t : ℕ) (i : Instr) → offers (receives_from t) i ≡ true → operation i (case_of (receives_from t) (Some i)) ≡ Some (CaseKind.Recv t)
+receives-there t (Instr.Recv o) h = ap Some (receives-kind (CaseKind.Recv o) t h)
+receives-there t (Instr.Send c v) h = cc
+receives-there t (Instr.Select cases default_to) h =
+    let first : IsFirst (receives_from t) 1 cases = first-is (receives_from t) 1 cases h in
+    let number : 1 + first.place ≡ suc first.place = omega arith in
+    ap (operation (Instr.Select cases default_to)) (first.number ∙ number)
+    ∙ (ap (option_map (λ (c : Case). c.kind)) first.there ∙ ap Some (receives-kind first.item.kind t first.passes))
+receives-there t i h = cc
+
+-- the party that receives from an object stands at that receive
+pub receiver-at : (script : Script) (s : State) (g t : ℕ) (i : Instr) → stands_at script s g ≡ Some i → offers (receives_from t) i ≡ true
+    → operation_at script s (receiver_of script s g t) ≡ Some (CaseKind.Recv t)
+receiver-at script s g t i e h =
+    ap (λ (o : Option Instr). elim o as (λ x. Option CaseKind) [ None ↦ None | Some i ↦ operation i (case_of (receives_from t) o) ]) e ∙ receives-there t i h
+
+come-from : (script : Script) (s : State) (now t : ℕ) (kind : CaseKind) → come_timer script s now kind ≡ Some t → kind ≡ CaseKind.Recv t
+come-from script s now t (CaseKind.Recv o) h =
+    elim (is_timer script o && is_due (due_of s o) now) as (λ b. cond b (Some o) None ≡ Some t → CaseKind.Recv o ≡ CaseKind.Recv t) [
+      | true ↦ λ k. cc
+      | false ↦ λ k. cc
+    ] h
+come-from script s now t (CaseKind.Send c v) h = cc
+
+choice-polls : (script : Script) (s : State) (m : Schedule) (g t : ℕ) (cases : List Case) (default_to : Option ℕ) (step : Step) → ChoiceIs script s m g cases default_to step
+    → step ≡ Step.Needs (TimerOp.Poll t) → offers (receives_from t) (Instr.Select cases default_to) ≡ true
+choice-polls script s m g t cases default_to step (case_goes n kind e has by) h = cc
+choice-polls script s m g t cases default_to step (case_polls n kind u has come) h =
+    let same : u ≡ t = cc in
+    let is : kind ≡ CaseKind.Recv t = come-from script s (clock_of s g) t kind (come ∙ ap Some same) in
+    offers-operation (receives_from t) (Instr.Select cases default_to) n kind has (subst (λ kind. receives_from t kind ≡ true) (sym is) (eq-eqb t t refl))
+choice-polls script s m g t cases default_to step (all_rest to is none) h = cc
+choice-polls script s m g t cases default_to step (all_wait is none) h = cc
+
+instr-polls : (script : Script) (s : State) (m : Schedule) (g t : ℕ) (i : Instr) → step_of_instr script s m g i ≡ Step.Needs (TimerOp.Poll t) → offers (receives_from t) i ≡ true
+instr-polls script s m g t (Instr.Select cases default_to) h = choice-polls script s m g t cases default_to _ (choice-so script s m g cases default_to) h
+instr-polls script s m g t (Instr.Sleep zero) h = cc
+instr-polls script s m g t (Instr.Sleep (suc d)) h = cc
+instr-polls script s m g t (Instr.Recv o) h = absurd (recv-is (λ step. step ≡ Step.Needs (TimerOp.Poll t) → ⊥) (λ e q. cc) (λ kind q. cc) (λ t q. cc) script s m g o h)
+instr-polls script s m g t (Instr.Send c v) h = absurd (send-is (λ step. step ≡ Step.Needs (TimerOp.Poll t) → ⊥) (λ e q. cc) (λ kind q. cc) script s m g c v h)
+instr-polls script s m g t _ h = cc
+
+-- who polls a timer may receive its tick that has come
+pub may-poll : (b : BookView) (g t at : ℕ) → IsLawful b → outcome_of b ≡ None → step_of b.script b.state b.schedule g ≡ Some (Step.Needs (TimerOp.Poll t))
+    → status_of b.schedule g ≡ Some RunStatus.InHand → IsTrue (is_timer b.script t) → due_of b.state t ≡ Some at → at ≤ clock b.state 0
+    → MayCommit b (Op.TRecv (receiver_of b.script b.state g t) t at None) × (is_gone b (Op.TRecv (receiver_of b.script b.state g t) t at None) ≡ false)
+may-poll b g t at lawful running step in_hand timer set due =
+    let p : Party = receiver_of b.script b.state g t in
+    let asks : Asks b.script b.state b.schedule g (TimerOp.Poll t) = needs-asks b.script b.state b.schedule g (TimerOp.Poll t) step in
+    let stands : operation_at b.script b.state p ≡ Some (CaseKind.Recv t) =
+    receiver-at b.script b.state g t asks.instr asks.does.stands (instr-polls b.script b.state b.schedule g t asks.instr asks.is) in
+    let there : is_at b.script b.state p (receives_from t) ≡ true =
+    ap (λ (o : Option CaseKind). elim o as (λ o. Bool) [ None ↦ false | Some kind ↦ receives_from t kind ]) stands ∙ eq-eqb t t refl in
+    let goes : IsTrue (is_in_hand (status_of b.schedule g) || is_parked (status_of b.schedule g)) = in_hand-goes (status_of b.schedule g) in_hand in
+    let receiving : is_receiving b.script b.state b.schedule p t ≡ true = rw (goes, there) refl in
+    let receives : Operates b.script b.state p (CaseKind.Recv t) = record { stands = stands; calm = asks.does.calm } in
+    let come : at ≤ clock_of b.state g = subst (λ now. at ≤ now) (sym (one_clock b g lawful)) due in
+    (((receives, timer, set, come, refl), (goes, tt), tt), not_gone b (Op.TRecv p t at None) running (ap not receiving))

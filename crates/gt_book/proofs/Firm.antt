@@ -1,6 +1,8 @@
 -- What becomes of those that are parked and not firmly ready, where objects and goroutines change: they stay so, but at the channels that change.
-use Rattle.std.proofs.Common.{◌≡◌, ◌≢◌, ℕ, List, [], length, nat_lt, ◌==◌, refl, sym, ap, subst, ◌∙◌, Option, None, Some, Bool, true, false, not, ◌&&◌, ◌||◌, is_some, is_none}
+use Rattle.std.proofs.Common.{◌≡◌, ◌≢◌, ℕ, zero, suc, List, [], ◌∷◌, slice_get, option_map, length, nat_lt, ◌==◌, refl, sym, ap, subst, ◌∙◌, Option, None, Some, Bool, true, false, not, ◌&&◌, ◌||◌, is_some, is_none}
 use Rattle.std.proofs.lemmas.Bool.{and_parts, and_from}
+use Rattle.std.specs.List.{list_any}
+use Rattle.gt_model.specs.declared.script.Case.{Case}
 use Rattle.gt_model.specs.declared.script.Script.{Script}
 use Rattle.gt_model.specs.declared.script.Instr.{Instr}
 use Rattle.gt_model.specs.declared.script.What.{What}
@@ -10,16 +12,17 @@ use Rattle.gt_model.specs.declared.state.Goroutine.{Goroutine}
 use Rattle.gt_model.specs.declared.state.Mode.{Mode}
 use Rattle.gt_model.specs.Script.{instr_at, what_at, is_chan, capacity_of}
 use Rattle.gt_rules.specs.State.{State, Channel, goroutine_at, timer_at, channel_at, item_count, is_closed, is_made, stands, stands_at}
-use Rattle.gt_rules.specs.Operations.{operation, offers, receives_from, sends_to}
-use Rattle.gt_rules.specs.Panics.{fault, fault_at, when, or_else, open_fault, panic_at}
+use Rattle.gt_rules.specs.Operations.{operation, offers, polls, receives_from, sends_to}
+use Rattle.gt_rules.specs.Panics.{fault, fault_at, fault_case, case_fault, choice_fault, when, or_else, open_fault, panic_at}
 use Rattle.gt_rules.specs.Ready.{is_firm, is_firm_in, is_ready_at, is_ready_instr, is_ready_case, is_ready_alone, is_ready_recv, has_partner, partner_waits, no_timer}
 use Rattle.gt_rules.specs.Legal.{operation_at}
 use Rattle.gt_rules.specs.After.{in_mode}
-use Rattle.gt_schedule.specs.Schedule.{Schedule, plainly, object_of}
+use Rattle.gt_schedule.specs.Schedule.{Schedule, at_case, object_of}
 use Rattle.gt_facts.proofs.Still.{panic_stands}
+use Rattle.gt_facts.proofs.Lookups.{IsCase, is-case}
 use Rattle.gt_facts.proofs.Partners.{Partner, partner, partner-waits}
-use Rattle.gt_book.specs.View.{is_waiting, is_at, is_firm_at}
-use Rattle.gt_book.specs.Calm.{IsCalm, IsCalmBut}
+use Rattle.gt_book.specs.View.{is_waiting}
+use Rattle.gt_book.specs.Calm.{IsCalm, IsCalmBut, may_wait}
 
 -- ---- tests
 
@@ -62,8 +65,8 @@ firm_of script s counts g o = elim o [ None ↦ false | Some r ↦ is_firm scrip
 abbrev pub stood : Script → Option Goroutine → Option Instr
 stood script o = elim o [ None ↦ None | Some r ↦ stands script r ]
 
-abbrev pub operation_of : Option Instr → Option CaseKind
-operation_of o = elim o [ None ↦ None | Some i ↦ operation i 0 ]
+abbrev pub operation_of : Option Instr → ℕ → Option CaseKind
+operation_of o n = elim o [ None ↦ None | Some i ↦ operation i n ]
 
 -- whether it is ready where it stands, by no timer
 abbrev pub firm_on : Script → State → (ℕ → Bool) → ℕ → Option Instr → Bool
@@ -88,19 +91,6 @@ has_fault script s (Some i) = is_some (fault script s i)
 pub firm-fault : (script : Script) (s : State) (counts : ℕ → Bool) (g : ℕ) (o : Option Instr) → firm_on script s counts g o ≡ false → has_fault script s o ≡ false
 firm-fault script s counts g None h = refl
 firm-fault script s counts g (Some i) h = (or-false (is_some (fault script s i)) (is_ready_instr script s no_timer counts g i) h).0
-
-pub firm-partner : (script : Script) (s : State) (counts : ℕ → Bool) (g : ℕ) (o : Option Instr) (kind : CaseKind) → firm_on script s counts g o ≡ false → operation_of o ≡ Some kind
-    → has_partner script s counts g kind ≡ false
-firm-partner script s counts g None kind h e = cc
-firm-partner script s counts g (Some (Instr.Recv o)) kind h e =
-    let is : CaseKind.Recv o ≡ kind = cc in
-    let ready : is_ready_case script s no_timer counts g (CaseKind.Recv o) ≡ false = (or-false (is_some (fault script s (Instr.Recv o))) _ h).1 in
-    subst (λ k. has_partner script s counts g k ≡ false) is (or-false (is_ready_alone script s no_timer (CaseKind.Recv o)) _ ready).1
-firm-partner script s counts g (Some (Instr.Send c v)) kind h e =
-    let is : CaseKind.Send c v ≡ kind = cc in
-    let ready : is_ready_case script s no_timer counts g (CaseKind.Send c v) ≡ false = (or-false (is_some (fault script s (Instr.Send c v))) _ h).1 in
-    subst (λ k. has_partner script s counts g k ≡ false) is (or-false (is_ready_alone script s no_timer (CaseKind.Send c v)) _ ready).1
-firm-partner script s counts g (Some i) kind h e = cc
 
 -- ---- what stays: what was made stays made, what was closed stays closed, and channels stay as they are but those that `may` change
 
@@ -157,83 +147,191 @@ open-none (Some r) false h k = refl
 pub open-no_fault : (s : State) (c : ℕ) → IsOpenChannel s c → open_fault s c ≡ None
 open-no_fault s c is = open-none (channel_at s c) (is_closed s c) is.made is.unshut
 
+-- ---- the operations of one that is parked
+
+-- an operation on an object that was made, which is ready neither by itself nor by a partner
+pub record IsQuiet (script : Script) (s : State) (counts : ℕ → Bool) (g : ℕ) (kind : CaseKind) : Type 0 where
+  pub sound : case_fault s kind ≡ None
+  pub alone : is_ready_alone script s no_timer kind ≡ false
+  pub partner : has_partner script s counts g kind ≡ false
+
+pub made-sound : (o : Option Channel) → when (is_none o) Reason.Unmade ≡ None → is_some o ≡ true
+made-sound None h = cc
+made-sound (Some r) h = refl
+
+sound-made : (o : Option Channel) → is_some o ≡ true → when (is_none o) Reason.Unmade ≡ None
+sound-made None h = cc
+sound-made (Some r) h = refl
+
+both-sound : (o other : Option Reason) → or_else o other ≡ None → (o ≡ None) × (other ≡ None)
+both-sound None other h = (refl, h)
+both-sound (Some reason) other h = cc
+
+-- a choice makes no misuse where none of its cases does, and the other way round
+pub choice-sound : (s : State) (cases : List Case) (k : ℕ) (c : Case) → choice_fault s cases ≡ None → slice_get cases k ≡ Some c → case_fault s c.kind ≡ None
+choice-sound s [] k c h e = cc
+choice-sound s (d ∷ cases) zero c h e =
+    let is : d ≡ c = cc in
+    subst (λ (c : Case). case_fault s c.kind ≡ None) is (both-sound (case_fault s d.kind) (choice_fault s cases) h).0
+choice-sound s (d ∷ cases) (suc k) c h e = choice-sound s cases k c (both-sound (case_fault s d.kind) (choice_fault s cases) h).1 e
+
+pub sound-choice : (s : State) (cases : List Case) → ((k : ℕ) (c : Case) → slice_get cases k ≡ Some c → case_fault s c.kind ≡ None) → choice_fault s cases ≡ None
+sound-choice s [] each = refl
+sound-choice s (d ∷ cases) each =
+    ap (λ (o : Option Reason). or_else o (choice_fault s cases)) (each 0 d refl) ∙ sound-choice s cases (λ k c e. each (suc k) c e)
+
+none-any : {X : Type 0} (p : X → Bool) (xs : List X) (k : ℕ) (x : X) → list_any p xs ≡ false → slice_get xs k ≡ Some x → p x ≡ false
+none-any p [] k x h e = cc
+none-any p (y ∷ xs) zero x h e = let is : y ≡ x = cc in subst (λ x. p x ≡ false) is (or-false (p y) (list_any p xs) h).0
+none-any p (y ∷ xs) (suc k) x h e = none-any p xs k x (or-false (p y) (list_any p xs) h).1 e
+
+pub any-none : {X : Type 0} (p : X → Bool) (xs : List X) → ((k : ℕ) (x : X) → slice_get xs k ≡ Some x → p x ≡ false) → list_any p xs ≡ false
+any-none p [] each = refl
+any-none p (y ∷ xs) each = both-false (p y) (list_any p xs) (each 0 y refl) (any-none p xs (λ k x e. each (suc k) x e))
+
+no-default : (o : Option ℕ) → is_none o ≡ true → is_some o ≡ false
+no-default None h = refl
+no-default (Some to) h = cc
+
+default-none : (o : Option ℕ) → is_some o ≡ false → is_none o ≡ true
+default-none None h = refl
+default-none (Some to) h = cc
+
+pub case-there : (cases : List Case) (k : ℕ) (c : Case) → slice_get cases k ≡ Some c → option_map (λ (c : Case). c.kind) (slice_get cases k) ≡ Some c.kind
+case-there cases k c e = ap (option_map (λ (c : Case). c.kind)) e
+
+ready-quiet : (script : Script) (s : State) (counts : ℕ → Bool) (g : ℕ) (kind : CaseKind) → case_fault s kind ≡ None → is_ready_case script s no_timer counts g kind ≡ false
+    → IsQuiet script s counts g kind
+ready-quiet script s counts g kind sound h =
+    let parts = or-false (is_ready_alone script s no_timer kind) (has_partner script s counts g kind) h in
+    record { sound = sound; alone = parts.0; partner = parts.1 }
+
+quiet-ready : (script : Script) (s : State) (counts : ℕ → Bool) (g : ℕ) (kind : CaseKind) → IsQuiet script s counts g kind → is_ready_case script s no_timer counts g kind ≡ false
+quiet-ready script s counts g kind x = both-false (is_ready_alone script s no_timer kind) (has_partner script s counts g kind) x.alone x.partner
+
+-- who is not firmly ready stands at such operations alone, where it may wait
+pub firm-quiet : (script : Script) (s : State) (counts : ℕ → Bool) (g : ℕ) (i : Instr) (n : ℕ) (kind : CaseKind) → firm_on script s counts g (Some i) ≡ false → operation i n ≡ Some kind
+    → IsQuiet script s counts g kind
+firm-quiet script s counts g (Instr.Recv o) zero kind h e =
+    let is : CaseKind.Recv o ≡ kind = cc in
+    let parts = or-false (is_some (fault script s (Instr.Recv o))) (is_ready_instr script s no_timer counts g (Instr.Recv o)) h in
+    subst (IsQuiet script s counts g) is (ready-quiet script s counts g (CaseKind.Recv o) (no-reason (fault script s (Instr.Recv o)) parts.0) parts.1)
+firm-quiet script s counts g (Instr.Recv o) (suc k) kind h e = cc
+firm-quiet script s counts g (Instr.Send c v) zero kind h e =
+    let is : CaseKind.Send c v ≡ kind = cc in
+    let parts = or-false (is_some (fault script s (Instr.Send c v))) (is_ready_instr script s no_timer counts g (Instr.Send c v)) h in
+    subst (IsQuiet script s counts g) is (ready-quiet script s counts g (CaseKind.Send c v) (sound-made (channel_at s c) (open-fault s c parts.0).made) parts.1)
+firm-quiet script s counts g (Instr.Send c v) (suc k) kind h e = cc
+firm-quiet script s counts g (Instr.Select cases default_to) zero kind h e = cc
+firm-quiet script s counts g (Instr.Select cases default_to) (suc k) kind h e =
+    let one : IsCase cases k kind = is-case cases k kind e in
+    let parts = or-false (is_some (choice_fault s cases)) (is_ready_instr script s no_timer counts g (Instr.Select cases default_to)) h in
+    let ready = or-false (is_some default_to) (list_any (λ (c : Case). is_ready_case script s no_timer counts g c.kind) cases) parts.1 in
+    subst (IsQuiet script s counts g) one.its
+    (ready-quiet script s counts g one.item.kind (choice-sound s cases k one.item (no-reason (choice_fault s cases) parts.0) one.there)
+    (none-any (λ (c : Case). is_ready_case script s no_timer counts g c.kind) cases k one.item ready.1 one.there))
+firm-quiet script s counts g i n kind h e = cc
+
+or-true : (b : Bool) → (b || true) ≡ false → ⊥
+or-true true e = cc
+or-true false e = cc
+
+pub firm-waits : (script : Script) (s : State) (counts : ℕ → Bool) (g : ℕ) (o : Option Instr) → firm_on script s counts g o ≡ false → may_wait o ≡ true
+firm-waits script s counts g None h = refl
+firm-waits script s counts g (Some (Instr.Recv o)) h = refl
+firm-waits script s counts g (Some (Instr.Send c v)) h = refl
+firm-waits script s counts g (Some (Instr.Select cases default_to)) h =
+    let parts = or-false (is_some (choice_fault s cases)) (is_ready_instr script s no_timer counts g (Instr.Select cases default_to)) h in
+    default-none default_to (or-false (is_some default_to) (list_any (λ (c : Case). is_ready_case script s no_timer counts g c.kind) cases) parts.1).0
+firm-waits script s counts g (Some (Instr.LoopTop depth count past)) h = refl
+firm-waits script s counts g (Some (Instr.LoopEnd depth top)) h = refl
+firm-waits script s counts g (Some (Instr.Jump to)) h = refl
+firm-waits script s counts g (Some i) h = absurd (or-true (is_some (fault script s i)) h)
+
+-- who may wait makes no misuse where its operations are such
+pub quiet-faultless : (script : Script) (s : State) (counts : ℕ → Bool) (g : ℕ) (i : Instr) → may_wait (Some i) ≡ true
+    → ((n : ℕ) (kind : CaseKind) → operation i n ≡ Some kind → IsQuiet script s counts g kind) → fault script s i ≡ None
+quiet-faultless script s counts g (Instr.Recv o) w q = (q 0 (CaseKind.Recv o) refl).sound
+quiet-faultless script s counts g (Instr.Send c v) w q =
+    let x : IsQuiet script s counts g (CaseKind.Send c v) = q 0 (CaseKind.Send c v) refl in
+    open-no_fault s c (record { made = made-sound (channel_at s c) x.sound; unshut = (or-false (is_closed s c) (nat_lt (item_count s c) (capacity_of script c)) x.alone).0 })
+quiet-faultless script s counts g (Instr.Select cases default_to) w q = sound-choice s cases (λ k c e. (q (suc k) c.kind (case-there cases k c e)).sound)
+quiet-faultless script s counts g (Instr.LoopTop depth count past) w q = refl
+quiet-faultless script s counts g (Instr.LoopEnd depth top) w q = refl
+quiet-faultless script s counts g (Instr.Jump to) w q = refl
+quiet-faultless script s counts g i w q = cc
+
+quiet-instr : (script : Script) (s : State) (counts : ℕ → Bool) (g : ℕ) (i : Instr) → may_wait (Some i) ≡ true
+    → ((n : ℕ) (kind : CaseKind) → operation i n ≡ Some kind → IsQuiet script s counts g kind) → is_ready_instr script s no_timer counts g i ≡ false
+quiet-instr script s counts g (Instr.Recv o) w q = quiet-ready script s counts g (CaseKind.Recv o) (q 0 (CaseKind.Recv o) refl)
+quiet-instr script s counts g (Instr.Send c v) w q = quiet-ready script s counts g (CaseKind.Send c v) (q 0 (CaseKind.Send c v) refl)
+quiet-instr script s counts g (Instr.Select cases default_to) w q =
+    both-false (is_some default_to) _ (no-default default_to w)
+    (any-none (λ (c : Case). is_ready_case script s no_timer counts g c.kind) cases (λ k c e. quiet-ready script s counts g c.kind (q (suc k) c.kind (case-there cases k c e))))
+quiet-instr script s counts g (Instr.LoopTop depth count past) w q = refl
+quiet-instr script s counts g (Instr.LoopEnd depth top) w q = refl
+quiet-instr script s counts g (Instr.Jump to) w q = refl
+quiet-instr script s counts g i w q = cc
+
+-- so it is not firmly ready
+pub quiet-firm : (script : Script) (s : State) (counts : ℕ → Bool) (g : ℕ) (o : Option Instr) → may_wait o ≡ true
+    → ((n : ℕ) (kind : CaseKind) → operation_of o n ≡ Some kind → IsQuiet script s counts g kind) → firm_on script s counts g o ≡ false
+quiet-firm script s counts g None w q = refl
+quiet-firm script s counts g (Some i) w q =
+    both-false (is_some (fault script s i)) (is_ready_instr script s no_timer counts g i) (ap is_some (quiet-faultless script s counts g i w q)) (quiet-instr script s counts g i w q)
+
+-- and the other way round
+pub firm-each : (script : Script) (s : State) (counts : ℕ → Bool) (g : ℕ) (o : Option Instr) (n : ℕ) (kind : CaseKind) → firm_on script s counts g o ≡ false → operation_of o n ≡ Some kind
+    → IsQuiet script s counts g kind
+firm-each script s counts g None n kind h e = cc
+firm-each script s counts g (Some i) n kind h e = firm-quiet script s counts g i n kind h e
+
+-- who may wait waits at no choice with a default
+pub waits-polls : (i : Instr) → may_wait (Some i) ≡ true → polls i ≡ false
+waits-polls (Instr.Select cases default_to) w = no-default default_to w
+waits-polls i w = refl
+
 -- ---- the partners of one that is parked were its partners before
 
--- who stands at an operation of a channel that was made, and makes no misuse after, made none before
-fault-before : (script : Script) (s next : State) (may : ℕ → Bool) (i : Instr) (kind : CaseKind) → Stays s next may → operation i 0 ≡ Some kind
-    → is_some (channel_at s (object_of kind)) ≡ true → fault script next i ≡ None → fault script s i ≡ None
-fault-before script s next may (Instr.Recv o) kind stays e made none =
-    let is : CaseKind.Recv o ≡ kind = cc in
-    let here : is_some (channel_at s o) ≡ true = subst (λ k. is_some (channel_at s (object_of k)) ≡ true) (sym is) made in
-    made-none (is_made s o) (either (is_some (timer_at s o)) (is_some (channel_at s o)) here)
-  where
-    either : (a b : Bool) → b ≡ true → (a || b) ≡ true
-    either true b h = refl
-    either false b h = h
-fault-before script s next may (Instr.Send c v) kind stays e made none =
-    let is : CaseKind.Send c v ≡ kind = cc in
-    let here : is_some (channel_at s c) ≡ true = subst (λ k. is_some (channel_at s (object_of k)) ≡ true) (sym is) made in
+-- who stands at operations on objects that were made, and makes no misuse after, made none before
+fault-before : (script : Script) (s next : State) (may : ℕ → Bool) (test : CaseKind → Bool) (i : Instr) → Stays s next may → offers test i ≡ true
+    → ((n : ℕ) (kind : CaseKind) → operation i n ≡ Some kind → case_fault s kind ≡ None) → fault script next i ≡ None → fault script s i ≡ None
+fault-before script s next may test (Instr.Recv o) stays passes sound none = sound 0 (CaseKind.Recv o) refl
+fault-before script s next may test (Instr.Send c v) stays passes sound none =
     let after : IsOpenChannel next c = open-fault next c (ap is_some none) in
-    open-no_fault s c (record { made = here; unshut = unless-true (is_closed s c) (λ shut. never-both (is_closed next c) (stays.closed c shut) after.unshut) })
-fault-before script s next may i kind stays e made none = cc
-
--- what an operation that passes a test is
-record AtKind (i : Instr) : Type 0 where
-  kind : CaseKind
-  has : operation i 0 ≡ Some kind
-
-at-kind : (test : CaseKind → Bool) (i : Instr) → offers test i ≡ true → AtKind i
-at-kind test (Instr.Recv o) h = record { kind = CaseKind.Recv o; has = refl }
-at-kind test (Instr.Send c v) h = record { kind = CaseKind.Send c v; has = refl }
-at-kind test i h = cc
+    open-no_fault s c (record {
+      made = made-sound (channel_at s c) (sound 0 (CaseKind.Send c v) refl);
+      unshut = unless-true (is_closed s c) (λ shut. never-both (is_closed next c) (stays.closed c shut) after.unshut);
+    })
+fault-before script s next may test (Instr.Select cases default_to) stays passes sound none = sound-choice s cases (λ k c e. sound (suc k) c.kind (case-there cases k c e))
+fault-before script s next may test i stays passes sound none = cc
 
 pub panic-standing : (script : Script) (s : State) (g : ℕ) (i : Instr) → stands_at script s g ≡ Some i → panic_at script s g ≡ fault_at script s i
 panic-standing script s g i e =
     sym (panic_stands script s g) ∙ ap (λ (o : Option Instr). elim o as (λ o. Option (ℕ × Reason)) [ None ↦ None | Some i ↦ fault_at script s i ]) e
 
-none-fault : (o : Option Reason) → (elim o as (λ o. Option (ℕ × Reason)) [ None ↦ None | Some reason ↦ Some (0, reason) ]) ≡ None → o ≡ None
-none-fault None h = refl
-none-fault (Some reason) h = cc
+none-fault : (n : ℕ) (o : Option Reason) → (elim o as (λ o. Option (ℕ × Reason)) [ None ↦ None | Some reason ↦ Some (n, reason) ]) ≡ None → o ≡ None
+none-fault n None h = refl
+none-fault n (Some reason) h = cc
 
 -- who makes no panic stands at no misuse, and the other way round
 pub faultless-standing : (script : Script) (s : State) (g : ℕ) (i : Instr) → stands_at script s g ≡ Some i → panic_at script s g ≡ None → fault script s i ≡ None
-faultless-standing script s g i e calm = none-fault (fault script s i) (sym (panic-standing script s g i e) ∙ calm)
+faultless-standing script s g i e calm = none-fault (fault_case s i) (fault script s i) (sym (panic-standing script s g i e) ∙ calm)
 
 pub calm-standing : (script : Script) (s : State) (g : ℕ) (i : Instr) → stands_at script s g ≡ Some i → fault script s i ≡ None → panic_at script s g ≡ None
 calm-standing script s g i e none =
-    panic-standing script s g i e ∙ ap (λ (o : Option Reason). elim o as (λ o. Option (ℕ × Reason)) [ None ↦ None | Some reason ↦ Some (0, reason) ]) none
-
--- at which operation one stands, and whether that is one of some objects
-op-stood : (script : Script) (s : State) (g : ℕ) → operation_at script s (plainly g) ≡ operation_of (stood script (goroutine_at s g))
-op-stood script s g = refl
-
-not-at : (o : Option CaseKind) (but : ℕ → Bool) → ((kind : CaseKind) → o ≡ Some kind → but (object_of kind) ≡ false)
-    → (elim o as (λ o. Bool) [ None ↦ false | Some kind ↦ but (object_of kind) ]) ≡ false
-not-at None but h = refl
-not-at (Some kind) but h = h kind refl
-
-at-not : (o : Option CaseKind) (but : ℕ → Bool) (kind : CaseKind) → (elim o as (λ o. Bool) [ None ↦ false | Some kind ↦ but (object_of kind) ]) ≡ false → o ≡ Some kind
-    → but (object_of kind) ≡ false
-at-not None but kind h e = cc
-at-not (Some k) but kind h e = let is : k ≡ kind = cc in subst (λ k. but (object_of k) ≡ false) is h
+    panic-standing script s g i e
+    ∙ ap (λ (o : Option Reason). elim o as (λ o. Option (ℕ × Reason)) [ None ↦ None | Some reason ↦ Some (fault_case s i, reason) ]) none
 
 -- one of those that are parked makes no misuse, where it makes none after
 module _ (script : Script) (s next : State) (m n : Schedule) (x y : ℕ → Bool) (stays : Stays s next y) (were : AllWere s m next n) (calm : IsCalmBut script s m x) where
-  calm-before : (g : ℕ) (i : Instr) → is_waiting m g ≡ true → stands_at script s g ≡ Some i → AtKind i → fault script next i ≡ None → fault script s i ≡ None
-  calm-before g i waits e at none =
-      elim (x (object_of at.kind)) as (λ b. x (object_of at.kind) ≡ b → fault script s i ≡ None) [
-        | true ↦ λ q. fault-before script s next y i at.kind stays at.has (calm.made (object_of at.kind) q) none
-        | false ↦ λ q.
-            let here : operation_at script s (plainly g) ≡ Some at.kind = ap operation_of e ∙ at.has in
-            let apart : is_at script s (plainly g) (λ kind. x (object_of kind)) ≡ false =
-            ap (λ o. elim o as (λ o. Bool) [ None ↦ false | Some kind ↦ x (object_of kind) ]) here ∙ q in
-            let firm : firm_on script s (is_waiting m) g (stood script (goroutine_at s g)) ≡ false = sym (firm-stood script s (is_waiting m) g (goroutine_at s g)) ∙ calm.others g waits apart in
-            no-reason (fault script s i) (sym (ap (has_fault script s) e) ∙ firm-fault script s (is_waiting m) g (stood script (goroutine_at s g)) firm)
-      ] refl
+  calm-before : (g : ℕ) (i : Instr) (test : CaseKind → Bool) → is_waiting m g ≡ true → stands_at script s g ≡ Some i → offers test i ≡ true → fault script next i ≡ None → fault script s i ≡ None
+  calm-before g i test waits e passes none =
+      fault-before script s next y test i stays passes (λ n kind has. calm.objects g n kind waits (ap (λ o. operation_of o n) e ∙ has)) none
 
   partner-was : (g k : ℕ) (test : CaseKind → Bool) (i : Instr) (o : Option Goroutine) → WasThere s m k o → goroutine_at next k ≡ o → k ≢ g → stands_at script next k ≡ Some i → fault script next i ≡ None
-      → offers test i ≡ true → Partner script s (is_waiting m) g test
-  partner-was g k test i o (waited waits p e) there other on none passes =
+      → polls i ≡ false → offers test i ≡ true → Partner script s (is_waiting m) g test
+  partner-was g k test i o (waited waits p e) there other on none stays_there passes =
       let same : goroutine_at s k ≡ goroutine_at next k = sym (there ∙ e) in
       let before : stands_at script s k ≡ Some i = ap (stood script) same ∙ on in
       record {
@@ -241,17 +339,18 @@ module _ (script : Script) (s next : State) (m n : Schedule) (x y : ℕ → Bool
         instr = i;
         other = other;
         counted = waits;
-        does = record { stands = before; calm = calm-standing script s k i before (calm-before k i waits before (at-kind test i passes) none) };
+        does = record { stands = before; calm = calm-standing script s k i before (calm-before k i test waits before passes none) };
+        waits = stays_there;
         passes = passes;
       }
-  partner-was g k test i o (sleeps until r) there other on none passes = let asleep : stands_at script next k ≡ None = ap (stood script) there in cc
+  partner-was g k test i o (sleeps until r) there other on none stays_there passes = let asleep : stands_at script next k ≡ None = ap (stood script) there in cc
 
   pub partner-back : (g : ℕ) (test : CaseKind → Bool) → partner_waits script next (is_waiting n) g test ≡ true → partner_waits script s (is_waiting m) g test ≡ true
   partner-back g test h =
       let p : Partner script next (is_waiting n) g test = partner script next (is_waiting n) g test h in
       partner-waits script s (is_waiting m) g test
       (partner-was g p.number test p.instr (goroutine_at next p.number) (were p.number p.counted) refl p.other p.does.stands
-      (faultless-standing script next p.number p.instr p.does.stands p.does.calm) p.passes)
+      (faultless-standing script next p.number p.instr p.does.stands p.does.calm) p.waits p.passes)
 
   partner-kept : (g : ℕ) (kind : CaseKind) → has_partner script next (is_waiting n) g kind ≡ true → has_partner script s (is_waiting m) g kind ≡ true
   partner-kept g (CaseKind.Recv o) h =
@@ -273,68 +372,46 @@ recv-same s next o (Some What.Function) same = refl
 send-same : (s next : State) (c cap : ℕ) → channel_at next c ≡ channel_at s c → (is_closed next c || nat_lt (item_count next c) cap) ≡ (is_closed s c || nat_lt (item_count s c) cap)
 send-same s next c cap same = ap (λ (ch : Option Channel). shut_in ch || nat_lt (length (kept_in ch)) cap) same
 
-or-true : (b : Bool) → (b || true) ≡ false → ⊥
-or-true true e = cc
-or-true false e = cc
+pub alone-same : (script : Script) (s next : State) (kind : CaseKind) → channel_at next (object_of kind) ≡ channel_at s (object_of kind)
+    → is_ready_alone script next no_timer kind ≡ is_ready_alone script s no_timer kind
+alone-same script s next (CaseKind.Recv o) same = recv-same s next o (what_at script o) same
+alone-same script s next (CaseKind.Send c v) same = send-same s next c (capacity_of script c) same
 
-pub firm-next : (script : Script) (s next : State) (counts counts' : ℕ → Bool) (g : ℕ) (y : ℕ → Bool) (o : Option Instr) → Stays s next y
-    → ((kind : CaseKind) → operation_of o ≡ Some kind → y (object_of kind) ≡ false)
-    → ((kind : CaseKind) → operation_of o ≡ Some kind → has_partner script next counts' g kind ≡ false)
-    → firm_on script s counts g o ≡ false → firm_on script next counts' g o ≡ false
-firm-next script s next counts counts' g y None stays same alone h = refl
-firm-next script s next counts counts' g y (Some (Instr.Recv o)) stays same alone h =
-    let parts = or-false (is_some (fault script s (Instr.Recv o))) (is_ready_instr script s no_timer counts g (Instr.Recv o)) h in
-    let ready = or-false (is_ready_alone script s no_timer (CaseKind.Recv o)) (has_partner script s counts g (CaseKind.Recv o)) parts.1 in
-    let made : is_made next o ≡ true = made-stays s next y o stays (none-made (is_made s o) parts.0) in
-    let stay : channel_at next o ≡ channel_at s o = stays.same o (same (CaseKind.Recv o) refl) in
-    both-false (is_some (fault script next (Instr.Recv o))) _ (ap is_some (made-none (is_made next o) made))
-    (both-false (is_ready_alone script next no_timer (CaseKind.Recv o)) _ (recv-same s next o (what_at script o) stay ∙ ready.0) (alone (CaseKind.Recv o) refl))
-firm-next script s next counts counts' g y (Some (Instr.Send c v)) stays same alone h =
-    let parts = or-false (is_some (fault script s (Instr.Send c v))) (is_ready_instr script s no_timer counts g (Instr.Send c v)) h in
-    let ready = or-false (is_ready_alone script s no_timer (CaseKind.Send c v)) (has_partner script s counts g (CaseKind.Send c v)) parts.1 in
-    let here : IsOpenChannel s c = open-fault s c parts.0 in
-    let stay : channel_at next c ≡ channel_at s c = stays.same c (same (CaseKind.Send c v) refl) in
-    let faultless : open_fault next c ≡ None = ap (λ (ch : Option Channel). or_else (when (is_none ch) Reason.Unmade) (when (shut_in ch) Reason.Closed)) stay ∙ open-no_fault s c here in
-    both-false (is_some (fault script next (Instr.Send c v))) _ (ap is_some faultless)
-    (both-false (is_ready_alone script next no_timer (CaseKind.Send c v)) _ (send-same s next c (capacity_of script c) stay ∙ ready.0) (alone (CaseKind.Send c v) refl))
-firm-next script s next counts counts' g y (Some (Instr.LoopTop depth count past)) stays same alone h = refl
-firm-next script s next counts counts' g y (Some (Instr.LoopEnd depth top)) stays same alone h = refl
-firm-next script s next counts counts' g y (Some i) stays same alone h = absurd (or-true (is_some (fault script s i)) h)
+sound-stays : (s next : State) (may : ℕ → Bool) (kind : CaseKind) → Stays s next may → case_fault s kind ≡ None → case_fault next kind ≡ None
+sound-stays s next may (CaseKind.Recv o) stays h = made-none (is_made next o) (made-stays s next may o stays (none-made (is_made s o) (ap is_some h)))
+sound-stays s next may (CaseKind.Send c v) stays h = sound-made (channel_at next c) (stays.made c (made-sound (channel_at s c) h))
 
 -- ---- all of them
+
+-- who is parked at an operation was parked at it before
+record Was (script : Script) (s : State) (m : Schedule) (g k : ℕ) (kind : CaseKind) : Type 0 where
+  waits : is_waiting m g ≡ true
+  at : operation_at script s (at_case g k) ≡ Some kind
 
 pub calm_but-next : (script : Script) (s next : State) (m n : Schedule) (x y : ℕ → Bool) → Stays s next y → AllWere s m next n → ((o : ℕ) → y o ≡ false → x o ≡ false) → IsCalmBut script s m x
     → ((c : ℕ) → y c ≡ true → is_some (channel_at next c) ≡ true) → IsCalmBut script next n y
 calm_but-next script s next m n x y stays were wider calm made = record {
-  partners = λ g kind waits e. partner-there g kind (goroutine_at next g) (were g waits) refl e;
-  others = λ g waits apart. other-there g (goroutine_at next g) (were g waits) refl waits apart;
+  waits = λ g waits. stands-there g (goroutine_at next g) (were g waits) refl;
+  objects = λ g k kind waits e. let w : Was script s m g k kind = was g k kind (goroutine_at next g) (were g waits) refl e in sound-stays s next y kind stays (calm.objects g k kind w.waits w.at);
+  partners = λ g k kind waits e.
+      let w : Was script s m g k kind = was g k kind (goroutine_at next g) (were g waits) refl e in
+      unless-true (has_partner script next (is_waiting n) g kind)
+      (λ h. never-both (has_partner script s (is_waiting m) g kind) (partner-kept script s next m n x y stays were calm g kind h) (calm.partners g k kind w.waits w.at));
+  others = λ g k kind waits e apart.
+      let w : Was script s m g k kind = was g k kind (goroutine_at next g) (were g waits) refl e in
+      alone-same script s next kind (stays.same (object_of kind) apart) ∙ calm.others g k kind w.waits w.at (wider (object_of kind) apart);
   made = made;
 }
   where
-    alone : (g : ℕ) (kind : CaseKind) → is_waiting m g ≡ true → operation_at script s (plainly g) ≡ Some kind → has_partner script next (is_waiting n) g kind ≡ false
-    alone g kind waits e =
-        unless-true (has_partner script next (is_waiting n) g kind)
-        (λ h. never-both (has_partner script s (is_waiting m) g kind) (partner-kept script s next m n x y stays were calm g kind h) (calm.partners g kind waits e))
+    was : (g k : ℕ) (kind : CaseKind) (o : Option Goroutine) → WasThere s m g o → goroutine_at next g ≡ o → operation_at script next (at_case g k) ≡ Some kind → Was script s m g k kind
+    was g k kind o (waited waits p is) there e = record { waits = waits; at = ap (λ o. operation_of (stood script o) k) (sym (there ∙ is)) ∙ e }
+    was g k kind o (sleeps until r) there e =
+        let none : operation_at script next (at_case g k) ≡ None = ap (λ o. operation_of (stood script o) k) there in
+        cc
 
-    partner-there : (g : ℕ) (kind : CaseKind) (o : Option Goroutine) → WasThere s m g o → goroutine_at next g ≡ o → operation_at script next (plainly g) ≡ Some kind
-        → has_partner script next (is_waiting n) g kind ≡ false
-    partner-there g kind o (waited waits p is) there e = alone g kind waits (ap (λ o. operation_of (stood script o)) (sym (there ∙ is)) ∙ e)
-    partner-there g kind o (sleeps until r) there e = let none : operation_at script next (plainly g) ≡ None = ap (λ o. operation_of (stood script o)) there in cc
-
-    other-there : (g : ℕ) (o : Option Goroutine) → WasThere s m g o → goroutine_at next g ≡ o → is_waiting n g ≡ true
-        → is_at script next (plainly g) (λ kind. y (object_of kind)) ≡ false → is_firm_at script next n g ≡ false
-    other-there g o (waited waits p is) there now apart =
-        let same : goroutine_at s g ≡ goroutine_at next g = sym (there ∙ is) in
-        let on : Option Instr = stood script (goroutine_at s g) in
-        let apart_here : (elim (operation_of on) as (λ o. Bool) [ None ↦ false | Some kind ↦ y (object_of kind) ]) ≡ false =
-        ap (λ o. elim (operation_of (stood script o)) as (λ o. Bool) [ None ↦ false | Some kind ↦ y (object_of kind) ]) same ∙ apart in
-        let apart_x : is_at script s (plainly g) (λ kind. x (object_of kind)) ≡ false =
-        not-at (operation_of on) x (λ kind e. wider (object_of kind) (at-not (operation_of on) y kind apart_here e)) in
-        let was : firm_on script s (is_waiting m) g on ≡ false = sym (firm-stood script s (is_waiting m) g (goroutine_at s g)) ∙ calm.others g waits apart_x in
-        let firm : firm_on script next (is_waiting n) g on ≡ false =
-        firm-next script s next (is_waiting m) (is_waiting n) g y on stays (λ kind e. at-not (operation_of on) y kind apart_here e) (λ kind e. alone g kind waits e) was in
-        firm-stood script next (is_waiting n) g (goroutine_at next g) ∙ (ap (λ o. firm_on script next (is_waiting n) g (stood script o)) (sym same) ∙ firm)
-    other-there g o (sleeps until r) there now apart = ap (firm_of script next (is_waiting n) g) there
+    stands-there : (g : ℕ) (o : Option Goroutine) → WasThere s m g o → goroutine_at next g ≡ o → may_wait (stands_at script next g) ≡ true
+    stands-there g o (waited waits p is) there = ap (λ o. may_wait (stood script o)) (there ∙ is) ∙ calm.waits g waits
+    stands-there g o (sleeps until r) there = ap (λ o. may_wait (stood script o)) there
 
 -- nobody is firmly ready, nor but at no object
 abbrev pub nowhere : ℕ → Bool
@@ -342,14 +419,26 @@ nowhere o = false
 
 pub calm-nowhere : (script : Script) (s : State) (m : Schedule) → IsCalm script s m → IsCalmBut script s m nowhere
 calm-nowhere script s m calm = record {
-  partners = λ g kind waits e. firm-partner script s (is_waiting m) g (stood script (goroutine_at s g)) kind (sym (firm-stood script s (is_waiting m) g (goroutine_at s g)) ∙ calm g waits) e;
-  others = λ g waits apart. calm g waits;
+  waits = λ g waits. firm-waits script s (is_waiting m) g (stood script (goroutine_at s g)) (firm g waits);
+  objects = λ g n kind waits e. (firm-each script s (is_waiting m) g (stood script (goroutine_at s g)) n kind (firm g waits) e).sound;
+  partners = λ g n kind waits e. (firm-each script s (is_waiting m) g (stood script (goroutine_at s g)) n kind (firm g waits) e).partner;
+  others = λ g n kind waits e apart. (firm-each script s (is_waiting m) g (stood script (goroutine_at s g)) n kind (firm g waits) e).alone;
   made = λ c h. cc;
 }
+  where
+    firm : (g : ℕ) → is_waiting m g ≡ true → firm_on script s (is_waiting m) g (stood script (goroutine_at s g)) ≡ false
+    firm g waits = sym (firm-stood script s (is_waiting m) g (goroutine_at s g)) ∙ calm g waits
+
+-- where none of their operations is ready by itself, nobody is
+pub calm_but-calm : (script : Script) (s : State) (m : Schedule) (but : ℕ → Bool) → IsCalmBut script s m but
+    → ((g n : ℕ) (kind : CaseKind) → is_waiting m g ≡ true → operation_at script s (at_case g n) ≡ Some kind → is_ready_alone script s no_timer kind ≡ false) → IsCalm script s m
+calm_but-calm script s m but calm alone g waits =
+    firm-stood script s (is_waiting m) g (goroutine_at s g)
+    ∙ quiet-firm script s (is_waiting m) g (stood script (goroutine_at s g)) (calm.waits g waits) (λ n kind e.
+    record { sound = calm.objects g n kind waits e; alone = alone g n kind waits e; partner = calm.partners g n kind waits e })
 
 pub nowhere-calm : (script : Script) (s : State) (m : Schedule) → IsCalmBut script s m nowhere → IsCalm script s m
-nowhere-calm script s m but g waits =
-    but.others g waits (not-at (operation_at script s (plainly g)) nowhere (λ kind e. refl))
+nowhere-calm script s m but = calm_but-calm script s m nowhere but (λ g n kind waits e. but.others g n kind waits e refl)
 
 -- where every object stays, and who is parked was parked before
 pub calm-next : (script : Script) (s next : State) (m n : Schedule) → Stays s next nowhere → AllWere s m next n → IsCalm script s m → IsCalm script next n

@@ -1,10 +1,13 @@
 -- A book whose schedule changes, and one that ends, keep what a book keeps; what a goroutine in hand does may come.
-use Rattle.std.proofs.Common.{◌≡◌, ◌≢◌, ℕ, ◌+◌, ◌<◌, nat_lt, cond, List, [], ◌∷◌, refl, sym, ap, subst, ◌∙◌, arith, Option, None, Some, IfSome, IfNone, length, is_some, IsSome, slice_get, Bool, true, false, not, ◌||◌, IsTrue, zero, suc}
+use Rattle.std.proofs.Common.{◌≡◌, ◌≢◌, ℕ, ◌+◌, ◌<◌, nat_lt, cond, List, [], ◌∷◌, refl, sym, ap, subst, ◌∙◌, arith, Option, None, Some, IfSome, IfNone, length, is_some, IsSome, slice_get, Bool, true, false, not, ◌&&◌, ◌||◌, IsTrue, zero, suc, MatchOption, inl, inr}
+use Rattle.std.specs.List.{AllByRecursion, list_any}
 use Rattle.std.proofs.lemmas.Bool.{ltb-true}
+use Rattle.std.proofs.lemmas.List.Elements.{recursion_from_All}
 use Rattle.gt_model.specs.declared.script.Script.{Script}
 use Rattle.gt_model.specs.declared.script.Instr.{Instr}
 use Rattle.gt_model.specs.declared.script.Place.{Place}
 use Rattle.gt_model.specs.declared.script.CaseKind.{CaseKind}
+use Rattle.gt_model.specs.declared.script.Case.{Case}
 use Rattle.gt_model.specs.declared.entry.Entry.{Entry}
 use Rattle.gt_model.specs.declared.entry.Outcome.{Outcome}
 use Rattle.gt_model.specs.declared.entry.Party.{Party}
@@ -15,36 +18,40 @@ use Rattle.gt_rules.specs.State.{State, timer_at, channel_at, stands, stands_at,
 use Rattle.gt_model.specs.Script.{instr_at, code_of, what_at, is_chan, capacity_of, names_timer, names_chan}
 use Rattle.gt_model.proofs.Declared.{declared_within, chan_declared}
 use Rattle.gt_model.proofs.Items.{numbered-change_other}
-use Rattle.gt_rules.specs.Panics.{fault, when, panic_at}
-use Rattle.gt_rules.specs.Legal.{May, Does, operation_at}
+use Rattle.gt_rules.specs.Panics.{fault, fault_case, when, panic_at}
+use Rattle.gt_rules.specs.Legal.{May, MayPanic, ChoosesClosed, Does, Operates, operation_at, is_polling}
 use Rattle.gt_rules.specs.Finish.{IsIdle}
 use Rattle.gt_rules.specs.Counted.{counted}
-use Rattle.gt_model.specs.Good.{IsGood, NamesRightly}
+use Rattle.gt_model.specs.Good.{IsGood, IsGoodChoice, NamesRightly, OperatesRightly}
 use Rattle.gt_rules.specs.Places.{silent}
 use Rattle.gt_facts.specs.Formed.{IsFormed, IsPlacedIn}
 use Rattle.gt_facts.proofs.Formed.{formed-finish}
-use Rattle.gt_facts.proofs.Lookups.{names-Does, does-Operates}
+use Rattle.gt_facts.proofs.Lookups.{names-Does, names-operation, does-Operates}
 use Rattle.gt_book.specs.declared.book.Book.TheInside.{Inside}
 use Rattle.gt_schedule.specs.declared.scheduler.Scheduler.{Scheduler}
 use Rattle.gt_schedule.specs.declared.status.RunStatus.{RunStatus}
 use Rattle.gt_book.specs.declared.step.Step.{Step}
 use Rattle.gt_machine.specs.Machine.{state_of}
-use Rattle.gt_schedule.specs.Schedule.{Schedule, plainly, status_of, is_in_hand, is_parked, taken, gone_on, moved_by, MayMove, ServedBy, Served}
+use Rattle.gt_schedule.specs.Schedule.{Schedule, plainly, at_case, object_of, status_of, is_in_hand, is_parked, taken, gone_on, moved_by, MayMove, ServedBy, Served}
 use Rattle.gt_schedule.specs.Scheduler.{schedule_of, capacity, IsScheduler}
 use Rattle.gt_schedule.proofs.Moving.{first-queued}
 use Rattle.gt_rules.specs.Change.{Change, change_of}
 use Rattle.gt_rules.specs.declared.change.Move.{Move}
-use Rattle.gt_book.specs.Steps.{step_of, step_or_panic, step_of_instr, recv_by, send_by, partner_in, value_of}
+use Rattle.gt_book.specs.Steps.{chooses, case_step, come_timer, step_of, step_or_panic, step_of_instr, plain_step, goes_by, goes_alone, meets, or_next, receives_alone, sends_alone, meets_sender, meets_receiver, partner_in, value_of}
 use Rattle.gt_book.specs.View.{BookView, IsLawful, Fits, NoneFirm, Agrees, is_waiting, with_entries, with_schedule, outcome_of}
 use Rattle.gt_book.specs.Book.{seen, IsKept}
 use Rattle.gt_book.specs.Calm.{IsCalm}
-use Rattle.gt_book.proofs.Calm.{CanPark, calm-taken}
+use Rattle.gt_book.proofs.Calm.{CanPark, CanWait, calm-taken}
 use Rattle.gt_book.proofs.Entering.{running-none, sound-more, sound-lawful, lawful-sound}
 use Rattle.gt_book.specs.declared.run.Run.{Run}
 use Rattle.gt_book.proofs.Books.{Finished, seen-finished, finished-rooms}
 use Rattle.gt_book.proofs.Fitting.{Known, known, fits-taken, fits-changed}
 use Rattle.gt_book.proofs.Firm.{both-false, never-both, calm-standing, panic-standing}
-use Rattle.gt_book.proofs.Meeting.{recv_by-is, recv-is, send-is, stands-awake, operates-awake, Met, sender-met, receiver-met, parked-other, open-is, sends-open, met-open, recv-alone, send-alone, timer-alone, recv-unready, timer-unready}
+use Rattle.gt_book.proofs.Choosing.{sends-made}
+use Rattle.gt_book.proofs.Options.{ChoiceIs, NoneGoes, case_goes, case_polls, all_rest, all_wait, choice-so, none-rests, or-is, or-none, sends-none, unready-alone, never-come, meets-nobody}
+use Rattle.gt_rules.specs.Operations.{operation}
+use Rattle.gt_rules.specs.Ready.{no_timer, is_ready_alone, is_ready_case}
+use Rattle.gt_book.proofs.Meeting.{plain-is, recv-is, send-is, choice-is, stands-awake, operates-awake, Met, sender-met, receiver-met, parked-other, open-is, met-open, timer-alone, timer-unready}
 
 -- ---- another schedule
 
@@ -160,11 +167,14 @@ in_hand-steps v g lawful e =
     let found = in_hand-stands v g lawful e in
     ap (λ (o : Option Instr). is_some (elim o [ None ↦ None | Some i ↦ Some (step_or_panic v.script v.state v.schedule g i (fault v.script v.state i)) ])) found.1
 
--- nobody stands at the bounds of a loop
+-- nobody stands at the bounds of a loop or at a jump
 never-nowhere : (script : Script) (s : State) (m : Schedule) (g : ℕ) (p : Place) (i : Instr) (o : Option Reason) → silent p i ≡ None → step_or_panic script s m g i o ≡ Step.Nowhere → ⊥
 never-nowhere script s m g p i (Some reason) acts h = cc
 never-nowhere script s m g p (Instr.LoopTop depth count past) None acts h = cc
 never-nowhere script s m g p (Instr.LoopEnd depth top) None acts h = cc
+never-nowhere script s m g p (Instr.Jump to) None acts h = cc
+never-nowhere script s m g p (Instr.Select cases default_to) None acts h =
+    choice-is (λ step. step ≡ Step.Nowhere → ⊥) (λ e k. cc) (λ t k. cc) (λ timed k. cc) script s m g cases default_to h
 never-nowhere script s m g p (Instr.Sleep zero) None acts h = cc
 never-nowhere script s m g p (Instr.Sleep (suc d)) None acts h = cc
 never-nowhere script s m g p (Instr.Recv o) None acts h = recv-is (λ step. step ≡ Step.Nowhere → ⊥) (λ e k. cc) (λ kind k. cc) (λ t k. cc) script s m g o h
@@ -218,16 +228,54 @@ abbrev IsCalled : Step → Type 0
 IsCalled (Step.Makes e) = IsCall (change_of e)
 IsCalled _ = Unit {0}
 
-called-recv : (script : Script) (s : State) (g c : ℕ) (items : List ℕ) (closed : Bool) (sender : Option Party) → IsCalled (recv_by script s g c items closed sender)
-called-recv script s g c (v ∷ items) closed sender = record { mover = tt; partner = tt; timer = refl; clock = refl }
-called-recv script s g c [] true sender = record { mover = tt; partner = tt; timer = refl; clock = refl }
-called-recv script s g c [] false (Some q) = record { mover = tt; partner = tt; timer = refl; clock = refl }
-called-recv script s g c [] false None = tt
+abbrev AreCalled : Option Entry → Type 0
+AreCalled None = Unit {0}
+AreCalled (Some e) = IsCall (change_of e)
 
-called-send : (g c v : ℕ) (room : Bool) (receiver : Option Party) → IsCalled (send_by g c v room receiver)
-called-send g c v true receiver = record { mover = tt; partner = tt; timer = refl; clock = refl }
-called-send g c v false (Some q) = record { mover = tt; partner = tt; timer = refl; clock = refl }
-called-send g c v false None = tt
+called-receives : (p : Party) (c : ℕ) (items : List ℕ) (closed : Bool) → AreCalled (receives_alone p c items closed)
+called-receives p c (v ∷ items) closed = record { mover = tt; partner = tt; timer = refl; clock = refl }
+called-receives p c [] true = record { mover = tt; partner = tt; timer = refl; clock = refl }
+called-receives p c [] false = tt
+
+called-sends : (p : Party) (c v : ℕ) (closed room : Bool) → AreCalled (sends_alone p c v closed room)
+called-sends p c v true room = record { mover = tt; partner = tt; timer = refl; clock = refl }
+called-sends p c v false true = record { mover = tt; partner = tt; timer = refl; clock = refl }
+called-sends p c v false false = tt
+
+called-sender : (script : Script) (s : State) (p : Party) (c : ℕ) (o : Option Party) → AreCalled (meets_sender script s p c o)
+called-sender script s p c None = tt
+called-sender script s p c (Some q) = record { mover = tt; partner = tt; timer = refl; clock = refl }
+
+called-receiver : (p : Party) (c v : ℕ) (o : Option Party) → AreCalled (meets_receiver p c v o)
+called-receiver p c v None = tt
+called-receiver p c v (Some q) = record { mover = tt; partner = tt; timer = refl; clock = refl }
+
+called-where : (b : Bool) (o : Option Entry) → AreCalled o → AreCalled (cond b o None)
+called-where true o h = h
+called-where false o h = tt
+
+called-first : (a b : Option Entry) → AreCalled a → AreCalled b → AreCalled (or_next a b)
+called-first None b h k = k
+called-first (Some e) b h k = h
+
+called-by : (script : Script) (s : State) (m : Schedule) (p : Party) (kind : CaseKind) → AreCalled (goes_by script s m p kind)
+called-by script s m p (CaseKind.Recv o) =
+    called-first (goes_alone script s p (CaseKind.Recv o)) (meets script s m p (CaseKind.Recv o))
+    (called-where (is_chan script o) (receives_alone p o (items_of s o) (is_closed s o)) (called-receives p o (items_of s o) (is_closed s o)))
+    (called-where (is_chan script o) (meets_sender script s p o (partner_in script m.senders o)) (called-sender script s p o (partner_in script m.senders o)))
+called-by script s m p (CaseKind.Send c v) =
+    called-first (goes_alone script s p (CaseKind.Send c v)) (meets script s m p (CaseKind.Send c v))
+    (called-sends p c v (is_closed s c) (nat_lt (item_count s c) (capacity_of script c))) (called-receiver p c v (partner_in script m.receivers c))
+
+called-plain : (kind : CaseKind) (o : Option Entry) → AreCalled o → IsCalled (plain_step kind o)
+called-plain kind None h = tt
+called-plain kind (Some e) h = h
+
+called-choice : (script : Script) (s : State) (m : Schedule) (g : ℕ) (cases : List Case) (default_to : Option ℕ) (step : Step) → ChoiceIs script s m g cases default_to step → IsCalled step
+called-choice script s m g cases default_to step (case_goes n kind e has by) = subst AreCalled by (called-by script s m (at_case g n) kind)
+called-choice script s m g cases default_to step (case_polls n kind t has come) = tt
+called-choice script s m g cases default_to step (all_rest to e none) = record { mover = tt; partner = tt; timer = refl; clock = refl }
+called-choice script s m g cases default_to step (all_wait e none) = tt
 
 called : (script : Script) (s : State) (m : Schedule) (g : ℕ) (i : Instr) → IsCalled (step_of_instr script s m g i)
 called script s m g (Instr.Say n) = record { mover = tt; partner = tt; timer = refl; clock = refl }
@@ -240,10 +288,12 @@ called script s m g (Instr.Close c) = record { mover = tt; partner = tt; timer =
 called script s m g Instr.Finish = record { mover = tt; partner = tt; timer = refl; clock = refl }
 called script s m g (Instr.Recv o) = received (is_chan script o)
   where
-    received : (b : Bool) → IsCalled (cond b (recv_by script s g o (items_of s o) (is_closed s o) (partner_in script m.senders o)) (Step.Waits o))
-    received true = called-recv script s g o (items_of s o) (is_closed s o) (partner_in script m.senders o)
+    received : (b : Bool) → IsCalled (cond b (plain_step (CaseKind.Recv o) (goes_by script s m (plainly g) (CaseKind.Recv o))) (Step.Waits o))
+    received true = called-plain (CaseKind.Recv o) (goes_by script s m (plainly g) (CaseKind.Recv o)) (called-by script s m (plainly g) (CaseKind.Recv o))
     received false = tt
-called script s m g (Instr.Send c v) = called-send g c v (nat_lt (item_count s c) (capacity_of script c)) (partner_in script m.receivers c)
+called script s m g (Instr.Send c v) = called-plain (CaseKind.Send c v) (goes_by script s m (plainly g) (CaseKind.Send c v)) (called-by script s m (plainly g) (CaseKind.Send c v))
+called script s m g (Instr.Select cases default_to) = called-choice script s m g cases default_to _ (choice-so script s m g cases default_to)
+called script s m g (Instr.Jump to) = tt
 called script s m g (Instr.New t d) = tt
 called script s m g (Instr.Stop t) = tt
 called script s m g (Instr.Reset t d) = tt
@@ -268,41 +318,119 @@ makes-call script s m g e h =
 -- an entry of g alone, or one with a partner that is parked
 pub data MakesSo (script : Script) (s : State) (m : Schedule) (g : ℕ) : Entry → Type 0 where
   alone : (e : Entry) (move : Move) → May script s e → MayMove (Some RunStatus.InHand) move → (change_of e).mover ≡ Some (g, move) → (change_of e).partner ≡ None → MakesSo script s m g e
-  from_partner : (q : Party) (c v : ℕ) → is_waiting m q.g ≡ true → May script s (Entry.Pair q (plainly g) c v) → MakesSo script s m g (Entry.Pair q (plainly g) c v)
-  to_partner : (q : Party) (c v : ℕ) → is_waiting m q.g ≡ true → May script s (Entry.Pair (plainly g) q c v) → MakesSo script s m g (Entry.Pair (plainly g) q c v)
+  from_partner : (q : Party) (n c v : ℕ) → is_waiting m q.g ≡ true → May script s (Entry.Pair q (at_case g n) c v) → MakesSo script s m g (Entry.Pair q (at_case g n) c v)
+  to_partner : (q : Party) (n c v : ℕ) → is_waiting m q.g ≡ true → May script s (Entry.Pair (at_case g n) q c v) → MakesSo script s m g (Entry.Pair (at_case g n) q c v)
+
+not-and_left : (a b : Bool) → a ≡ false → not (a && b) ≡ true
+not-and_left false b h = refl
+not-and_left true b h = cc
+
+not-and_right : (a b : Bool) → b ≡ false → not (a && b) ≡ true
+not-and_right false b h = refl
+not-and_right true false h = refl
+not-and_right true true h = cc
+
+-- who chooses to send to a closed channel may panic so
+panics-closed : (script : Script) (s : State) (p : Party) (c v : ℕ) → Operates script s p (CaseKind.Send c v) → is_closed s c ≡ true → MayPanic script s p Reason.Closed
+panics-closed script s p c v sends shut =
+    subst (λ (o : Option (ℕ × Reason)). MatchOption o (ChoosesClosed s (operation_at script s p) Reason.Closed) (λ x. x ≡ (p.case_no, Reason.Closed))) (sym sends.calm)
+    (subst (λ o. ChoosesClosed s o Reason.Closed) (sym sends.stands) (shut, refl))
 
 module _ (script : Script) (s : State) (m : Schedule) (g : ℕ) (good : IsGood script) (fits : Fits script s m) (calm : IsCalm script s m)
     (in_hand : status_of m g ≡ Some RunStatus.InHand) where
-  makes-recv : (c : ℕ) (items : List ℕ) (closed : Bool) (sender : Option Party) (e : Entry) → items_of s c ≡ items → is_closed s c ≡ closed → partner_in script m.senders c ≡ sender
-      → IsTrue (is_chan script c) → Does script s g (Instr.Recv c) → recv_by script s g c items closed sender ≡ Step.Makes e → MakesSo script s m g e
-  makes-recv c (v ∷ items) closed sender e kept shut met chan does h =
-      let is : Entry.Recv (plainly g) c (Some v) ≡ e = cc in
-      subst (MakesSo script s m g) is (alone (Entry.Recv (plainly g) c (Some v)) (Move.GoesOn 0)
-      (does-Operates script s g (Instr.Recv c) (CaseKind.Recv c) refl does, chan, ap (λ (xs : List ℕ). slice_get xs 0) kept) refl refl refl)
-  makes-recv c [] true sender e kept shut met chan does h =
-      let is : Entry.Recv (plainly g) c None ≡ e = cc in
-      subst (MakesSo script s m g) is (alone (Entry.Recv (plainly g) c None) (Move.GoesOn 0)
-      (does-Operates script s g (Instr.Recv c) (CaseKind.Recv c) refl does, chan, (kept, shut)) refl refl refl)
-  makes-recv c [] false (Some q) e kept shut met chan does h =
-      let v : ℕ = value_of (operation_at script s q) in
-      let is : Entry.Pair q (plainly g) c v ≡ e = cc in
-      let sender : Met script s m q c (CaseKind.Send c v) = sender-met script s m q c fits calm (chan_declared script c chan) met in
-      subst (MakesSo script s m g) is (from_partner q c v sender.waits
-      (sender.operates, does-Operates script s g (Instr.Recv c) (CaseKind.Recv c) refl does, met-open script s m q c v calm sender, sender.none_kept, parked-other m q.g g sender.waits in_hand))
-  makes-recv c [] false None e kept shut met chan does h = cc
+  -- an operation that goes on by itself
+  makes-receives : (n c : ℕ) (items : List ℕ) (closed : Bool) (e : Entry) → items_of s c ≡ items → is_closed s c ≡ closed → IsTrue (is_chan script c)
+      → Operates script s (at_case g n) (CaseKind.Recv c) → receives_alone (at_case g n) c items closed ≡ Some e → MakesSo script s m g e
+  makes-receives n c (v ∷ items) closed e kept shut chan gets h =
+      let is : Entry.Recv (at_case g n) c (Some v) ≡ e = cc in
+      subst (MakesSo script s m g) is (alone (Entry.Recv (at_case g n) c (Some v)) (Move.GoesOn n) (gets, chan, ap (λ (xs : List ℕ). slice_get xs 0) kept) refl refl refl)
+  makes-receives n c [] true e kept shut chan gets h =
+      let is : Entry.Recv (at_case g n) c None ≡ e = cc in
+      subst (MakesSo script s m g) is (alone (Entry.Recv (at_case g n) c None) (Move.GoesOn n) (gets, chan, (kept, shut)) refl refl refl)
+  makes-receives n c [] false e kept shut chan gets h = cc
 
-  makes-send : (c v : ℕ) (room : Bool) (receiver : Option Party) (e : Entry) → nat_lt (item_count s c) (capacity_of script c) ≡ room → partner_in script m.receivers c ≡ receiver
-      → IsTrue (is_chan script c) → IsTrue (is_open s c) → Does script s g (Instr.Send c v) → send_by g c v room receiver ≡ Step.Makes e → MakesSo script s m g e
-  makes-send c v true receiver e has met chan unshut does h =
-      let is : Entry.Send (plainly g) c v ≡ e = cc in
-      subst (MakesSo script s m g) is (alone (Entry.Send (plainly g) c v) (Move.GoesOn 0)
-      (does-Operates script s g (Instr.Send c v) (CaseKind.Send c v) refl does, unshut, ltb-true (item_count s c) (capacity_of script c) has) refl refl refl)
-  makes-send c v false (Some q) e has met chan unshut does h =
-      let is : Entry.Pair (plainly g) q c v ≡ e = cc in
+  makes-sends : (n c v : ℕ) (closed room : Bool) (e : Entry) → is_closed s c ≡ closed → nat_lt (item_count s c) (capacity_of script c) ≡ room → is_some (channel_at s c) ≡ true
+      → Operates script s (at_case g n) (CaseKind.Send c v) → sends_alone (at_case g n) c v closed room ≡ Some e → MakesSo script s m g e
+  makes-sends n c v true room e shut has made sends h =
+      let is : Entry.Panic (at_case g n) Reason.Closed ≡ e = cc in
+      subst (MakesSo script s m g) is (alone (Entry.Panic (at_case g n) Reason.Closed) Move.Panics (panics-closed script s (at_case g n) c v sends shut) refl refl refl)
+  makes-sends n c v false true e shut has made sends h =
+      let is : Entry.Send (at_case g n) c v ≡ e = cc in
+      subst (MakesSo script s m g) is (alone (Entry.Send (at_case g n) c v) (Move.GoesOn n)
+      (sends, open-is s c (record { made = made; unshut = shut }), ltb-true (item_count s c) (capacity_of script c) has) refl refl refl)
+  makes-sends n c v false false e shut has made sends h = cc
+
+  -- an operation that goes on with a partner
+  makes-sender : (n c : ℕ) (sender : Option Party) (e : Entry) → partner_in script m.senders c ≡ sender → IsTrue (is_chan script c)
+      → Operates script s (at_case g n) (CaseKind.Recv c) → meets_sender script s (at_case g n) c sender ≡ Some e → MakesSo script s m g e
+  makes-sender n c None e met chan gets h = cc
+  makes-sender n c (Some q) e met chan gets h =
+      let v : ℕ = value_of (operation_at script s q) in
+      let is : Entry.Pair q (at_case g n) c v ≡ e = cc in
+      let sender : Met script s m q c (CaseKind.Send c v) = sender-met script s m q c fits calm (chan_declared script c chan) met in
+      subst (MakesSo script s m g) is (from_partner q n c v sender.waits (
+        sender.operates,
+        gets,
+        met-open script s m q c v calm sender,
+        sender.none_kept,
+        parked-other m q.g g sender.waits in_hand,
+        not-and_left (is_polling script s q.g) (is_polling script s g) sender.settled,
+      ))
+
+  makes-receiver : (n c v : ℕ) (receiver : Option Party) (e : Entry) → partner_in script m.receivers c ≡ receiver → IsTrue (is_chan script c) → IsTrue (is_open s c)
+      → Operates script s (at_case g n) (CaseKind.Send c v) → meets_receiver (at_case g n) c v receiver ≡ Some e → MakesSo script s m g e
+  makes-receiver n c v None e met chan unshut sends h = cc
+  makes-receiver n c v (Some q) e met chan unshut sends h =
+      let is : Entry.Pair (at_case g n) q c v ≡ e = cc in
       let receiver : Met script s m q c (CaseKind.Recv c) = receiver-met script s m q c fits calm (chan_declared script c chan) met in
-      subst (MakesSo script s m g) is (to_partner q c v receiver.waits
-      (does-Operates script s g (Instr.Send c v) (CaseKind.Send c v) refl does, receiver.operates, unshut, receiver.none_kept, λ same. parked-other m q.g g receiver.waits in_hand (sym same)))
-  makes-send c v false None e has met chan unshut does h = cc
+      subst (MakesSo script s m g) is (to_partner q n c v receiver.waits (
+        sends,
+        receiver.operates,
+        unshut,
+        receiver.none_kept,
+        (λ same. parked-other m q.g g receiver.waits in_hand (sym same)),
+        not-and_right (is_polling script s g) (is_polling script s q.g) receiver.settled,
+      ))
+
+  makes-by : (n : ℕ) (kind : CaseKind) (i : Instr) (e : Entry) → operation i n ≡ Some kind → Does script s g i → fault script s i ≡ None
+      → goes_by script s m (at_case g n) kind ≡ Some e → MakesSo script s m g e
+  makes-by n (CaseKind.Recv o) i e has does none h =
+      let gets : Operates script s (at_case g n) (CaseKind.Recv o) = does-Operates script s (at_case g n) i (CaseKind.Recv o) has does in
+      elim (is_chan script o) as (λ b. is_chan script o ≡ b → or_next (cond b (receives_alone (at_case g n) o (items_of s o) (is_closed s o)) None)
+      (cond b (meets_sender script s (at_case g n) o (partner_in script m.senders o)) None) ≡ Some e → MakesSo script s m g e) [
+        | true ↦ λ chan k. elim (or-is (receives_alone (at_case g n) o (items_of s o) (is_closed s o)) (meets_sender script s (at_case g n) o (partner_in script m.senders o)) e k) [
+          | inl by ↦ makes-receives n o (items_of s o) (is_closed s o) e refl refl chan gets by
+          | inr by ↦ makes-sender n o (partner_in script m.senders o) e refl chan gets by.1
+        ]
+        | false ↦ λ plain k. cc
+      ] refl h
+  makes-by n (CaseKind.Send c v) i e has does none h =
+      let sends : Operates script s (at_case g n) (CaseKind.Send c v) = does-Operates script s (at_case g n) i (CaseKind.Send c v) has does in
+      let made : is_some (channel_at s c) ≡ true = sends-made script s i n c v none has in
+      let chan : IsTrue (is_chan script c) = names-operation script i n (CaseKind.Send c v) has (names-Does script s g i good does) in
+      elim (or-is (goes_alone script s (at_case g n) (CaseKind.Send c v)) (meets script s m (at_case g n) (CaseKind.Send c v)) e h) [
+        | inl by ↦ makes-sends n c v (is_closed s c) (nat_lt (item_count s c) (capacity_of script c)) e refl refl made sends by
+        | inr by ↦
+            let unshut = sends-none (at_case g n) c v (is_closed s c) (nat_lt (item_count s c) (capacity_of script c)) by.0 in
+            makes-receiver n c v (partner_in script m.receivers c) e refl chan (open-is s c (record { made = made; unshut = unshut.0 })) sends by.1
+      ]
+
+  makes-plain : (kind : CaseKind) (o : Option Entry) (e : Entry) → plain_step kind o ≡ Step.Makes e → o ≡ Some e
+  makes-plain kind None e h = cc
+  makes-plain kind (Some x) e h = cc
+
+  makes-choice : (cases : List Case) (default_to : Option ℕ) (step : Step) (e : Entry) → Does script s g (Instr.Select cases default_to) → fault script s (Instr.Select cases default_to) ≡ None
+      → ChoiceIs script s m g cases default_to step → step ≡ Step.Makes e → MakesSo script s m g e
+  makes-choice cases default_to step e does none (case_goes n kind x has by) h =
+      let is : x ≡ e = cc in
+      subst (MakesSo script s m g) is (makes-by n kind (Instr.Select cases default_to) x has does none by)
+  makes-choice cases default_to step e does none (case_polls n kind t has come) h = cc
+  makes-choice cases default_to step e does none (all_rest to is_to rest) h =
+      let is : Entry.Default g ≡ e = cc in
+      let here : Does script s g (Instr.Select cases (Some to)) = subst (λ o. Does script s g (Instr.Select cases o)) is_to does in
+      subst (MakesSo script s m g) is (alone (Entry.Default g) (Move.GoesOn 0)
+      (record { cases = cases; to = to; does = here; none = none-rests script s m g cases 1 rest }) refl refl refl)
+  makes-choice cases default_to step e does none (all_wait is_none rest) h = cc
 
   makes-instr : (i : Instr) (e : Entry) → Does script s g i → fault script s i ≡ None → step_of_instr script s m g i ≡ Step.Makes e → MakesSo script s m g e
   makes-instr (Instr.Say n) e does none h =
@@ -316,16 +444,16 @@ module _ (script : Script) (s : State) (m : Schedule) (g : ℕ) (good : IsGood s
       let is : Entry.Go g (length s.goroutines + 1) f ≡ e = cc in
       subst (MakesSo script s m g) is (alone (Entry.Go g (length s.goroutines + 1) f) (Move.GoesOn 0) (does, refl) refl refl refl)
   makes-instr (Instr.Recv o) e does none h =
-      elim (is_chan script o) as (λ b. is_chan script o ≡ b
-      → cond b (recv_by script s g o (items_of s o) (is_closed s o) (partner_in script m.senders o)) (Step.Waits o) ≡ Step.Makes e → MakesSo script s m g e) [
-        | true ↦ λ chan k. makes-recv o (items_of s o) (is_closed s o) (partner_in script m.senders o) e refl refl refl chan does k
-        | false ↦ λ chan k. cc
-      ] refl h
+      elim (is_chan script o) as (λ b. cond b (plain_step (CaseKind.Recv o) (goes_by script s m (plainly g) (CaseKind.Recv o))) (Step.Waits o) ≡ Step.Makes e → MakesSo script s m g e) [
+        | true ↦ λ k.
+            makes-by 0 (CaseKind.Recv o) (Instr.Recv o) e refl does none (makes-plain (CaseKind.Recv o) (goes_by script s m (plainly g) (CaseKind.Recv o)) e k)
+        | false ↦ λ k. cc
+      ] h
   makes-instr (Instr.Make c) e does none h =
       let is : Entry.Make g c ≡ e = cc in subst (MakesSo script s m g) is (alone (Entry.Make g c) (Move.GoesOn 0) does refl refl refl)
   makes-instr (Instr.Send c v) e does none h =
-      makes-send c v (nat_lt (item_count s c) (capacity_of script c)) (partner_in script m.receivers c) e refl refl (names-Does script s g (Instr.Send c v) good does)
-      (open-is s c (sends-open script s c v none)) does h
+      makes-by 0 (CaseKind.Send c v) (Instr.Send c v) e refl does none (makes-plain (CaseKind.Send c v) (goes_by script s m (plainly g) (CaseKind.Send c v)) e h)
+  makes-instr (Instr.Select cases default_to) e does none h = makes-choice cases default_to _ e does none (choice-so script s m g cases default_to) h
   makes-instr (Instr.Close c) e does none h =
       let is : Entry.Close g c ≡ e = cc in subst (MakesSo script s m g) is (alone (Entry.Close g c) (Move.GoesOn 0) does refl refl refl)
   makes-instr Instr.Finish e does none h =
@@ -335,6 +463,7 @@ module _ (script : Script) (s : State) (m : Schedule) (g : ℕ) (good : IsGood s
   makes-instr (Instr.Reset t d) e does none h = cc
   makes-instr (Instr.LoopTop depth count past) e does none h = cc
   makes-instr (Instr.LoopEnd depth top) e does none h = cc
+  makes-instr (Instr.Jump to) e does none h = cc
 
   pub makes-so : (e : Entry) → step_of script s m g ≡ Some (Step.Makes e) → MakesSo script s m g e
   makes-so e h =
@@ -342,16 +471,20 @@ module _ (script : Script) (s : State) (m : Schedule) (g : ℕ) (good : IsGood s
       elim (fault script s step.instr) as (λ o. fault script s step.instr ≡ o → step_or_panic script s m g step.instr o ≡ Step.Makes e → MakesSo script s m g e) [
         | None ↦ λ q k. makes-instr step.instr e (record { stands = step.stands; calm = calm-standing script s g step.instr step.stands q }) q k
         | Some reason ↦ λ q k.
-            let panics : panic_at script s g ≡ Some (0, reason) =
-            panic-standing script s g step.instr step.stands ∙ ap (λ (o : Option Reason). elim o as (λ o. Option (ℕ × Reason)) [ None ↦ None | Some reason ↦ Some (0, reason) ]) q in
-            let is : Entry.Panic (plainly g) reason ≡ e = cc in
-            subst (MakesSo script s m g) is (alone (Entry.Panic (plainly g) reason) Move.Panics panics refl refl refl)
+            let p : Party = at_case g (fault_case s step.instr) in
+            let panics : panic_at script s g ≡ Some (p.case_no, reason) =
+            panic-standing script s g step.instr step.stands
+            ∙ ap (λ (o : Option Reason). elim o as (λ o. Option (ℕ × Reason)) [ None ↦ None | Some reason ↦ Some (fault_case s step.instr, reason) ]) q in
+            let may : MayPanic script s p reason =
+            subst (λ (o : Option (ℕ × Reason)). MatchOption o (ChoosesClosed s (operation_at script s p) reason) (λ x. x ≡ (p.case_no, reason))) (sym panics) refl in
+            let is : Entry.Panic p reason ≡ e = cc in
+            subst (MakesSo script s m g) is (alone (Entry.Panic p reason) Move.Panics may refl refl refl)
       ] refl step.is
 
 so-may : (script : Script) (s : State) (m : Schedule) (g : ℕ) (e : Entry) → MakesSo script s m g e → May script s e
 so-may script s m g e (alone _ move may moves mover none) = may
-so-may script s m g e (from_partner q c v waits may) = may
-so-may script s m g e (to_partner q c v waits may) = may
+so-may script s m g e (from_partner q n c v waits may) = may
+so-may script s m g e (to_partner q n c v waits may) = may
 
 pub makes-may : (script : Script) (s : State) (m : Schedule) (g : ℕ) (e : Entry) → IsGood script → IsFormed script s → Fits script s m → IsCalm script s m
     → status_of m g ≡ Some RunStatus.InHand → step_of script s m g ≡ Some (Step.Makes e) → May script s e
@@ -382,13 +515,13 @@ so-served script s m g e in_hand (alone _ move may moves mover none) = (
   subst (ServedBy m) (sym mover) (subst (λ o. MayMove o move) (sym in_hand) moves),
   subst (ServedBy (moved_by m (change_of e).mover)) (sym none) tt,
 )
-so-served script s m g e in_hand (from_partner q c v waits may) = (
+so-served script s m g e in_hand (from_partner q n c v waits may) = (
   parked-goes (status_of m q.g) waits,
   in_hand-goes _ (in_hand-stays m q.g g q.case_no (λ same. parked-other m q.g g waits in_hand (sym same)) in_hand),
 )
-so-served script s m g e in_hand (to_partner q c v waits may) = (
+so-served script s m g e in_hand (to_partner q n c v waits may) = (
   in_hand-goes (status_of m g) in_hand,
-  parked-goes _ (waits-stays m g q.g 0 (parked-other m q.g g waits in_hand) waits),
+  parked-goes _ (waits-stays m g q.g n (parked-other m q.g g waits in_hand) waits),
 )
 
 pub makes-served : (script : Script) (s : State) (m : Schedule) (g : ℕ) (e : Entry) → IsGood script → IsFormed script s → Fits script s m → IsCalm script s m
@@ -405,8 +538,8 @@ so-awake script s m g e awake (alone _ move may moves mover none) = record {
   mover = subst (λ (o : Option (ℕ × Move)). IfSome o (λ x. sleeps_until s x.0 ≡ None)) (sym mover) awake;
   partner = subst (λ (o : Option (ℕ × Move)). IfSome o (λ x. sleeps_until s x.0 ≡ None)) (sym none) tt;
 }
-so-awake script s m g e awake (from_partner q c v waits may) = record { mover = operates-awake script s q (CaseKind.Send c v) may.0; partner = awake }
-so-awake script s m g e awake (to_partner q c v waits may) = record { mover = awake; partner = operates-awake script s q (CaseKind.Recv c) may.1 }
+so-awake script s m g e awake (from_partner q n c v waits may) = record { mover = operates-awake script s q (CaseKind.Send c v) may.0; partner = awake }
+so-awake script s m g e awake (to_partner q n c v waits may) = record { mover = awake; partner = operates-awake script s q (CaseKind.Recv c) may.1 }
 
 pub makes-awake : (script : Script) (s : State) (m : Schedule) (g : ℕ) (e : Entry) → IsGood script → IsFormed script s → Fits script s m → IsCalm script s m
     → status_of m g ≡ Some RunStatus.InHand → step_of script s m g ≡ Some (Step.Makes e) → AreAwake s (change_of e)
@@ -432,12 +565,14 @@ record AtTimer (script : Script) (t : ℕ) (i : Instr) : Type 0 where
 instr-waits : (script : Script) (s : State) (m : Schedule) (g t : ℕ) (i : Instr) → step_of_instr script s m g i ≡ Step.Waits t → AtTimer script t i
 instr-waits script s m g t (Instr.Recv o) h =
     elim (is_chan script o) as (λ b. is_chan script o ≡ b
-    → cond b (recv_by script s g o (items_of s o) (is_closed s o) (partner_in script m.senders o)) (Step.Waits o) ≡ Step.Waits t → AtTimer script t (Instr.Recv o)) [
+    → cond b (plain_step (CaseKind.Recv o) (goes_by script s m (plainly g) (CaseKind.Recv o))) (Step.Waits o) ≡ Step.Waits t → AtTimer script t (Instr.Recv o)) [
       | true ↦ λ chan k.
-          absurd (recv_by-is (λ step. step ≡ Step.Waits t → ⊥) (λ e q. cc) (λ kind q. cc) script s g o (items_of s o) (is_closed s o) (partner_in script m.senders o) k)
+          absurd (plain-is (λ step. step ≡ Step.Waits t → ⊥) (λ e q. cc) (λ kind q. cc) (CaseKind.Recv o) (goes_by script s m (plainly g) (CaseKind.Recv o)) k)
       | false ↦ λ chan k. let same : o ≡ t = cc in record { is = ap Instr.Recv same; plain = ap (is_chan script) (sym same) ∙ chan }
     ] refl h
 instr-waits script s m g t (Instr.Send c v) h = absurd (send-is (λ step. step ≡ Step.Waits t → ⊥) (λ e q. cc) (λ kind q. cc) script s m g c v h)
+instr-waits script s m g t (Instr.Select cases default_to) h =
+    absurd (choice-is (λ step. step ≡ Step.Waits t → ⊥) (λ e q. cc) (λ t q. cc) (λ timed q. cc) script s m g cases default_to h)
 instr-waits script s m g t (Instr.Sleep zero) h = cc
 instr-waits script s m g t (Instr.Sleep (suc d)) h = cc
 instr-waits script s m g t _ h = cc
@@ -498,46 +633,35 @@ waits-parks script s m g t good formed in_hand h =
 
 -- what a step that parks has met
 module _ (script : Script) (s : State) (m : Schedule) (g : ℕ) (good : IsGood script) (fits : Fits script s m) (in_hand : status_of m g ≡ Some RunStatus.InHand) where
-  parks-recv : (c : ℕ) (items : List ℕ) (closed : Bool) (sender : Option Party) (kind : CaseKind) → items_of s c ≡ items → is_closed s c ≡ closed → partner_in script m.senders c ≡ sender
-      → stands_at script s g ≡ Some (Instr.Recv c) → fault script s (Instr.Recv c) ≡ None → c < length script.decls
-      → recv_by script s g c items closed sender ≡ Step.Parks kind → CanPark script s m g kind
-  parks-recv c (v ∷ items) closed sender kind kept shut met stands none within h = cc
-  parks-recv c [] true sender kind kept shut met stands none within h = cc
-  parks-recv c [] false (Some q) kind kept shut met stands none within h = cc
-  parks-recv c [] false None kind kept shut met stands none within h =
-      let is : CaseKind.Recv c ≡ kind = cc in
-      subst (CanPark script s m g) is (record {
-        waiter = record { instr = Instr.Recv c; stands = stands; has = refl; in_hand = in_hand; declared = within };
-        faultless = none;
-        alone = recv-unready s c (what_at script c) kept shut;
-        partner = recv-alone script s m g c fits within met;
-      })
+  parks-plain : (kind : CaseKind) (o : Option Entry) (at : CaseKind) → plain_step kind o ≡ Step.Parks at → (o ≡ None) × (kind ≡ at)
+  parks-plain kind None at h = (refl, cc)
+  parks-plain kind (Some e) at h = cc
 
-  parks-send : (c v : ℕ) (room : Bool) (receiver : Option Party) (kind : CaseKind) → nat_lt (item_count s c) (capacity_of script c) ≡ room → partner_in script m.receivers c ≡ receiver
-      → stands_at script s g ≡ Some (Instr.Send c v) → fault script s (Instr.Send c v) ≡ None → c < length script.decls → send_by g c v room receiver ≡ Step.Parks kind
-      → CanPark script s m g kind
-  parks-send c v true receiver kind has met stands none within h = cc
-  parks-send c v false (Some q) kind has met stands none within h = cc
-  parks-send c v false None kind has met stands none within h =
-      let is : CaseKind.Send c v ≡ kind = cc in
-      subst (CanPark script s m g) is (record {
-        waiter = record { instr = Instr.Send c v; stands = stands; has = refl; in_hand = in_hand; declared = within };
+  parks-by : (kind at : CaseKind) (i : Instr) → operation i 0 ≡ Some kind → stands_at script s g ≡ Some i → fault script s i ≡ None → object_of kind < length script.decls
+      → OperatesRightly script kind → plain_step kind (goes_by script s m (plainly g) kind) ≡ Step.Parks at → CanPark script s m g at
+  parks-by kind at i has stands none within names h =
+      let parts = parks-plain kind (goes_by script s m (plainly g) kind) at h in
+      let neither = or-none (goes_alone script s (plainly g) kind) (meets script s m (plainly g) kind) parts.0 in
+      subst (CanPark script s m g) parts.1 (record {
+        waiter = record { instr = i; stands = stands; has = has; in_hand = in_hand; declared = within };
         faultless = none;
-        alone = both-false (is_closed s c) (nat_lt (item_count s c) (capacity_of script c)) (sends-open script s c v none).unshut has;
-        partner = send-alone script s m g c v fits within met;
+        alone = unready-alone script s (plainly g) no_timer kind neither.0 (never-come script kind);
+        partner = meets-nobody script s m g (plainly g) kind fits names neither.1;
       })
 
   parks-instr : (i : Instr) (kind : CaseKind) → stands_at script s g ≡ Some i → fault script s i ≡ None → step_of_instr script s m g i ≡ Step.Parks kind → CanPark script s m g kind
   parks-instr (Instr.Recv o) kind stands none h =
       let names : NamesRightly script (Instr.Recv o) = names-Does script s g (Instr.Recv o) good (record { stands = stands; calm = calm-standing script s g (Instr.Recv o) stands none }) in
       elim (is_chan script o)
-      as (λ b. cond b (recv_by script s g o (items_of s o) (is_closed s o) (partner_in script m.senders o)) (Step.Waits o) ≡ Step.Parks kind → CanPark script s m g kind) [
-        | true ↦ λ k. parks-recv o (items_of s o) (is_closed s o) (partner_in script m.senders o) kind refl refl refl stands none (recv-declared script o names) k
+      as (λ b. cond b (plain_step (CaseKind.Recv o) (goes_by script s m (plainly g) (CaseKind.Recv o))) (Step.Waits o) ≡ Step.Parks kind → CanPark script s m g kind) [
+        | true ↦ λ k. parks-by (CaseKind.Recv o) kind (Instr.Recv o) refl stands none (recv-declared script o names) names k
         | false ↦ λ k. cc
       ] h
   parks-instr (Instr.Send c v) kind stands none h =
       let names : NamesRightly script (Instr.Send c v) = names-Does script s g (Instr.Send c v) good (record { stands = stands; calm = calm-standing script s g (Instr.Send c v) stands none }) in
-      parks-send c v (nat_lt (item_count s c) (capacity_of script c)) (partner_in script m.receivers c) kind refl refl stands none (chan_declared script c names) h
+      parks-by (CaseKind.Send c v) kind (Instr.Send c v) refl stands none (chan_declared script c names) names h
+  parks-instr (Instr.Select cases default_to) kind stands none h =
+      absurd (choice-is (λ step. step ≡ Step.Parks kind → ⊥) (λ e q. cc) (λ t q. cc) (λ timed q. cc) script s m g cases default_to h)
   parks-instr (Instr.Sleep zero) kind stands none h = cc
   parks-instr (Instr.Sleep (suc d)) kind stands none h = cc
   parks-instr i kind stands none h = cc
@@ -550,3 +674,86 @@ parks-rightly script s m g kind good fits in_hand h =
       | None ↦ λ q k. parks-instr script s m g good fits in_hand step.instr kind step.stands q k
       | Some reason ↦ λ q k. cc
     ] refl step.is
+
+-- ---- who waits at a choice
+
+-- what a step that waits at the cases of a choice has met
+pub record CanChoose (script : Script) (s : State) (m : Schedule) (g : ℕ) : Type 0 where
+  pub cases : List Case
+  pub stands : stands_at script s g ≡ Some (Instr.Select cases None)
+  pub names : IsGoodChoice script cases None
+  pub waits : CanWait script s m g
+
+-- what an operation names is declared
+pub operates-declared : (script : Script) (kind : CaseKind) → OperatesRightly script kind → object_of kind < length script.decls
+operates-declared script (CaseKind.Recv o) names = recv-declared script o names
+operates-declared script (CaseKind.Send c v) names = chan_declared script c names
+
+module _ (script : Script) (s : State) (m : Schedule) (g : ℕ) (good : IsGood script) (fits : Fits script s m) where
+  none-goes : (n : ℕ) (cases : List Case) → AllByRecursion (λ (c : Case). OperatesRightly script c.kind) cases → NoneGoes script s m g false n cases
+      → list_any (λ (c : Case). is_ready_case script s no_timer (is_waiting m) g c.kind) cases ≡ false
+  none-goes n [] names none = refl
+  none-goes n (c ∷ cases) names none =
+      let nothing : goes_by script s m (at_case g n) c.kind ≡ None = no-step (goes_by script s m (at_case g n) c.kind) (come_timer script s (clock_of s g) c.kind) none.0 in
+      let neither = or-none (goes_alone script s (at_case g n) c.kind) (meets script s m (at_case g n) c.kind) nothing in
+      both-false (is_ready_case script s no_timer (is_waiting m) g c.kind) _
+      (both-false (is_ready_alone script s no_timer c.kind) _ (unready-alone script s (at_case g n) no_timer c.kind neither.0 (never-come script c.kind))
+      (meets-nobody script s m g (at_case g n) c.kind fits names.0 neither.1))
+      (none-goes (n + 1) cases names.1 none.1)
+    where
+      no-step : (e : Option Entry) (come : Option ℕ) → case_step e false come ≡ None → e ≡ None
+      no-step None come h = refl
+      no-step (Some e) come h = cc
+
+  choice-waits : (cases : List Case) (default_to : Option ℕ) (step : Step) (timed : Bool) → stands_at script s g ≡ Some (Instr.Select cases default_to)
+      → fault script s (Instr.Select cases default_to) ≡ None → ChoiceIs script s m g cases default_to step → step ≡ Step.Chooses timed → CanChoose script s m g
+  choice-waits cases default_to step timed stands none (case_goes n kind e has by) h = cc
+  choice-waits cases default_to step timed stands none (case_polls n kind t has come) h = cc
+  choice-waits cases default_to step timed stands none (all_rest to is rest) h = cc
+  choice-waits cases default_to step timed stands none (all_wait is rest) h =
+      let here : stands_at script s g ≡ Some (Instr.Select cases None) = stands ∙ ap (λ o. Some (Instr.Select cases o)) is in
+      let faultless : fault script s (Instr.Select cases None) ≡ None = none in
+      let names : IsGoodChoice script cases None = names-Does script s g (Instr.Select cases None) good (record { stands = here; calm = calm-standing script s g (Instr.Select cases None) here faultless }) in
+      record {
+        cases = cases;
+        stands = here;
+        names = names;
+        waits = record {
+          instr = Instr.Select cases None;
+          stands = here;
+          firm = both-false (is_some (fault script s (Instr.Select cases None))) _ (ap is_some faultless)
+              (none-goes 1 cases (recursion_from_All (λ (c : Case). OperatesRightly script c.kind) cases names.each) rest);
+        };
+      }
+
+  chooses-instr : (i : Instr) (timed : Bool) → stands_at script s g ≡ Some i → fault script s i ≡ None → step_of_instr script s m g i ≡ Step.Chooses timed → CanChoose script s m g
+  chooses-instr (Instr.Select cases default_to) timed stands none h = choice-waits cases default_to _ timed stands none (choice-so script s m g cases default_to) h
+  chooses-instr (Instr.Recv o) timed stands none h =
+      absurd (recv-is (λ step. step ≡ Step.Chooses timed → ⊥) (λ e q. cc) (λ kind q. cc) (λ t q. cc) script s m g o h)
+  chooses-instr (Instr.Send c v) timed stands none h = absurd (send-is (λ step. step ≡ Step.Chooses timed → ⊥) (λ e q. cc) (λ kind q. cc) script s m g c v h)
+  chooses-instr (Instr.Sleep zero) timed stands none h = cc
+  chooses-instr (Instr.Sleep (suc d)) timed stands none h = cc
+  chooses-instr i timed stands none h = cc
+
+pub chooses-rightly : (script : Script) (s : State) (m : Schedule) (g : ℕ) → IsGood script → Fits script s m → IsTrue (chooses (step_of script s m g)) → CanChoose script s m g
+chooses-rightly script s m g good fits h =
+    elim (step_of script s m g) as (λ o. step_of script s m g ≡ o → chooses o ≡ true → CanChoose script s m g) [
+      | None ↦ λ e k. cc
+      | Some step ↦ λ e k. by step e k
+    ] refl h
+  where
+    at : (timed : Bool) → step_of script s m g ≡ Some (Step.Chooses timed) → CanChoose script s m g
+    at timed e =
+        let step : IsStep script s m g (Step.Chooses timed) = step-is script s m g (Step.Chooses timed) e in
+        elim (fault script s step.instr) as (λ o. fault script s step.instr ≡ o → step_or_panic script s m g step.instr o ≡ Step.Chooses timed → CanChoose script s m g) [
+          | None ↦ λ q k. chooses-instr script s m g good fits step.instr timed step.stands q k
+          | Some reason ↦ λ q k. cc
+        ] refl step.is
+
+    by : (step : Step) → step_of script s m g ≡ Some step → chooses (Some step) ≡ true → CanChoose script s m g
+    by (Step.Chooses timed) e k = at timed e
+    by (Step.Makes x) e k = cc
+    by (Step.Waits t) e k = cc
+    by (Step.Parks kind) e k = cc
+    by (Step.Needs op) e k = cc
+    by Step.Nowhere e k = cc

@@ -16,3 +16,5 @@ pub mod Committing
 pub mod Idling
 pub mod Setting
 pub mod Parking
+pub mod Choosing
+pub mod Options

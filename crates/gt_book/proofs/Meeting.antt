@@ -1,9 +1,10 @@
 -- What a goroutine in hand meets at a channel: a partner that is parked there, which stands at its operation without a misuse, or nobody.
-use Rattle.std.proofs.Common.{◌≡◌, ◌≢◌, ℕ, ◌<◌, ◌==◌, nat_lt, cond, List, [], ◌∷◌, length, slice_get, refl, sym, ap, ◌∙◌, Option, None, Some, Bool, true, false, not, ◌&&◌, is_some, IsTrue}
+use Rattle.std.proofs.Common.{◌≡◌, ◌≢◌, ℕ, ◌+◌, ◌<◌, ◌==◌, nat_lt, cond, List, [], ◌∷◌, length, slice_get, refl, sym, ap, subst, ◌∙◌, Option, None, Some, Bool, true, false, not, ◌&&◌, ◌||◌, is_some, IsTrue}
 use Rattle.std.proofs.lemmas.Bool.{eqb-true, and_parts, and_from}
 use Rattle.std.specs.Option.{option_map}
 use Rattle.gt_model.specs.declared.script.Script.{Script}
 use Rattle.gt_model.specs.declared.script.Instr.{Instr}
+use Rattle.gt_model.specs.declared.script.Case.{Case}
 use Rattle.gt_model.specs.declared.script.What.{What}
 use Rattle.gt_model.specs.declared.script.CaseKind.{CaseKind}
 use Rattle.gt_model.specs.declared.entry.Entry.{Entry}
@@ -11,48 +12,67 @@ use Rattle.gt_model.specs.declared.entry.Party.{Party}
 use Rattle.gt_model.specs.declared.state.Goroutine.{Goroutine}
 use Rattle.gt_model.specs.declared.state.Mode.{Mode}
 use Rattle.gt_model.specs.Script.{is_chan, names_chan, capacity_of}
-use Rattle.gt_rules.specs.State.{State, Channel, channel_at, stands_at, until_of, sleeps_until, items_of, item_count, is_open, is_closed}
-use Rattle.gt_rules.specs.Operations.{operation, offers, receives_from, sends_to}
-use Rattle.gt_rules.specs.Legal.{Operates, operation_at}
+use Rattle.gt_rules.specs.State.{State, Channel, channel_at, stands_at, clock_of, until_of, sleeps_until, item_count, is_open, is_closed}
+use Rattle.gt_rules.specs.Operations.{operation, offers, polls, receives_from, sends_to}
+use Rattle.gt_rules.specs.Legal.{Operates, operation_at, is_polling}
 use Rattle.gt_rules.specs.Panics.{fault}
-use Rattle.gt_rules.specs.Ready.{is_ready_recv, has_partner, partner_waits, no_timer}
-use Rattle.gt_facts.proofs.Lookups.{Standing, standing, AtOperation, at_operation, stands_send}
+use Rattle.gt_rules.specs.Ready.{is_ready_recv, is_ready_case, is_ready_instr, has_partner, partner_waits, no_timer}
+use Rattle.gt_facts.proofs.Lookups.{Standing, standing, AtOperation, at_operation, Offered, offered}
 use Rattle.gt_facts.proofs.Partners.{Partner, partner}
 use Rattle.gt_schedule.specs.declared.status.RunStatus.{RunStatus}
-use Rattle.gt_schedule.specs.Schedule.{Schedule, plainly, status_of, is_parked, parties_at}
+use Rattle.gt_schedule.specs.Schedule.{Schedule, plainly, at_case, status_of, is_parked, parties_at}
 use Rattle.gt_book.specs.declared.step.Step.{Step}
-use Rattle.gt_book.specs.Steps.{partner_in, value_of, recv_by, send_by, step_of_instr}
+use Rattle.gt_book.specs.declared.answers.TimerOp.{TimerOp}
+use Rattle.gt_book.specs.Steps.{partner_in, value_of, plain_step, goes_by, case_step, come_timer, first_step, no_case, step_of_instr}
 use Rattle.gt_book.specs.View.{is_waiting, is_at, is_parked_at, Fits}
 use Rattle.gt_book.specs.Calm.{IsCalm}
 use Rattle.gt_book.proofs.Fitting.{first-waiting, first-sending, none-waiting, none-sending}
-use Rattle.gt_book.proofs.Firm.{IsOpenChannel, open-fault, firm-stood, firm-fault, has_fault, no-reason, calm-standing, both-false, unless-true, never-both}
+use Rattle.gt_book.proofs.Choosing.{unready-waits, unready-operation, sends-made}
+use Rattle.gt_book.proofs.Firm.{IsOpenChannel, or-false, firm_on, firm-stood, no-reason, calm-standing, unless-true, never-both}
 
 -- ---- a step at a channel makes an entry or parks; one at a timer waits
 
-pub recv_by-is : (P : Step → Type 0) → ((e : Entry) → P (Step.Makes e)) → ((kind : CaseKind) → P (Step.Parks kind))
-    → (script : Script) (s : State) (g c : ℕ) (items : List ℕ) (closed : Bool) (sender : Option Party) → P (recv_by script s g c items closed sender)
-recv_by-is P makes parks script s g c (v ∷ items) closed sender = makes _
-recv_by-is P makes parks script s g c [] true sender = makes _
-recv_by-is P makes parks script s g c [] false (Some q) = makes _
-recv_by-is P makes parks script s g c [] false None = parks _
-
-pub send_by-is : (P : Step → Type 0) → ((e : Entry) → P (Step.Makes e)) → ((kind : CaseKind) → P (Step.Parks kind))
-    → (g c v : ℕ) (room : Bool) (receiver : Option Party) → P (send_by g c v room receiver)
-send_by-is P makes parks g c v true receiver = makes _
-send_by-is P makes parks g c v false (Some q) = makes _
-send_by-is P makes parks g c v false None = parks _
+-- an entry is made, or none
+pub plain-is : (P : Step → Type 0) → ((e : Entry) → P (Step.Makes e)) → ((kind : CaseKind) → P (Step.Parks kind)) → (kind : CaseKind) (o : Option Entry) → P (plain_step kind o)
+plain-is P makes parks kind (Some e) = makes e
+plain-is P makes parks kind None = parks kind
 
 pub recv-is : (P : Step → Type 0) → ((e : Entry) → P (Step.Makes e)) → ((kind : CaseKind) → P (Step.Parks kind)) → ((t : ℕ) → P (Step.Waits t))
     → (script : Script) (s : State) (m : Schedule) (g o : ℕ) → P (step_of_instr script s m g (Instr.Recv o))
 recv-is P makes parks waits script s m g o = by (is_chan script o)
   where
-    by : (b : Bool) → P (cond b (recv_by script s g o (items_of s o) (is_closed s o) (partner_in script m.senders o)) (Step.Waits o))
-    by true = recv_by-is P makes parks script s g o (items_of s o) (is_closed s o) (partner_in script m.senders o)
+    by : (b : Bool) → P (cond b (plain_step (CaseKind.Recv o) (goes_by script s m (plainly g) (CaseKind.Recv o))) (Step.Waits o))
+    by true = plain-is P makes parks (CaseKind.Recv o) (goes_by script s m (plainly g) (CaseKind.Recv o))
     by false = waits o
 
 pub send-is : (P : Step → Type 0) → ((e : Entry) → P (Step.Makes e)) → ((kind : CaseKind) → P (Step.Parks kind))
     → (script : Script) (s : State) (m : Schedule) (g c v : ℕ) → P (step_of_instr script s m g (Instr.Send c v))
-send-is P makes parks script s m g c v = send_by-is P makes parks g c v (nat_lt (item_count s c) (capacity_of script c)) (partner_in script m.receivers c)
+send-is P makes parks script s m g c v = plain-is P makes parks (CaseKind.Send c v) (goes_by script s m (plainly g) (CaseKind.Send c v))
+
+-- a choice makes an entry, polls a timer, or waits
+pub choice-is : (P : Step → Type 0) → ((e : Entry) → P (Step.Makes e)) → ((t : ℕ) → P (Step.Needs (TimerOp.Poll t))) → ((timed : Bool) → P (Step.Chooses timed))
+    → (script : Script) (s : State) (m : Schedule) (g : ℕ) (cases : List Case) (default_to : Option ℕ) → P (step_of_instr script s m g (Instr.Select cases default_to))
+choice-is P makes polls waits script s m g cases default_to = first 1 cases
+  where
+    MaybeP : Option Step → Type 0
+    MaybeP o = P (elim o as (λ o. Step) [ None ↦ no_case script g cases default_to | Some step ↦ step ])
+
+    none : (to : Option ℕ) → P (no_case script g cases to)
+    none (Some to) = makes _
+    none None = waits _
+
+    one : (e : Option Entry) (polling : Bool) (come : Option ℕ) (next : Option Step) → MaybeP next
+        → MaybeP (elim (case_step e polling come) as (λ o. Option Step) [ None ↦ next | Some step ↦ Some step ])
+    one (Some e) polling come next h = makes e
+    one None true (Some t) next h = polls t
+    one None true None next h = h
+    one None false come next h = h
+
+    first : (n : ℕ) (left : List Case) → MaybeP (first_step script s m g (is_some default_to) n left)
+    first n [] = none default_to
+    first n (c ∷ left) =
+        one (goes_by script s m (at_case g n) c.kind) (is_some default_to) (come_timer script s (clock_of s g) c.kind)
+        (first_step script s m g (is_some default_to) (n + 1) left) (first (n + 1) left)
 
 -- ---- who is awake
 
@@ -109,13 +129,22 @@ at-sends script s p c h =
     let is : at.kind ≡ CaseKind.Send c (value_of (Some at.kind)) = sends-kind at.kind c at.passes in
     at.there ∙ ap Some (is ∙ ap (λ o. CaseKind.Send c (value_of o)) (sym at.there))
 
--- in a calm book who is parked makes no misuse
-pub parked-faultless : (script : Script) (s : State) (m : Schedule) (g : ℕ) (i : Instr) → IsCalm script s m → is_waiting m g ≡ true → stands_at script s g ≡ Some i → fault script s i ≡ None
-parked-faultless script s m g i calm waits e =
-    let firm = sym (firm-stood script s (is_waiting m) g _) ∙ calm g waits in
-    no-reason (fault script s i) (sym (ap (has_fault script s) e) ∙ firm-fault script s (is_waiting m) g (stands_at script s g) firm)
+-- In a calm book who is parked makes no misuse, and is not ready
+pub record Parked (script : Script) (s : State) (m : Schedule) (g : ℕ) (i : Instr) : Type 0 where
+  pub faultless : fault script s i ≡ None
+  pub unready : is_ready_instr script s no_timer (is_waiting m) g i ≡ false
 
-parked-operates : (script : Script) (s : State) (m : Schedule) (p : Party) (kind : CaseKind) → IsCalm script s m → is_waiting m p.g ≡ true → operation_at script s p ≡ Some kind → Operates script s p kind
+pub parked-unready : (script : Script) (s : State) (m : Schedule) (g : ℕ) (i : Instr) → IsCalm script s m → is_waiting m g ≡ true → stands_at script s g ≡ Some i → Parked script s m g i
+parked-unready script s m g i calm waits e =
+    let firm = sym (firm-stood script s (is_waiting m) g _) ∙ calm g waits in
+    let here : firm_on script s (is_waiting m) g (Some i) ≡ false = subst (λ o. firm_on script s (is_waiting m) g o ≡ false) e firm in
+    let parts = or-false (is_some (fault script s i)) (is_ready_instr script s no_timer (is_waiting m) g i) here in
+    record { faultless = no-reason (fault script s i) parts.0; unready = parts.1 }
+
+pub parked-faultless : (script : Script) (s : State) (m : Schedule) (g : ℕ) (i : Instr) → IsCalm script s m → is_waiting m g ≡ true → stands_at script s g ≡ Some i → fault script s i ≡ None
+parked-faultless script s m g i calm waits e = (parked-unready script s m g i calm waits e).faultless
+
+pub parked-operates : (script : Script) (s : State) (m : Schedule) (p : Party) (kind : CaseKind) → IsCalm script s m → is_waiting m p.g ≡ true → operation_at script s p ≡ Some kind → Operates script s p kind
 parked-operates script s m p kind calm waits e =
     let at : AtOperation script s p kind = at_operation script s p kind e in
     record { stands = e; calm = calm-standing script s p.g at.instr at.stands (parked-faultless script s m p.g at.instr calm waits at.stands) }
@@ -139,20 +168,36 @@ pub record Met (script : Script) (s : State) (m : Schedule) (q : Party) (c : ℕ
   pub waits : is_waiting m q.g ≡ true
   pub operates : Operates script s q kind
   pub none_kept : capacity_of script c ≡ 0
+  pub settled : is_polling script s q.g ≡ false
+
+-- a party that is parked stands at no choice with a default
+parked-polling : (script : Script) (s : State) (m : Schedule) (p : Party) (kind : CaseKind) → IsCalm script s m → is_waiting m p.g ≡ true → operation_at script s p ≡ Some kind
+    → is_polling script s p.g ≡ false
+parked-polling script s m p kind calm waits e =
+    let at : AtOperation script s p kind = at_operation script s p kind e in
+    let there : Parked script s m p.g at.instr = parked-unready script s m p.g at.instr calm waits at.stands in
+    ap (λ (o : Option Instr). elim o as (λ o. Bool) [ None ↦ false | Some i ↦ polls i ]) at.stands ∙ unready-waits script s no_timer (is_waiting m) p.g at.instr there.unready
 
 pub sender-met : (script : Script) (s : State) (m : Schedule) (q : Party) (c : ℕ) → Fits script s m → IsCalm script s m → c < length script.decls → partner_in script m.senders c ≡ Some q
     → Met script s m q c (CaseKind.Send c (value_of (operation_at script s q)))
 sender-met script s m q c fits calm declared e =
     let one : First script m.senders c q = partner-first script m.senders c q e in
     let both = and_parts (is_waiting m q.g) (is_at script s q (sends_to c)) (first-sending script s m q c fits declared one.first) in
-    record { waits = both.0; operates = parked-operates script s m q _ calm both.0 (at-sends script s q c both.1); none_kept = one.none_kept }
+    let sends = at-sends script s q c both.1 in
+    record { waits = both.0; operates = parked-operates script s m q _ calm both.0 sends; none_kept = one.none_kept; settled = parked-polling script s m q _ calm both.0 sends }
 
 pub receiver-met : (script : Script) (s : State) (m : Schedule) (q : Party) (c : ℕ) → Fits script s m → IsCalm script s m → c < length script.decls → partner_in script m.receivers c ≡ Some q
     → Met script s m q c (CaseKind.Recv c)
 receiver-met script s m q c fits calm declared e =
     let one : First script m.receivers c q = partner-first script m.receivers c q e in
     let both = and_parts (is_waiting m q.g) (is_at script s q (receives_from c)) (first-waiting script s m q c fits declared one.first) in
-    record { waits = both.0; operates = parked-operates script s m q (CaseKind.Recv c) calm both.0 (at-receives script s q c both.1); none_kept = one.none_kept }
+    let receives = at-receives script s q c both.1 in
+    record {
+      waits = both.0;
+      operates = parked-operates script s m q (CaseKind.Recv c) calm both.0 receives;
+      none_kept = one.none_kept;
+      settled = parked-polling script s m q (CaseKind.Recv c) calm both.0 receives;
+    }
 
 -- who is parked is not in hand
 pub parked-other : (m : Schedule) (h g : ℕ) → is_waiting m h ≡ true → status_of m g ≡ Some RunStatus.InHand → h ≢ g
@@ -169,15 +214,18 @@ open-is s c is = by (channel_at s c) is.made is.unshut
     by None h k = cc
     by (Some r) h k = ap not k
 
--- who sends without a misuse sends to an open channel
-pub sends-open : (script : Script) (s : State) (c v : ℕ) → fault script s (Instr.Send c v) ≡ None → IsOpenChannel s c
-sends-open script s c v none = open-fault s c (ap is_some none)
-
--- a parked sender's channel is open
+-- a parked sender's channel is open: else its send would be a misuse, and go on
 pub met-open : (script : Script) (s : State) (m : Schedule) (q : Party) (c v : ℕ) → IsCalm script s m → Met script s m q c (CaseKind.Send c v) → IsTrue (is_open s c)
 met-open script s m q c v calm met =
-    let stands : stands_at script s q.g ≡ Some (Instr.Send c v) = stands_send script s q c v met.operates.stands in
-    open-is s c (sends-open script s c v (parked-faultless script s m q.g (Instr.Send c v) calm met.waits stands))
+    let at : AtOperation script s q (CaseKind.Send c v) = at_operation script s q (CaseKind.Send c v) met.operates.stands in
+    let there : Parked script s m q.g at.instr = parked-unready script s m q.g at.instr calm met.waits at.stands in
+    let unready : is_ready_case script s no_timer (is_waiting m) q.g (CaseKind.Send c v) ≡ false =
+    unready-operation script s no_timer (is_waiting m) q.g at.instr q.case_no (CaseKind.Send c v) at.has there.unready in
+    let alone = or-false (is_closed s c || nat_lt (item_count s c) (capacity_of script c)) _ unready in
+    open-is s c (record {
+      made = sends-made script s at.instr q.case_no c v there.faultless at.has;
+      unshut = (or-false (is_closed s c) (nat_lt (item_count s c) (capacity_of script c)) alone.0).0;
+    })
 
 -- ---- where a step meets nobody
 
@@ -189,23 +237,29 @@ none-listed script lists c e zero_kept = empty (parties_at lists c) (sym (ap (λ
     empty [] h = refl
     empty (p ∷ ps) h = cc
 
--- what an instruction offers, it does as a plain party
-offers-at : (script : Script) (s : State) (g : ℕ) (i : Instr) (test : CaseKind → Bool) → stands_at script s g ≡ Some i → offers test i ≡ true → is_at script s (plainly g) test ≡ true
+-- what an instruction offers, it does as one of its parties
+record AtOffer (script : Script) (s : State) (g : ℕ) (test : CaseKind → Bool) : Type 0 where
+  case_no : ℕ
+  is : is_at script s (at_case g case_no) test ≡ true
+
+offers-at : (script : Script) (s : State) (g : ℕ) (i : Instr) (test : CaseKind → Bool) → stands_at script s g ≡ Some i → offers test i ≡ true → AtOffer script s g test
 offers-at script s g i test e h =
-    ap (λ (o : Option Instr). elim (elim o as (λ o. Option CaseKind) [ None ↦ None | Some i ↦ operation i 0 ]) as (λ o. Bool) [ None ↦ false | Some kind ↦ test kind ]) e ∙ on i h
-  where
-    on : (i : Instr) → offers test i ≡ true → (elim (operation i 0) as (λ o. Bool) [ None ↦ false | Some kind ↦ test kind ]) ≡ true
-    on (Instr.Recv o) h = h
-    on (Instr.Send c v) h = h
-    on i h = cc
+    let one : Offered i test = offered i test h in
+    let there : operation_at script s (at_case g one.case_no) ≡ Some one.kind =
+    ap (λ (o : Option Instr). elim o as (λ o. Option CaseKind) [ None ↦ None | Some i ↦ operation i one.case_no ]) e ∙ one.has in
+    record {
+      case_no = one.case_no;
+      is = ap (λ (o : Option CaseKind). elim o as (λ o. Bool) [ None ↦ false | Some kind ↦ test kind ]) there ∙ one.passes;
+    }
 
 -- where nobody is parked at an operation, nobody parked is a partner there
 none-waits : (script : Script) (s : State) (m : Schedule) (g : ℕ) (test : CaseKind → Bool) → ((p : Party) → is_parked_at script s m p test ≡ false)
     → partner_waits script s (is_waiting m) g test ≡ true → ⊥
 none-waits script s m g test none h =
     let p : Partner script s (is_waiting m) g test = partner script s (is_waiting m) g test h in
-    never-both (is_parked_at script s m (plainly p.number) test)
-    (and_from (is_waiting m p.number) (is_at script s (plainly p.number) test) p.counted (offers-at script s p.number p.instr test p.does.stands p.passes)) (none (plainly p.number))
+    let at : AtOffer script s p.number test = offers-at script s p.number p.instr test p.does.stands p.passes in
+    never-both (is_parked_at script s m (at_case p.number at.case_no) test)
+    (and_from (is_waiting m p.number) (is_at script s (at_case p.number at.case_no) test) p.counted at.is) (none (at_case p.number at.case_no))
 
 pub recv-alone : (script : Script) (s : State) (m : Schedule) (g c : ℕ) → Fits script s m → c < length script.decls → partner_in script m.senders c ≡ None
     → has_partner script s (is_waiting m) g (CaseKind.Recv c) ≡ false
@@ -226,14 +280,7 @@ send-alone script s m g c v fits declared none =
 pub timer-alone : (script : Script) (s : State) (m : Schedule) (g t : ℕ) → is_chan script t ≡ false → has_partner script s (is_waiting m) g (CaseKind.Recv t) ≡ false
 timer-alone script s m g t none = ap (λ b. b && capacity_of script t == 0 && partner_waits script s (is_waiting m) g (sends_to t)) none
 
--- an open channel without a value is not ready for a receive, and what is no channel is so by its time alone
-pub recv-unready : (s : State) (c : ℕ) (what : Option What) → items_of s c ≡ [] → is_closed s c ≡ false → is_ready_recv s no_timer c what ≡ false
-recv-unready s c None empty unshut = refl
-recv-unready s c (Some What.Timer) empty unshut = refl
-recv-unready s c (Some (What.AfterFunc func)) empty unshut = refl
-recv-unready s c (Some (What.Chan cap)) empty unshut = both-false (nat_lt 0 (item_count s c)) (is_closed s c) (ap (λ (xs : List ℕ). nat_lt 0 (length xs)) empty) unshut
-recv-unready s c (Some What.Function) empty unshut = refl
-
+-- what is no channel is ready for a receive by its time alone
 pub timer-unready : (s : State) (t : ℕ) (what : Option What) → names_chan what ≡ false → is_ready_recv s no_timer t what ≡ false
 timer-unready s t None none = refl
 timer-unready s t (Some What.Timer) none = refl

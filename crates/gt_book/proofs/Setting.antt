@@ -1,5 +1,5 @@
 -- A step that asks for a timer's record, and the instruction that does.
-use Rattle.std.proofs.Common.{◌≡◌, ℕ, zero, suc, Bool, true, false, refl, sym, ap, subst, ◌∙◌, Option, None, Some, MatchOption}
+use Rattle.std.proofs.Common.{◌≡◌, ℕ, zero, suc, Bool, true, false, refl, sym, ap, subst, ◌∙◌, Option, None, Some, MatchOption, ◌⊎◌, inl, inr}
 use Rattle.gt_model.specs.declared.entry.Outcome.{Outcome}
 use Rattle.gt_book.specs.declared.answers.Did.{Did}
 use Rattle.gt_book.specs.declared.answers.TimerOp.{TimerOp}
@@ -7,12 +7,12 @@ use Rattle.gt_book.specs.declared.step.Step.{Step}
 use Rattle.gt_model.specs.declared.script.Script.{Script}
 use Rattle.gt_model.specs.declared.script.Instr.{Instr}
 use Rattle.gt_model.specs.declared.script.CaseKind.{CaseKind}
-use Rattle.gt_rules.specs.State.{State}
+use Rattle.gt_rules.specs.State.{State, stands_at}
 use Rattle.gt_rules.specs.Panics.{fault}
 use Rattle.gt_schedule.specs.declared.status.Ticket.{Ticket}
-use Rattle.gt_schedule.specs.Schedule.{Schedule, plainly, parked_at, ticket_of}
-use Rattle.gt_book.specs.Steps.{Does, Steps, set_instr, step_of, step_of_instr, step_or_panic}
-use Rattle.gt_book.proofs.Meeting.{recv-is, send-is}
+use Rattle.gt_schedule.specs.Schedule.{Schedule, plainly, parked_at, parked_cases, ticket_of}
+use Rattle.gt_book.specs.Steps.{Does, Steps, cases_of, set_instr, step_of, step_of_instr, step_or_panic}
+use Rattle.gt_book.proofs.Meeting.{recv-is, send-is, choice-is}
 use Rattle.gt_book.proofs.Going.{IsStep, step-is}
 use Rattle.gt_book.specs.View.{BookView, outcome_of, with_schedule}
 
@@ -27,6 +27,7 @@ is_enrolled (TimerOp.Enrolled ticket) = true
 is_enrolled (TimerOp.Set t d anew) = false
 is_enrolled (TimerOp.Stop t) = false
 is_enrolled (TimerOp.Sleep d) = false
+is_enrolled (TimerOp.Poll t) = false
 
 true-false : (b : Bool) → b ≡ true → b ≡ false → ⊥
 true-false true e h = cc
@@ -43,6 +44,11 @@ does-timer old g (Step.Waits t) new op is other h =
     let answer : Did.Timer op ≡ Did.Timer (TimerOp.Enrolled (ticket_of old.schedule g)) = h.1 in
     let enrolled : op ≡ TimerOp.Enrolled (ticket_of old.schedule g) = cc in
     absurd (true-false (is_enrolled op) (ap is_enrolled enrolled) other)
+does-timer old g (Step.Chooses true) new op is other h =
+    let answer : Did.Timer op ≡ Did.Timer (TimerOp.Enrolled (ticket_of old.schedule g)) = h.1 in
+    let enrolled : op ≡ TimerOp.Enrolled (ticket_of old.schedule g) = cc in
+    absurd (true-false (is_enrolled op) (ap is_enrolled enrolled) other)
+does-timer old g (Step.Chooses false) new op is other h = let answer : Did.Timer op ≡ Did.Parked = h.1 in cc
 does-timer old g (Step.Parks kind) new op is other h = let answer : Did.Timer op ≡ Did.Parked = h.1 in cc
 does-timer old g (Step.Needs wanted) new op is other h =
     let answer : Did.Timer op ≡ Did.Timer wanted = h.1 in
@@ -59,11 +65,19 @@ steps-timer old g new op none other h =
       | Some step ↦ λ q k. does-timer old g step new op q other k
     ] refl does
 
--- a step that parked its goroutine under this ticket
-pub record ParksUnder (old : BookView) (g : ℕ) (ticket : Ticket) (new : BookView) : Type 0 where
+-- a step that parked its goroutine at the receive of a timer, or at the cases of a choice of which one receives from a timer
+pub record ParksPlainly (old : BookView) (g : ℕ) (new : BookView) : Type 0 where
   pub at : ℕ
   pub waits : step_of old.script old.state old.schedule g ≡ Some (Step.Waits at)
   pub parked : new ≡ with_schedule old (parked_at old.schedule (plainly g) (CaseKind.Recv at))
+
+pub record ParksAtCases (old : BookView) (g : ℕ) (new : BookView) : Type 0 where
+  pub waits : step_of old.script old.state old.schedule g ≡ Some (Step.Chooses true)
+  pub parked : new ≡ with_schedule old (parked_cases old.schedule g (cases_of (stands_at old.script old.state g)))
+
+-- and did so under this ticket
+pub record ParksUnder (old : BookView) (g : ℕ) (ticket : Ticket) (new : BookView) : Type 0 where
+  pub way : ParksPlainly old g new ⊎ ParksAtCases old g new
   pub its : ticket ≡ ticket_of old.schedule g
 
 -- no instruction asks for that
@@ -76,6 +90,8 @@ none-enrolled script s m g (Instr.Sleep zero) = refl
 none-enrolled script s m g (Instr.Sleep (suc d)) = refl
 none-enrolled script s m g (Instr.Recv o) = recv-is (λ step. needs_enrolled step ≡ false) (λ e. refl) (λ kind. refl) (λ t. refl) script s m g o
 none-enrolled script s m g (Instr.Send c v) = send-is (λ step. needs_enrolled step ≡ false) (λ e. refl) (λ kind. refl) script s m g c v
+none-enrolled script s m g (Instr.Select cases default_to) =
+    choice-is (λ step. needs_enrolled step ≡ false) (λ e. refl) (λ t. refl) (λ timed. refl) script s m g cases default_to
 none-enrolled script s m g _ = refl
 
 asks-not_enrolled : (script : Script) (s : State) (m : Schedule) (g : ℕ) (i : Instr) (op : TimerOp) → step_of_instr script s m g i ≡ Step.Needs op → is_enrolled op ≡ false
@@ -91,6 +107,8 @@ same-instr script s m g (Instr.Sleep zero) = refl
 same-instr script s m g (Instr.Sleep (suc d)) = refl
 same-instr script s m g (Instr.Recv o) = recv-is (λ step. asked_by (Instr.Recv o) step ≡ Instr.Recv o) (λ e. refl) (λ kind. refl) (λ t. refl) script s m g o
 same-instr script s m g (Instr.Send c v) = send-is (λ step. asked_by (Instr.Send c v) step ≡ Instr.Send c v) (λ e. refl) (λ kind. refl) script s m g c v
+same-instr script s m g (Instr.Select cases default_to) =
+    choice-is (λ step. asked_by (Instr.Select cases default_to) step ≡ Instr.Select cases default_to) (λ e. refl) (λ t. refl) (λ timed. refl) script s m g cases default_to
 same-instr script s m g _ = refl
 
 pub instr-set : (script : Script) (s : State) (m : Schedule) (g t d : ℕ) (anew : Bool) (i : Instr) → step_of_instr script s m g i ≡ Step.Needs (TimerOp.Set t d anew) → i ≡ set_instr t d anew
@@ -109,7 +127,11 @@ does-enrolled : (old : BookView) (g : ℕ) (step : Step) (new : BookView) (ticke
 does-enrolled old g (Step.Makes e) new ticket is h = absurd (entered-no_timer (outcome_of new) (TimerOp.Enrolled ticket) h.1)
 does-enrolled old g (Step.Waits t) new ticket is h =
     let answer : Did.Timer (TimerOp.Enrolled ticket) ≡ Did.Timer (TimerOp.Enrolled (ticket_of old.schedule g)) = h.1 in
-    record { at = t; waits = is; parked = h.0; its = cc }
+    record { way = inl (record { at = t; waits = is; parked = h.0 }); its = cc }
+does-enrolled old g (Step.Chooses true) new ticket is h =
+    let answer : Did.Timer (TimerOp.Enrolled ticket) ≡ Did.Timer (TimerOp.Enrolled (ticket_of old.schedule g)) = h.1 in
+    record { way = inr (record { waits = is; parked = h.0 }); its = cc }
+does-enrolled old g (Step.Chooses false) new ticket is h = let answer : Did.Timer (TimerOp.Enrolled ticket) ≡ Did.Parked = h.1 in cc
 does-enrolled old g (Step.Parks kind) new ticket is h = let answer : Did.Timer (TimerOp.Enrolled ticket) ≡ Did.Parked = h.1 in cc
 does-enrolled old g (Step.Needs wanted) new ticket is h =
     let answer : Did.Timer (TimerOp.Enrolled ticket) ≡ Did.Timer wanted = h.1 in

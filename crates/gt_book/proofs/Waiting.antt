@@ -8,6 +8,7 @@ use Rattle.gt_model.specs.declared.script.Script.{Script}
 use Rattle.gt_model.specs.declared.script.Decl.{Decl}
 use Rattle.gt_model.specs.declared.script.What.{What}
 use Rattle.gt_model.specs.declared.script.Instr.{Instr}
+use Rattle.gt_model.specs.declared.script.CaseKind.{CaseKind}
 use Rattle.gt_model.specs.declared.state.Goroutine.{Goroutine}
 use Rattle.gt_model.specs.declared.state.Timer.{Timer}
 use Rattle.gt_model.specs.Good.{IsGood}
@@ -17,8 +18,7 @@ use Rattle.gt_rules.specs.State.{State, goroutine_at, timer_at, stands, stands_a
 use Rattle.gt_rules.specs.Operations.{receives_from, offers}
 use Rattle.gt_rules.specs.Counted.{sleep_of, awaits, is_awaited, counted_timer}
 use Rattle.gt_facts.specs.Formed.{IsFormed}
-use Rattle.gt_facts.proofs.Lookups.{any-numbered, receives-recv, Standing, standing}
-use Rattle.gt_facts.proofs.Named.{names-instr_at}
+use Rattle.gt_facts.proofs.Lookups.{any-numbered, ReceivesFrom, receives-recv, names-instr_at, names-operation, Standing, standing}
 use Rattle.gt_book.specs.Least.{counted_of}
 
 -- ---- both sides of a test
@@ -49,28 +49,40 @@ any-found {X} p (y ∷ ys) e =
     later p y ys zero z e h = cc
     later p y ys (suc i) z e h = (suc (suc i), (z, e, h))
 
-awaits-recv : (script : Script) (s : State) (g t : ℕ) (r : Goroutine) → goroutine_at s g ≡ Some r → awaits script 0 t r ≡ true → stands_at script s g ≡ Some (Instr.Recv t)
+-- a goroutine that stands at an instruction which receives from t, plainly or as a case
+pub record Awaiting (script : Script) (s : State) (t : ℕ) : Type 0 where
+  pub number : ℕ
+  pub instr : Instr
+  pub stands : stands_at script s number ≡ Some instr
+  pub passes : offers (receives_from t) instr ≡ true
+
+awaits-recv : (script : Script) (s : State) (g t : ℕ) (r : Goroutine) → goroutine_at s g ≡ Some r → awaits script 0 t r ≡ true → Awaiting script s t
 awaits-recv script s g t r there e =
     let at : (elim (stands script r) as (λ _. Bool) [ None ↦ false | Some i ↦ offers (receives_from t) i ]) ≡ true = right-of (r.world == 0) _ e in
-    ap (λ (o : Option Goroutine). elim o as (λ _. Option Instr) [ None ↦ None | Some r ↦ stands script r ]) there ∙ on (stands script r) at
+    on (stands script r) refl at
   where
-    on : (o : Option Instr) → (elim o as (λ _. Bool) [ None ↦ false | Some i ↦ offers (receives_from t) i ]) ≡ true → o ≡ Some (Instr.Recv t)
-    on None h = cc
-    on (Some i) h = ap Some (receives-recv i t h)
+    on : (o : Option Instr) → stands script r ≡ o → (elim o as (λ _. Bool) [ None ↦ false | Some i ↦ offers (receives_from t) i ]) ≡ true → Awaiting script s t
+    on None is h = cc
+    on (Some i) is h = record {
+      number = g;
+      instr = i;
+      stands = ap (λ (o : Option Goroutine). elim o as (λ _. Option Instr) [ None ↦ None | Some r ↦ stands script r ]) there ∙ is;
+      passes = h;
+    }
 
-pub awaited-stands : (script : Script) (s : State) (t : ℕ) → is_awaited script s 0 t ≡ true → (g : ℕ) × (stands_at script s g ≡ Some (Instr.Recv t))
+pub awaited-stands : (script : Script) (s : State) (t : ℕ) → is_awaited script s 0 t ≡ true → Awaiting script s t
 awaited-stands script s t e =
     let found = any-found (awaits script 0 t) s.goroutines e in
-    (found.0, awaits-recv script s found.0 t found.1.0 found.1.1 found.1.2)
+    awaits-recv script s found.0 t found.1.0 found.1.1 found.1.2
 
-pub stands-awaited : (script : Script) (s : State) (g t : ℕ) → IsFormed script s → stands_at script s g ≡ Some (Instr.Recv t) → is_awaited script s 0 t ≡ true
-stands-awaited script s g t formed e =
-    let st : Standing script s g (Instr.Recv t) = standing script s g (Instr.Recv t) e in
+pub stands-awaited : (script : Script) (s : State) (g t : ℕ) (i : Instr) → IsFormed script s → stands_at script s g ≡ Some i → offers (receives_from t) i ≡ true → is_awaited script s 0 t ≡ true
+stands-awaited script s g t i formed e passes =
+    let st : Standing script s g i = standing script s g i e in
     let world : st.who.world ≡ 0 = formed.world.goroutines g st.who st.there in
-    let on : stands script st.who ≡ Some (Instr.Recv t) =
+    let on : stands script st.who ≡ Some i =
     ap (λ (o : Option Goroutine). elim o as (λ _. Option Instr) [ None ↦ None | Some r ↦ stands script r ]) (sym st.there) ∙ e in
     any-numbered (awaits script 0 t) s.goroutines g st.who st.there
-    (rw (eq-eqb st.who.world 0 world) (ap (λ (o : Option Instr). elim o as (λ _. Bool) [ None ↦ false | Some i ↦ offers (receives_from t) i ]) on ∙ eq-eqb t t refl))
+    (rw (eq-eqb st.who.world 0 world) (ap (λ (o : Option Instr). elim o as (λ _. Bool) [ None ↦ false | Some i ↦ offers (receives_from t) i ]) on ∙ passes))
 
 -- ---- the time of a declaration, and of a sleep
 
@@ -172,14 +184,16 @@ sleep-shown script s g w formed e =
     counted-slept script s (length script.decls + g) (omega arith)
     ∙ (ap (λ n. elim (goroutine_at s n) as (λ _. Option ℕ) [ None ↦ None | Some r ↦ sleep_of 0 r ]) is ∙ sleep-counts script s g w formed e)
 
--- that of a declaration shows when it is due, where one stands at its receive
-pub awaited-shown : (script : Script) (s : State) (g t w : ℕ) → IsGood script → IsFormed script s → stands_at script s g ≡ Some (Instr.Recv t) → due_of s t ≡ Some w
-    → counted_of script s t ≡ Some w
-awaited-shown script s g t w good formed e due =
-    let st : Standing script s g (Instr.Recv t) = standing script s g (Instr.Recv t) e in
-    let named : (names_timer (what_at script t) || names_chan (what_at script t)) ≡ true = names-instr_at script st.who.place (Instr.Recv t) good st.on in
+-- that of a declaration shows when it is due, where one stands at an instruction that receives from it
+pub awaited-shown : (script : Script) (s : State) (g t w : ℕ) (i : Instr) → IsGood script → IsFormed script s → stands_at script s g ≡ Some i → offers (receives_from t) i ≡ true
+    → due_of s t ≡ Some w → counted_of script s t ≡ Some w
+awaited-shown script s g t w i good formed e passes due =
+    let st : Standing script s g i = standing script s g i e in
+    let at : ReceivesFrom i t = receives-recv i t passes in
+    let named : (names_timer (what_at script t) || names_chan (what_at script t)) ≡ true =
+    names-operation script i at.case_no (CaseKind.Recv t) at.has (names-instr_at script st.who.place i good st.on) in
     counted-declared script s t (named-within script t (λ what. names_timer what || names_chan what) refl named)
-    ∙ timer-counts script s t w formed (or-second (is_func script t) _ (stands-awaited script s g t formed e)) due
+    ∙ timer-counts script s t w formed (or-second (is_func script t) _ (stands-awaited script s g t i formed e passes)) due
 
 -- and where it is an AfterFunc timer
 pub func-shown : (script : Script) (s : State) (t w : ℕ) → IsFormed script s → is_func script t ≡ true → due_of s t ≡ Some w → counted_of script s t ≡ Some w

@@ -1,10 +1,12 @@
 -- Who goes on at a channel, of those that wait there: each entry may come and is of one that is firmly ready; where there is none, nobody parked is.
-use Rattle.std.proofs.Common.{◌≡◌, ℕ, ◌+◌, ◌-◌, ◌<◌, List, [], ◌∷◌, ◌++◌, length, slice_get, nat_lt, eqb, refl, sym, ap, subst, ◌∙◌, arith, Option, None, Some, Bool, true, false, not, ◌||◌, is_some, is_none, IsTrue, ◌⊎◌, inl, inr}
+use Rattle.std.proofs.Common.{◌≡◌, ℕ, zero, suc, cond, ◌+◌, ◌-◌, ◌<◌, List, [], ◌∷◌, ◌++◌, length, slice_get, nat_lt, eqb, refl, sym, ap, subst, ◌∙◌, arith, Option, None, Some, Bool, true, false, not, ◌||◌, is_some, is_none, IsTrue, ◌⊎◌, inl, inr}
+use Rattle.std.specs.Prelude.{MatchOption}
 use Rattle.std.proofs.lemmas.Bool.{eqb-true, eq-eqb, ltb-true, and_parts}
 use Rattle.gt_model.specs.declared.script.Script.{Script}
 use Rattle.gt_model.specs.declared.script.Instr.{Instr}
 use Rattle.gt_model.specs.declared.script.What.{What}
 use Rattle.gt_model.specs.declared.script.CaseKind.{CaseKind}
+use Rattle.gt_model.specs.declared.script.Case.{Case}
 use Rattle.gt_model.specs.declared.entry.Entry.{Entry}
 use Rattle.gt_model.specs.declared.entry.Party.{Party}
 use Rattle.gt_model.specs.declared.entry.Limits.{Limits}
@@ -13,50 +15,50 @@ use Rattle.gt_model.specs.declared.entry.Reason.{Reason}
 use Rattle.gt_model.specs.Good.{IsGood}
 use Rattle.gt_model.specs.Script.{what_at, is_chan, capacity_of}
 use Rattle.gt_model.proofs.Declared.{chan_declared}
-use Rattle.gt_rules.specs.State.{State, Channel, goroutine_at, channel_at, items_of, item_count, is_closed, is_made, stands_at}
+use Rattle.gt_rules.specs.State.{State, Channel, goroutine_at, channel_at, items_of, item_count, is_closed, stands_at}
 use Rattle.gt_rules.specs.Operations.{operation, receives_from, sends_to}
-use Rattle.gt_rules.specs.Panics.{fault, when, or_else, open_fault, panic_at}
-use Rattle.gt_rules.specs.Ready.{is_ready_alone, is_ready_recv, has_partner, no_timer}
-use Rattle.gt_rules.specs.Legal.{May, Gives, operation_at}
+use Rattle.gt_rules.specs.Panics.{fault, case_fault, choice_fault, when, or_else, open_fault, panic_at}
+use Rattle.gt_rules.specs.Ready.{is_ready_alone, is_ready_recv, no_timer}
+use Rattle.gt_rules.specs.Legal.{May, MayPanic, ChoosesClosed, Gives, operation_at}
 use Rattle.gt_rules.specs.Finish.{IsRunning}
 use Rattle.gt_rules.specs.History.{AllLegal, state_after}
 use Rattle.gt_rules.specs.After.{after}
 use Rattle.gt_rules.specs.declared.change.Trade.{Trade}
 use Rattle.gt_rules.specs.Change.{change_of, takes}
 use Rattle.gt_facts.specs.Formed.{IsFormed}
-use Rattle.gt_facts.proofs.Lookups.{AtOperation, at_operation, is_recv, is_send, is_plain}
+use Rattle.gt_facts.proofs.Lookups.{AtOperation, at_operation, IsCase, is-case}
 use Rattle.gt_facts.proofs.Makers.{gives-ready}
 use Rattle.gt_machine.specs.Machine.{state_of}
 use Rattle.gt_machine.specs.Outcomes.{due_outcome}
 use Rattle.gt_schedule.specs.Counts.{as_number, often}
-use Rattle.gt_schedule.specs.Schedule.{Schedule, plainly, object_of, parties_at, status_of, is_in_hand, is_parked, scheduled, Served}
+use Rattle.gt_schedule.specs.Schedule.{Schedule, at_case, object_of, parties_at, status_of, is_in_hand, is_parked, scheduled, Served}
 use Rattle.gt_schedule.specs.Scheduler.{schedule_of}
 use Rattle.gt_book.specs.declared.run.Run.{Run}
-use Rattle.gt_book.specs.Steps.{value_of}
-use Rattle.gt_book.specs.Woken.{receiver_goes, sender_goes, or_next, woken_receiver, woken_sender, next_woken}
+use Rattle.gt_book.specs.Steps.{or_next, goes_alone, receives_alone, sends_alone}
+use Rattle.gt_book.specs.Woken.{first_alone, alone_of, woken_by, next_woken}
 use Rattle.gt_book.specs.Calm.{IsCalm, IsCalmBut}
 use Rattle.gt_book.specs.declared.book.Book.TheInside.{Inside}
 use Rattle.gt_book.specs.Book.{seen, IsKept}
 use Rattle.gt_book.specs.Run.{seen_of, CanMake, Makes, CanWake, Wakes, CanEnter, Entered, Ends}
 use Rattle.gt_book.specs.View.{BookView, Fits, AreWoken, Enters, is_waiting, is_at, is_parked_at, is_firm_at, with_entries, finish_due, outcome_of}
-use Rattle.gt_book.proofs.Firm.{firm_on, firm-stood, both-false, panic-standing, calm-standing, open-no_fault}
+use Rattle.gt_book.proofs.Firm.{operation_of, firm_on, firm-stood, firm-quiet, sound-choice, made-sound, case-there, never-both, both-false, panic-standing, calm-standing, open-no_fault, calm_but-calm}
 use Rattle.gt_book.proofs.Fitting.{first-waiting, first-sending}
 use Rattle.gt_book.proofs.Stays.{trades_at}
-use Rattle.gt_book.proofs.Calm.{plain-firm, calm-but, calm-entered, calm_but-again}
+use Rattle.gt_book.proofs.Calm.{calm-but, calm-entered, calm_but-again}
 use Rattle.gt_book.proofs.Entering.{IsCounted, counted-May, legal-May, running-none, way-lawful, way-running, with_entries-more, no-entries, all_legal-more, woken-more}
 
 -- ---- who stands at an operation of a channel
 
-pub at-recv : (o : Option CaseKind) (c : ℕ) → (elim o as (λ o. Bool) [ None ↦ false | Some kind ↦ receives_from c kind ]) ≡ true → o ≡ Some (CaseKind.Recv c)
+at-recv : (o : Option CaseKind) (c : ℕ) → (elim o as (λ o. Bool) [ None ↦ false | Some kind ↦ receives_from c kind ]) ≡ true → o ≡ Some (CaseKind.Recv c)
 at-recv None c h = cc
 at-recv (Some (CaseKind.Recv o)) c h = ap (λ o. Some (CaseKind.Recv o)) (eqb-true o c h)
 at-recv (Some (CaseKind.Send d v)) c h = cc
 
-pub record AtSend (o : Option CaseKind) (c : ℕ) : Type 0 where
-  pub value : ℕ
-  pub is : o ≡ Some (CaseKind.Send c value)
+record AtSend (o : Option CaseKind) (c : ℕ) : Type 0 where
+  value : ℕ
+  is : o ≡ Some (CaseKind.Send c value)
 
-pub at-send : (o : Option CaseKind) (c : ℕ) → (elim o as (λ o. Bool) [ None ↦ false | Some kind ↦ sends_to c kind ]) ≡ true → AtSend o c
+at-send : (o : Option CaseKind) (c : ℕ) → (elim o as (λ o. Bool) [ None ↦ false | Some kind ↦ sends_to c kind ]) ≡ true → AtSend o c
 at-send None c h = cc
 at-send (Some (CaseKind.Recv o)) c h = cc
 at-send (Some (CaseKind.Send d v)) c h = record { value = v; is = ap (λ d. Some (CaseKind.Send d v)) (eqb-true d c h) }
@@ -69,9 +71,9 @@ first-true : (a b : Bool) → a ≡ true → (a || b) ≡ true
 first-true true b h = refl
 first-true false b h = cc
 
--- a channel that was made: who receives from it makes no misuse
-made-receive : (s : State) (c : ℕ) → is_some (channel_at s c) ≡ true → when (not (is_made s c)) Reason.Unmade ≡ None
-made-receive s c made = ap (λ b. when (not b) Reason.Unmade) (either _ (is_some (channel_at s c)) made)
+if-true : (b : Bool) → (b ≡ false → ⊥) → b ≡ true
+if-true true h = refl
+if-true false h = absurd (h refl)
 
 open-is : (o : Option Channel) → is_some o ≡ true → (elim o as (λ o. Bool) [ None ↦ false | Some r ↦ r.closed ]) ≡ false → (elim o as (λ o. Bool) [ None ↦ false | Some r ↦ not r.closed ]) ≡ true
 open-is None made h = cc
@@ -81,6 +83,10 @@ closed-fault : (o : Option Channel) (closed : Bool) → is_some o ≡ true → c
 closed-fault None closed made h = cc
 closed-fault (Some r) true made h = refl
 closed-fault (Some r) false made h = cc
+
+both-none : (o next : Option Entry) → or_next o next ≡ None → (o ≡ None) × (next ≡ None)
+both-none None next h = (refl, h)
+both-none (Some e) next h = cc
 
 -- ---- the one that goes on
 
@@ -100,41 +106,164 @@ gives-of : (s : State) (c : ℕ) (v : Option ℕ) → GivesOf (items_of s c) (is
 gives-of s c None h = h
 gives-of s c (Some v) h = h
 
-record Receiving (c : ℕ) (items : List ℕ) (closed : Bool) (o : Option Party) (e : Entry) : Type 0 where
-  p : Party
-  first : o ≡ Some p
+record Receiving (p : Party) (c : ℕ) (items : List ℕ) (closed : Bool) (e : Entry) : Type 0 where
   v : Option ℕ
   gives : GivesOf items closed v
   is : Entry.Recv p c v ≡ e
 
-receiving : (c : ℕ) (items : List ℕ) (closed : Bool) (o : Option Party) (e : Entry) → receiver_goes c items closed o ≡ Some e → Receiving c items closed o e
-receiving c items closed None e h = cc
-receiving c (v ∷ items) closed (Some p) e h = record { p = p; first = refl; v = Some v; gives = refl; is = cc }
-receiving c [] true (Some p) e h = record { p = p; first = refl; v = None; gives = (refl, refl); is = cc }
-receiving c [] false (Some p) e h = cc
+receiving : (p : Party) (c : ℕ) (items : List ℕ) (closed : Bool) (e : Entry) → receives_alone p c items closed ≡ Some e → Receiving p c items closed e
+receiving p c (v ∷ items) closed e h = record { v = Some v; gives = refl; is = cc }
+receiving p c [] true e h = record { v = None; gives = (refl, refl); is = cc }
+receiving p c [] false e h = cc
 
-none-receiving : (c : ℕ) (items : List ℕ) (closed : Bool) (o : Option Party) (p : Party) → receiver_goes c items closed o ≡ None → o ≡ Some p → (items ≡ []) × (closed ≡ false)
-none-receiving c items closed None p h e = cc
-none-receiving c (v ∷ items) closed (Some q) p h e = cc
-none-receiving c [] true (Some q) p h e = cc
-none-receiving c [] false (Some q) p h e = (refl, refl)
+none-receiving : (p : Party) (c : ℕ) (items : List ℕ) (closed : Bool) → receives_alone p c items closed ≡ None → (items ≡ []) × (closed ≡ false)
+none-receiving p c (v ∷ items) closed h = cc
+none-receiving p c [] true h = cc
+none-receiving p c [] false h = (refl, refl)
 
-record Sending (script : Script) (s : State) (c : ℕ) (closed room : Bool) (o : Option Party) (e : Entry) : Type 0 where
-  p : Party
-  first : o ≡ Some p
-  is : ((closed ≡ true) × (Entry.Panic p Reason.Closed ≡ e)) ⊎ ((closed ≡ false) × (room ≡ true) × (Entry.Send p c (value_of (operation_at script s p)) ≡ e))
+abbrev Sending : Party → ℕ → ℕ → Bool → Bool → Entry → Type 0
+Sending p c v closed room e = ((closed ≡ true) × (Entry.Panic p Reason.Closed ≡ e)) ⊎ ((closed ≡ false) × (room ≡ true) × (Entry.Send p c v ≡ e))
 
-sending : (script : Script) (s : State) (c : ℕ) (closed room : Bool) (o : Option Party) (e : Entry) → sender_goes script s c closed room o ≡ Some e → Sending script s c closed room o e
-sending script s c closed room None e h = cc
-sending script s c true room (Some p) e h = record { p = p; first = refl; is = inl (refl, cc) }
-sending script s c false true (Some p) e h = record { p = p; first = refl; is = inr (refl, refl, cc) }
-sending script s c false false (Some p) e h = cc
+sending : (p : Party) (c v : ℕ) (closed room : Bool) (e : Entry) → sends_alone p c v closed room ≡ Some e → Sending p c v closed room e
+sending p c v true room e h = inl (refl, cc)
+sending p c v false true e h = inr (refl, refl, cc)
+sending p c v false false e h = cc
 
-none-sending : (script : Script) (s : State) (c : ℕ) (closed room : Bool) (o : Option Party) (p : Party) → sender_goes script s c closed room o ≡ None → o ≡ Some p → (closed ≡ false) × (room ≡ false)
-none-sending script s c closed room None p h e = cc
-none-sending script s c true room (Some q) p h e = cc
-none-sending script s c false true (Some q) p h e = cc
-none-sending script s c false false (Some q) p h e = (refl, refl)
+none-sending : (p : Party) (c v : ℕ) (closed room : Bool) → sends_alone p c v closed room ≡ None → (closed ≡ false) × (room ≡ false)
+none-sending p c v true room h = cc
+none-sending p c v false true h = cc
+none-sending p c v false false h = (refl, refl)
+
+-- a receive goes on by itself at a channel alone
+at-chan : (b : Bool) (next : Option Entry) (e : Entry) → cond b next None ≡ Some e → (b ≡ true) × (next ≡ Some e)
+at-chan true next e h = (refl, h)
+at-chan false next e h = cc
+
+no-chan : (b : Bool) (next : Option Entry) → b ≡ true → cond b next None ≡ None → next ≡ None
+no-chan true next e h = h
+no-chan false next e h = cc
+
+-- an operation of an instruction goes on by itself, by this entry
+record Alone (script : Script) (s : State) (g : ℕ) (i : Instr) (e : Entry) : Type 0 where
+  case_no : ℕ
+  kind : CaseKind
+  has : operation i case_no ≡ Some kind
+  goes : goes_alone script s (at_case g case_no) kind ≡ Some e
+
+record AloneCase (script : Script) (s : State) (g n : ℕ) (cases : List Case) (e : Entry) : Type 0 where
+  place : ℕ
+  item : Case
+  there : slice_get cases place ≡ Some item
+  goes : goes_alone script s (at_case g (n + place)) item.kind ≡ Some e
+
+alone-case : (script : Script) (s : State) (g n : ℕ) (cases : List Case) (e : Entry) → first_alone script s g n cases ≡ Some e → AloneCase script s g n cases e
+alone-case script s g n [] e h = cc
+alone-case script s g n (c ∷ cases) e h =
+    elim (goes_alone script s (at_case g n) c.kind) as (λ o. goes_alone script s (at_case g n) c.kind ≡ o → or_next o (first_alone script s g (n + 1) cases) ≡ Some e
+    → AloneCase script s g n (c ∷ cases) e) [
+      | None ↦ λ q k.
+          let rest : AloneCase script s g (n + 1) cases e = alone-case script s g (n + 1) cases e k in
+          let number : (n + 1) + rest.place ≡ n + suc rest.place = omega arith in
+          record {
+            place = suc rest.place;
+            item = rest.item;
+            there = rest.there;
+            goes = subst (λ j. goes_alone script s (at_case g j) rest.item.kind ≡ Some e) number rest.goes;
+          }
+      | Some x ↦ λ q k.
+          let number : n ≡ n + 0 = omega arith in
+          record { place = 0; item = c; there = refl; goes = subst (λ j. goes_alone script s (at_case g j) c.kind ≡ Some e) number (q ∙ k) }
+    ] refl h
+
+none-case : (script : Script) (s : State) (g n : ℕ) (cases : List Case) (j : ℕ) (c : Case) → first_alone script s g n cases ≡ None → slice_get cases j ≡ Some c
+    → goes_alone script s (at_case g (n + j)) c.kind ≡ None
+none-case script s g n [] j c h there = cc
+none-case script s g n (d ∷ cases) zero c h there =
+    let is : d ≡ c = cc in
+    let number : n ≡ n + 0 = omega arith in
+    subst (λ j. goes_alone script s (at_case g j) c.kind ≡ None) number
+    (subst (λ (c : Case). goes_alone script s (at_case g n) c.kind ≡ None) is (both-none (goes_alone script s (at_case g n) d.kind) (first_alone script s g (n + 1) cases) h).0)
+none-case script s g n (d ∷ cases) (suc j) c h there =
+    let number : (n + 1) + j ≡ n + suc j = omega arith in
+    subst (λ j. goes_alone script s (at_case g j) c.kind ≡ None) number
+    (none-case script s g (n + 1) cases j c (both-none (goes_alone script s (at_case g n) d.kind) (first_alone script s g (n + 1) cases) h).1 there)
+
+alone : (script : Script) (s : State) (g : ℕ) (i : Instr) (e : Entry) → alone_of script s g (Some i) ≡ Some e → Alone script s g i e
+alone script s g (Instr.Recv o) e h = record { case_no = 0; kind = CaseKind.Recv o; has = refl; goes = h }
+alone script s g (Instr.Send c v) e h = record { case_no = 0; kind = CaseKind.Send c v; has = refl; goes = h }
+alone script s g (Instr.Select cases default_to) e h =
+    let x : AloneCase script s g 1 cases e = alone-case script s g 1 cases e h in
+    let number : 1 + x.place ≡ suc x.place = omega arith in
+    record {
+      case_no = suc x.place;
+      kind = x.item.kind;
+      has = case-there cases x.place x.item x.there;
+      goes = subst (λ j. goes_alone script s (at_case g j) x.item.kind ≡ Some e) number x.goes;
+    }
+alone script s g i e h = cc
+
+none-alone : (script : Script) (s : State) (g : ℕ) (i : Instr) (n : ℕ) (kind : CaseKind) → alone_of script s g (Some i) ≡ None → operation i n ≡ Some kind
+    → goes_alone script s (at_case g n) kind ≡ None
+none-alone script s g (Instr.Recv o) zero kind h has = let is : CaseKind.Recv o ≡ kind = cc in subst (λ kind. goes_alone script s (at_case g 0) kind ≡ None) is h
+none-alone script s g (Instr.Recv o) (suc k) kind h has = cc
+none-alone script s g (Instr.Send c v) zero kind h has = let is : CaseKind.Send c v ≡ kind = cc in subst (λ kind. goes_alone script s (at_case g 0) kind ≡ None) is h
+none-alone script s g (Instr.Send c v) (suc k) kind h has = cc
+none-alone script s g (Instr.Select cases default_to) zero kind h has = cc
+none-alone script s g (Instr.Select cases default_to) (suc k) kind h has =
+    let one : IsCase cases k kind = is-case cases k kind has in
+    let number : 1 + k ≡ suc k = omega arith in
+    subst (λ kind. goes_alone script s (at_case g (suc k)) kind ≡ None) one.its
+    (subst (λ j. goes_alone script s (at_case g j) one.item.kind ≡ None) number (none-case script s g 1 cases k one.item h one.there))
+none-alone script s g i n kind h has = cc
+
+-- an operation that goes on by itself is ready so
+goes-ready : (script : Script) (s : State) (p : Party) (kind : CaseKind) (e : Entry) → goes_alone script s p kind ≡ Some e → is_ready_alone script s no_timer kind ≡ true
+goes-ready script s p (CaseKind.Recv o) e h =
+    let parts = at-chan (is_chan script o) (receives_alone p o (items_of s o) (is_closed s o)) e h in
+    let x : Receiving p o (items_of s o) (is_closed s o) e = receiving p o (items_of s o) (is_closed s o) e parts.1 in
+    gives-ready script s o x.v parts.0 (gives-of s o x.v x.gives) no_timer
+goes-ready script s p (CaseKind.Send c v) e h =
+    elim (sending p c v (is_closed s c) (nat_lt (item_count s c) (capacity_of script c)) e h) [
+      | inl k ↦ first-true (is_closed s c) (nat_lt (item_count s c) (capacity_of script c)) k.0
+      | inr k ↦ either (is_closed s c) (nat_lt (item_count s c) (capacity_of script c)) k.1
+    ]
+
+-- ---- whose operations are on objects that were made makes no misuse but at a closed channel
+
+abbrev AreSound : State → Instr → Type 0
+AreSound s i = (n : ℕ) (kind : CaseKind) → operation i n ≡ Some kind → case_fault s kind ≡ None
+
+unfaulty : (script : Script) (s : State) (i : Instr) (n : ℕ) (kind : CaseKind) → operation i n ≡ Some kind → AreSound s i
+    → ((c v : ℕ) → kind ≡ CaseKind.Send c v → is_closed s c ≡ false) → fault script s i ≡ None
+unfaulty script s (Instr.Recv o) n kind has sound unshut = sound 0 (CaseKind.Recv o) refl
+unfaulty script s (Instr.Send c v) zero kind has sound unshut =
+    let is : kind ≡ CaseKind.Send c v = cc in
+    open-no_fault s c (record { made = made-sound (channel_at s c) (sound 0 (CaseKind.Send c v) refl); unshut = unshut c v is })
+unfaulty script s (Instr.Send c v) (suc k) kind has sound unshut = cc
+unfaulty script s (Instr.Select cases default_to) n kind has sound unshut = sound-choice s cases (λ k c e. sound (suc k) c.kind (case-there cases k c e))
+unfaulty script s i n kind has sound unshut = cc
+
+-- who sends to a closed channel panics: at a choice where it chooses that case
+panicking : (script : Script) (s : State) (g : ℕ) (i : Instr) (n c v : ℕ) → stands_at script s g ≡ Some i → operation i n ≡ Some (CaseKind.Send c v) → AreSound s i → is_closed s c ≡ true
+    → MayPanic script s (at_case g n) Reason.Closed
+panicking script s g (Instr.Send d w) zero c v stands has sound shut =
+    let is : d ≡ c = cc in
+    let misuse : open_fault s d ≡ Some Reason.Closed =
+    closed-fault (channel_at s d) (is_closed s d) (made-sound (channel_at s d) (sound 0 (CaseKind.Send d w) refl)) (ap (is_closed s) is ∙ shut) in
+    let panic : panic_at script s g ≡ Some (0, Reason.Closed) =
+    panic-standing script s g (Instr.Send d w) stands
+    ∙ ap (λ (o : Option Reason). elim o as (λ o. Option (ℕ × Reason)) [ None ↦ None | Some reason ↦ Some (0, reason) ]) misuse in
+    subst (λ o. MatchOption o (ChoosesClosed s (operation_at script s (at_case g 0)) Reason.Closed) (λ x. x ≡ (0, Reason.Closed))) (sym panic) refl
+panicking script s g (Instr.Send d w) (suc k) c v stands has sound shut = cc
+panicking script s g (Instr.Recv o) zero c v stands has sound shut = cc
+panicking script s g (Instr.Recv o) (suc k) c v stands has sound shut = cc
+panicking script s g (Instr.Select cases default_to) n c v stands has sound shut =
+    let faultless : choice_fault s cases ≡ None = sound-choice s cases (λ k c e. sound (suc k) c.kind (case-there cases k c e)) in
+    let calm : panic_at script s g ≡ None = calm-standing script s g (Instr.Select cases default_to) stands faultless in
+    let at : operation_at script s (at_case g n) ≡ Some (CaseKind.Send c v) = ap (λ o. operation_of o n) stands ∙ has in
+    subst (λ o. MatchOption o (ChoosesClosed s (operation_at script s (at_case g n)) Reason.Closed) (λ x. x ≡ (n, Reason.Closed))) (sym calm)
+    (subst (λ o. ChoosesClosed s o Reason.Closed) (sym at) (shut, refl))
+panicking script s g i n c v stands has sound shut = cc
 
 takes-here : (c : ℕ) (v : Option ℕ) (o : ℕ) → eqb o c ≡ false → trades_at (takes c v) o ≡ false
 takes-here c None o h = refl
@@ -158,97 +287,97 @@ module _ (script : Script) (s : State) (m : Schedule) (c : ℕ) (good : IsGood s
   parked-served : (g : ℕ) → is_waiting m g ≡ true → IsTrue (is_in_hand (status_of m g) || is_parked (status_of m g))
   parked-served g waits = either (is_in_hand (status_of m g)) (is_parked (status_of m g)) waits
 
-  firm-there : (g : ℕ) (i : Instr) → stands_at script s g ≡ Some i → firm_on script s (is_waiting m) g (Some i) ≡ true → is_firm_at script s m g ≡ true
-  firm-there g i stands firm = firm-stood script s (is_waiting m) g (goroutine_at s g) ∙ (ap (firm_on script s (is_waiting m) g) stands ∙ firm)
+  -- who is parked at an operation that goes on by itself is firmly ready, and its operation is on c
+  module _ (g : ℕ) (i : Instr) (e : Entry) (waits : is_waiting m g ≡ true) (stands : stands_at script s g ≡ Some i) where
+    there : (n : ℕ) (kind : CaseKind) → operation i n ≡ Some kind → operation_at script s (at_case g n) ≡ Some kind
+    there n kind has = ap (λ o. operation_of o n) stands ∙ has
 
-  receives : (p : Party) (v : Option ℕ) → slice_get (parties_at m.receivers c) 0 ≡ Some p → Gives s c v → IsWoken script s m c (Entry.Recv p c v)
-  receives p v first gives =
-      let both = and_parts (is_waiting m p.g) (is_at script s p (receives_from c)) (first-waiting script s m p c fits declared first) in
-      let stands : operation_at script s p ≡ Some (CaseKind.Recv c) = at-recv (operation_at script s p) c both.1 in
-      let on : AtOperation script s p (CaseKind.Recv c) = at_operation script s p (CaseKind.Recv c) stands in
-      let is : on.instr ≡ Instr.Recv c = is_recv on.instr p.case_no c on.has in
-      let here : stands_at script s p.g ≡ Some (Instr.Recv c) = on.stands ∙ ap Some is in
-      let calm : panic_at script s p.g ≡ None = calm-standing script s p.g (Instr.Recv c) here (made-receive s c made) in
-      let alone : is_ready_alone script s no_timer (CaseKind.Recv c) ≡ true = gives-ready script s c v chan gives no_timer in
-      let firm : firm_on script s (is_waiting m) p.g (Some (Instr.Recv c)) ≡ true =
-      either (is_some (fault script s (Instr.Recv c))) _ (first-true (is_ready_alone script s no_timer (CaseKind.Recv c)) (has_partner script s (is_waiting m) p.g (CaseKind.Recv c)) alone) in
-      record {
-        may = (record { stands = stands; calm = calm }, chan, gives);
-        served = (parked-served p.g both.0, tt);
-        woken = ((both.0, firm-there p.g (Instr.Recv c) here firm), tt);
-        here = takes-here c v;
-      }
+    sound : AreSound s i
+    sound n kind has = but.objects g n kind waits (there n kind has)
 
-  -- a party that is parked at a send to c
-  record Sender (p : Party) : Type 0 where
-    waits : is_waiting m p.g ≡ true
-    v : ℕ
-    stands : operation_at script s p ≡ Some (CaseKind.Send c v)
-    here : stands_at script s p.g ≡ Some (Instr.Send c v)
-    plain : p.case_no ≡ 0
+    firm : (x : Alone script s g i e) → is_firm_at script s m g ≡ true
+    firm x =
+        if-true (is_firm_at script s m g) (λ quiet.
+        never-both (is_ready_alone script s no_timer x.kind) (goes-ready script s (at_case g x.case_no) x.kind e x.goes)
+        (firm-quiet script s (is_waiting m) g i x.case_no x.kind (ap (firm_on script s (is_waiting m) g) (sym stands) ∙ (sym (firm-stood script s (is_waiting m) g (goroutine_at s g)) ∙ quiet)) x.has).alone)
 
-  sender : (p : Party) → slice_get (parties_at m.senders c) 0 ≡ Some p → Sender p
-  sender p first =
-      let both = and_parts (is_waiting m p.g) (is_at script s p (sends_to c)) (first-sending script s m p c fits declared first) in
-      let at : AtSend (operation_at script s p) c = at-send (operation_at script s p) c both.1 in
-      let on : AtOperation script s p (CaseKind.Send c at.value) = at_operation script s p (CaseKind.Send c at.value) at.is in
-      let is : on.instr ≡ Instr.Send c at.value = is_send on.instr p.case_no c at.value on.has in
-      record { waits = both.0; v = at.value; stands = at.is; here = on.stands ∙ ap Some is; plain = is_plain on.instr p.case_no (CaseKind.Send c at.value) on.has }
+    on-c : (x : Alone script s g i e) → object_of x.kind ≡ c
+    on-c x =
+        eqb-true (object_of x.kind) c (if-true (eqb (object_of x.kind) c) (λ apart.
+        never-both (is_ready_alone script s no_timer x.kind) (goes-ready script s (at_case g x.case_no) x.kind e x.goes)
+        (but.others g x.case_no x.kind waits (there x.case_no x.kind x.has) apart)))
 
-  panics : (p : Party) → slice_get (parties_at m.senders c) 0 ≡ Some p → is_closed s c ≡ true → IsWoken script s m c (Entry.Panic p Reason.Closed)
-  panics p first shut =
-      let x : Sender p = sender p first in
-      let misuse : open_fault s c ≡ Some Reason.Closed = closed-fault (channel_at s c) (is_closed s c) made shut in
-      let panic : panic_at script s p.g ≡ Some (0, Reason.Closed) =
-      panic-standing script s p.g (Instr.Send c x.v) x.here
-      ∙ ap (λ (o : Option Reason). elim o as (λ o. Option (ℕ × Reason)) [ None ↦ None | Some reason ↦ Some (0, reason) ]) misuse in
-      let firm : firm_on script s (is_waiting m) p.g (Some (Instr.Send c x.v)) ≡ true =
-      first-true (is_some (fault script s (Instr.Send c x.v))) _ (ap is_some misuse) in
-      record {
-        may = panic ∙ ap (λ n. Some (n, Reason.Closed)) (sym x.plain);
-        served = (parked-served p.g x.waits, tt);
-        woken = ((x.waits, firm-there p.g (Instr.Send c x.v) x.here firm), tt);
-        here = λ o h. refl;
-      }
+    receives : (x : Alone script s g i e) (n : ℕ) (v : Option ℕ) → operation i n ≡ Some (CaseKind.Recv c) → Gives s c v → IsWoken script s m c (Entry.Recv (at_case g n) c v)
+    receives x n v has gives =
+        let calm : panic_at script s g ≡ None = calm-standing script s g i stands (unfaulty script s i n (CaseKind.Recv c) has sound (λ d w is. cc)) in
+        record {
+          may = (record { stands = there n (CaseKind.Recv c) has; calm = calm }, chan, gives);
+          served = (parked-served g waits, tt);
+          woken = ((waits, firm x), tt);
+          here = takes-here c v;
+        }
 
-  sends : (p : Party) → slice_get (parties_at m.senders c) 0 ≡ Some p → is_closed s c ≡ false → nat_lt (item_count s c) (capacity_of script c) ≡ true
-      → IsWoken script s m c (Entry.Send p c (value_of (operation_at script s p)))
-  sends p first unshut room =
-      let x : Sender p = sender p first in
-      let faultless : fault script s (Instr.Send c x.v) ≡ None = open-no_fault s c (record { made = made; unshut = unshut }) in
-      let calm : panic_at script s p.g ≡ None = calm-standing script s p.g (Instr.Send c x.v) x.here faultless in
-      let alone : is_ready_alone script s no_timer (CaseKind.Send c x.v) ≡ true = either (is_closed s c) (nat_lt (item_count s c) (capacity_of script c)) room in
-      let firm : firm_on script s (is_waiting m) p.g (Some (Instr.Send c x.v)) ≡ true =
-      either (is_some (fault script s (Instr.Send c x.v))) _ (first-true (is_ready_alone script s no_timer (CaseKind.Send c x.v)) (has_partner script s (is_waiting m) p.g (CaseKind.Send c x.v)) alone) in
-      let may : May script s (Entry.Send p c x.v) =
-      (record { stands = x.stands; calm = calm }, open-is (channel_at s c) made unshut, ltb-true (item_count s c) (capacity_of script c) room) in
-      subst (λ v. IsWoken script s m c (Entry.Send p c v)) (sym (ap value_of x.stands)) (record {
-        may = may;
-        served = (parked-served p.g x.waits, tt);
-        woken = ((x.waits, firm-there p.g (Instr.Send c x.v) x.here firm), tt);
-        here = λ o h. h;
-      })
+    panics : (x : Alone script s g i e) (n v : ℕ) → operation i n ≡ Some (CaseKind.Send c v) → is_closed s c ≡ true → IsWoken script s m c (Entry.Panic (at_case g n) Reason.Closed)
+    panics x n v has shut = record {
+      may = panicking script s g i n c v stands has sound shut;
+      served = (parked-served g waits, tt);
+      woken = ((waits, firm x), tt);
+      here = λ o h. refl;
+    }
 
-  receiver-woken : (e : Entry) → woken_receiver s m c ≡ Some e → IsWoken script s m c e
-  receiver-woken e h =
-      let x : Receiving c (items_of s c) (is_closed s c) (slice_get (parties_at m.receivers c) 0) e =
-      receiving c (items_of s c) (is_closed s c) (slice_get (parties_at m.receivers c) 0) e h in
-      subst (IsWoken script s m c) x.is (receives x.p x.v x.first (gives-of s c x.v x.gives))
+    sends : (x : Alone script s g i e) (n v : ℕ) → operation i n ≡ Some (CaseKind.Send c v) → is_closed s c ≡ false → nat_lt (item_count s c) (capacity_of script c) ≡ true
+        → IsWoken script s m c (Entry.Send (at_case g n) c v)
+    sends x n v has unshut room =
+        let shut_not : (d w : ℕ) → CaseKind.Send c v ≡ CaseKind.Send d w → is_closed s d ≡ false =
+        λ d w is. (let same : c ≡ d = cc in subst (λ d. is_closed s d ≡ false) same unshut) in
+        let calm : panic_at script s g ≡ None = calm-standing script s g i stands (unfaulty script s i n (CaseKind.Send c v) has sound shut_not) in
+        record {
+          may = (record { stands = there n (CaseKind.Send c v) has; calm = calm }, open-is (channel_at s c) made unshut, ltb-true (item_count s c) (capacity_of script c) room);
+          served = (parked-served g waits, tt);
+          woken = ((waits, firm x), tt);
+          here = λ o h. h;
+        }
 
-  sender-woken : (e : Entry) → woken_sender script s m c ≡ Some e → IsWoken script s m c e
-  sender-woken e h =
-      let x : Sending script s c (is_closed s c) (nat_lt (item_count s c) (capacity_of script c)) (slice_get (parties_at m.senders c) 0) e =
-      sending script s c (is_closed s c) (nat_lt (item_count s c) (capacity_of script c)) (slice_get (parties_at m.senders c) 0) e h in
-      elim x.is [
-        | inl k ↦ subst (IsWoken script s m c) k.1 (panics x.p x.first k.0)
-        | inr k ↦ subst (IsWoken script s m c) k.2 (sends x.p x.first k.0 k.1)
-      ]
+    woken-at : (x : Alone script s g i e) (kind : CaseKind) → x.kind ≡ kind → object_of kind ≡ c → IsWoken script s m c e
+    woken-at x (CaseKind.Recv o) is on =
+        let has : operation i x.case_no ≡ Some (CaseKind.Recv c) = x.has ∙ (ap Some is ∙ ap (λ o. Some (CaseKind.Recv o)) on) in
+        let goes : goes_alone script s (at_case g x.case_no) (CaseKind.Recv c) ≡ Some e =
+        ap (λ o. goes_alone script s (at_case g x.case_no) (CaseKind.Recv o)) (sym on) ∙ (ap (goes_alone script s (at_case g x.case_no)) (sym is) ∙ x.goes) in
+        let parts = at-chan (is_chan script c) (receives_alone (at_case g x.case_no) c (items_of s c) (is_closed s c)) e goes in
+        let y : Receiving (at_case g x.case_no) c (items_of s c) (is_closed s c) e = receiving (at_case g x.case_no) c (items_of s c) (is_closed s c) e parts.1 in
+        subst (IsWoken script s m c) y.is (receives x x.case_no y.v has (gives-of s c y.v y.gives))
+    woken-at x (CaseKind.Send d v) is on =
+        let has : operation i x.case_no ≡ Some (CaseKind.Send c v) = x.has ∙ (ap Some is ∙ ap (λ d. Some (CaseKind.Send d v)) on) in
+        let goes : goes_alone script s (at_case g x.case_no) (CaseKind.Send c v) ≡ Some e =
+        ap (λ d. goes_alone script s (at_case g x.case_no) (CaseKind.Send d v)) (sym on) ∙ (ap (goes_alone script s (at_case g x.case_no)) (sym is) ∙ x.goes) in
+        elim (sending (at_case g x.case_no) c v (is_closed s c) (nat_lt (item_count s c) (capacity_of script c)) e goes) [
+          | inl k ↦ subst (IsWoken script s m c) k.1 (panics x x.case_no v has k.0)
+          | inr k ↦ subst (IsWoken script s m c) k.2 (sends x x.case_no v has k.0 k.1)
+        ]
+
+    alone-woken : alone_of script s g (Some i) ≡ Some e → IsWoken script s m c e
+    alone-woken h = let x : Alone script s g i e = alone script s g i e h in woken-at x x.kind refl (on-c x)
+
+  by-woken : (o : Option Party) (e : Entry) → ((p : Party) → o ≡ Some p → is_waiting m p.g ≡ true) → woken_by script s o ≡ Some e → IsWoken script s m c e
+  by-woken None e parked h = cc
+  by-woken (Some p) e parked h =
+      elim (stands_at script s p.g) as (λ o. stands_at script s p.g ≡ o → alone_of script s p.g o ≡ Some e → IsWoken script s m c e) [
+        | None ↦ λ q k. cc
+        | Some i ↦ λ q k. alone-woken p.g i e (parked p refl) q k
+      ] refl h
+
+  first-receiver : (p : Party) → slice_get (parties_at m.receivers c) 0 ≡ Some p → (is_waiting m p.g ≡ true) × (is_at script s p (receives_from c) ≡ true)
+  first-receiver p first = and_parts (is_waiting m p.g) (is_at script s p (receives_from c)) (first-waiting script s m p c fits declared first)
+
+  first-sender : (p : Party) → slice_get (parties_at m.senders c) 0 ≡ Some p → (is_waiting m p.g ≡ true) × (is_at script s p (sends_to c) ≡ true)
+  first-sender p first = and_parts (is_waiting m p.g) (is_at script s p (sends_to c)) (first-sending script s m p c fits declared first)
 
   pub is-woken : (e : Entry) → next_woken script s m c ≡ Some e → IsWoken script s m c e
   is-woken e h =
-      elim (woken_receiver s m c) as (λ o. woken_receiver s m c ≡ o → or_next o (woken_sender script s m c) ≡ Some e → IsWoken script s m c e) [
-        | None ↦ λ q k. sender-woken e k
-        | Some x ↦ λ q k. let is : x ≡ e = cc in receiver-woken e (q ∙ ap Some is)
+      elim (woken_by script s (slice_get (parties_at m.receivers c) 0))
+      as (λ o. woken_by script s (slice_get (parties_at m.receivers c) 0) ≡ o → or_next o (woken_by script s (slice_get (parties_at m.senders c) 0)) ≡ Some e → IsWoken script s m c e) [
+        | None ↦ λ q k. by-woken (slice_get (parties_at m.senders c) 0) e (λ p first. (first-sender p first).0) k
+        | Some x ↦ λ q k. by-woken (slice_get (parties_at m.receivers c) 0) e (λ p first. (first-receiver p first).0) (q ∙ k)
       ] refl h
 
   -- ---- where nobody goes on there
@@ -264,55 +393,55 @@ module _ (script : Script) (s : State) (m : Schedule) (c : ℕ) (good : IsGood s
   recv-alone (Some (What.Chan cap)) empty unshut = both-false (nat_lt 0 (item_count s c)) (is_closed s c) (ap (λ (xs : List ℕ). nat_lt 0 (length xs)) empty) unshut
   recv-alone (Some What.Function) empty unshut = refl
 
-  firm-not : (g : ℕ) (i : Instr) (kind : CaseKind) → is_waiting m g ≡ true → stands_at script s g ≡ Some i → operation i 0 ≡ Some kind → operation_at script s (plainly g) ≡ Some kind
-      → fault script s i ≡ None → is_ready_alone script s no_timer kind ≡ false → is_firm_at script s m g ≡ false
-  firm-not g i kind waits stands has at faultless alone =
-      firm-stood script s (is_waiting m) g (goroutine_at s g)
-      ∙ (ap (firm_on script s (is_waiting m) g) stands ∙ plain-firm script s (is_waiting m) g i kind has faultless alone (but.partners g kind waits at))
+  -- the first one there does not go on under its case number
+  first-rests : (p : Party) (kind : CaseKind) → woken_by script s (Some p) ≡ None → operation_at script s p ≡ Some kind → goes_alone script s (at_case p.g p.case_no) kind ≡ None
+  first-rests p kind none at =
+      let on : AtOperation script s p kind = at_operation script s p kind at in
+      none-alone script s p.g on.instr p.case_no kind (ap (alone_of script s p.g) (sym on.stands) ∙ none) on.has
 
-  rests-recv : (g : ℕ) → woken_receiver s m c ≡ None → is_waiting m g ≡ true → operation_at script s (plainly g) ≡ Some (CaseKind.Recv c) → is_firm_at script s m g ≡ false
-  rests-recv g none waits at =
-      let on : AtOperation script s (plainly g) (CaseKind.Recv c) = at_operation script s (plainly g) (CaseKind.Recv c) at in
-      let is : on.instr ≡ Instr.Recv c = is_recv on.instr 0 c on.has in
-      let here : is_at script s (plainly g) (receives_from c) ≡ true =
+  rests-recv : (p : Party) → woken_by script s (slice_get (parties_at m.receivers c) 0) ≡ None → is_waiting m p.g ≡ true → operation_at script s p ≡ Some (CaseKind.Recv c)
+      → is_ready_alone script s no_timer (CaseKind.Recv c) ≡ false
+  rests-recv p none waits at =
+      let here : is_at script s p (receives_from c) ≡ true =
       ap (λ (o : Option CaseKind). elim o as (λ o. Bool) [ None ↦ false | Some kind ↦ receives_from c kind ]) at ∙ eq-eqb c c refl in
-      let parked : is_parked_at script s m (plainly g) (receives_from c) ≡ true = rw (waits, here) refl in
-      let first = one-first (plainly g) (parties_at m.receivers c) (fits.waiting c (plainly g) declared ∙ ap as_number parked) in
-      let quiet = none-receiving c (items_of s c) (is_closed s c) (slice_get (parties_at m.receivers c) 0) first.0 none first.1 in
-      firm-not g on.instr (CaseKind.Recv c) waits on.stands on.has at (ap (fault script s) is ∙ made-receive s c made) (recv-alone (what_at script c) quiet.0 quiet.1)
+      let parked : is_parked_at script s m p (receives_from c) ≡ true = rw (waits, here) refl in
+      let first = one-first p (parties_at m.receivers c) (fits.waiting c p declared ∙ ap as_number parked) in
+      let its : operation_at script s first.0 ≡ Some (CaseKind.Recv c) = at-recv (operation_at script s first.0) c (first-receiver first.0 first.1).1 in
+      let rests : goes_alone script s (at_case first.0.g first.0.case_no) (CaseKind.Recv c) ≡ None =
+      first-rests first.0 (CaseKind.Recv c) (ap (woken_by script s) (sym first.1) ∙ none) its in
+      let quiet = none-receiving (at_case first.0.g first.0.case_no) c (items_of s c) (is_closed s c)
+      (no-chan (is_chan script c) (receives_alone (at_case first.0.g first.0.case_no) c (items_of s c) (is_closed s c)) chan rests) in
+      recv-alone (what_at script c) quiet.0 quiet.1
 
-  rests-send : (g v : ℕ) → woken_sender script s m c ≡ None → is_waiting m g ≡ true → operation_at script s (plainly g) ≡ Some (CaseKind.Send c v) → is_firm_at script s m g ≡ false
-  rests-send g v none waits at =
-      let on : AtOperation script s (plainly g) (CaseKind.Send c v) = at_operation script s (plainly g) (CaseKind.Send c v) at in
-      let is : on.instr ≡ Instr.Send c v = is_send on.instr 0 c v on.has in
-      let here : is_at script s (plainly g) (sends_to c) ≡ true =
+  rests-send : (p : Party) (v : ℕ) → woken_by script s (slice_get (parties_at m.senders c) 0) ≡ None → is_waiting m p.g ≡ true → operation_at script s p ≡ Some (CaseKind.Send c v)
+      → is_ready_alone script s no_timer (CaseKind.Send c v) ≡ false
+  rests-send p v none waits at =
+      let here : is_at script s p (sends_to c) ≡ true =
       ap (λ (o : Option CaseKind). elim o as (λ o. Bool) [ None ↦ false | Some kind ↦ sends_to c kind ]) at ∙ eq-eqb c c refl in
-      let parked : is_parked_at script s m (plainly g) (sends_to c) ≡ true = rw (waits, here) refl in
-      let first = one-first (plainly g) (parties_at m.senders c) (fits.sending c (plainly g) declared ∙ ap as_number parked) in
-      let quiet = none-sending script s c (is_closed s c) (nat_lt (item_count s c) (capacity_of script c)) (slice_get (parties_at m.senders c) 0) first.0 none first.1 in
-      firm-not g on.instr (CaseKind.Send c v) waits on.stands on.has at (ap (fault script s) is ∙ open-no_fault s c (record { made = made; unshut = quiet.0 }))
-      (both-false (is_closed s c) (nat_lt (item_count s c) (capacity_of script c)) quiet.0 quiet.1)
+      let parked : is_parked_at script s m p (sends_to c) ≡ true = rw (waits, here) refl in
+      let first = one-first p (parties_at m.senders c) (fits.sending c p declared ∙ ap as_number parked) in
+      let its : AtSend (operation_at script s first.0) c = at-send (operation_at script s first.0) c (first-sender first.0 first.1).1 in
+      let rests : goes_alone script s (at_case first.0.g first.0.case_no) (CaseKind.Send c its.value) ≡ None =
+      first-rests first.0 (CaseKind.Send c its.value) (ap (woken_by script s) (sym first.1) ∙ none) its.is in
+      let quiet = none-sending (at_case first.0.g first.0.case_no) c its.value (is_closed s c) (nat_lt (item_count s c) (capacity_of script c)) rests in
+      both-false (is_closed s c) (nat_lt (item_count s c) (capacity_of script c)) quiet.0 quiet.1
 
-  -- who waits at an operation of c does not go on
-  rests : (g : ℕ) (o : Option CaseKind) → operation_at script s (plainly g) ≡ o → woken_receiver s m c ≡ None → woken_sender script s m c ≡ None → is_waiting m g ≡ true → is_firm_at script s m g ≡ false
-  rests g None at none_receives none_sends waits = but.others g waits (ap (λ (o : Option CaseKind). elim o as (λ o. Bool) [ None ↦ false | Some kind ↦ eqb (object_of kind) c ]) at)
-  rests g (Some (CaseKind.Recv o)) at none_receives none_sends waits =
-      elim (eqb o c) as (λ b. eqb o c ≡ b → is_firm_at script s m g ≡ false) [
-        | true ↦ λ q. rests-recv g none_receives waits (at ∙ ap (λ o. Some (CaseKind.Recv o)) (eqb-true o c q))
-        | false ↦ λ q. but.others g waits (ap (λ (o : Option CaseKind). elim o as (λ o. Bool) [ None ↦ false | Some kind ↦ eqb (object_of kind) c ]) at ∙ q)
-      ] refl
-  rests g (Some (CaseKind.Send d v)) at none_receives none_sends waits =
-      elim (eqb d c) as (λ b. eqb d c ≡ b → is_firm_at script s m g ≡ false) [
-        | true ↦ λ q. rests-send g v none_sends waits (at ∙ ap (λ d. Some (CaseKind.Send d v)) (eqb-true d c q))
-        | false ↦ λ q. but.others g waits (ap (λ (o : Option CaseKind). elim o as (λ o. Bool) [ None ↦ false | Some kind ↦ eqb (object_of kind) c ]) at ∙ q)
-      ] refl
+  -- no operation of one that waits is ready by itself
+  rests : (p : Party) (kind : CaseKind) → woken_by script s (slice_get (parties_at m.receivers c) 0) ≡ None → woken_by script s (slice_get (parties_at m.senders c) 0) ≡ None
+      → is_waiting m p.g ≡ true → operation_at script s p ≡ Some kind → object_of kind ≡ c → is_ready_alone script s no_timer kind ≡ false
+  rests p (CaseKind.Recv o) none_receives none_sends waits at is =
+      subst (λ o. is_ready_alone script s no_timer (CaseKind.Recv o) ≡ false) (sym is) (rests-recv p none_receives waits (at ∙ ap (λ o. Some (CaseKind.Recv o)) is))
+  rests p (CaseKind.Send d v) none_receives none_sends waits at is =
+      subst (λ d. is_ready_alone script s no_timer (CaseKind.Send d v) ≡ false) (sym is) (rests-send p v none_sends waits (at ∙ ap (λ d. Some (CaseKind.Send d v)) is))
 
   pub none-woken : next_woken script s m c ≡ None → IsCalm script s m
-  none-woken h g waits =
-      elim (woken_receiver s m c) as (λ o. woken_receiver s m c ≡ o → or_next o (woken_sender script s m c) ≡ None → is_firm_at script s m g ≡ false) [
-        | None ↦ λ q k. rests g (operation_at script s (plainly g)) refl q k waits
-        | Some x ↦ λ q k. cc
-      ] refl h
+  none-woken h =
+      let none = both-none (woken_by script s (slice_get (parties_at m.receivers c) 0)) (woken_by script s (slice_get (parties_at m.senders c) 0)) h in
+      calm_but-calm script s m (λ o. eqb o c) but (λ g n kind waits at.
+      elim (eqb (object_of kind) c) as (λ b. eqb (object_of kind) c ≡ b → is_ready_alone script s no_timer kind ≡ false) [
+        | true ↦ λ q. rests (at_case g n) kind none.0 none.1 waits at (eqb-true (object_of kind) c q)
+        | false ↦ λ q. but.others g n kind waits at q
+      ] refl)
 
 -- ---- the run that lets them go on
 

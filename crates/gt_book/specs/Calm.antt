@@ -1,20 +1,40 @@
 -- Where nobody who is parked is firmly ready, but at some objects.
-use Rattle.std.specs.Prelude.{ℕ, ◌≡◌, Bool, true, false, is_some}
-use Rattle.std.specs.declared.option.Option.TheVariants.{Some}
+use Rattle.std.specs.Prelude.{ℕ, ◌≡◌, Bool, true, false, is_some, is_none}
+use Rattle.std.specs.declared.option.Option.{Option}
+use Rattle.std.specs.declared.option.Option.TheVariants.{None, Some}
 use Rattle.gt_model.specs.declared.script.Script.{Script}
+use Rattle.gt_model.specs.declared.script.Instr.{Instr}
 use Rattle.gt_model.specs.declared.script.CaseKind.{CaseKind}
-use Rattle.gt_rules.specs.State.{State, channel_at}
+use Rattle.gt_rules.specs.State.{State, channel_at, stands_at}
+use Rattle.gt_rules.specs.Panics.{case_fault}
 use Rattle.gt_rules.specs.Legal.{operation_at}
-use Rattle.gt_rules.specs.Ready.{has_partner}
-use Rattle.gt_schedule.specs.Schedule.{Schedule, plainly, object_of}
-use Rattle.gt_book.specs.View.{is_waiting, is_at, is_firm_at}
+use Rattle.gt_rules.specs.Ready.{has_partner, is_ready_alone, no_timer}
+use Rattle.gt_schedule.specs.Schedule.{Schedule, at_case, object_of}
+use Rattle.gt_book.specs.View.{is_waiting, is_firm_at}
 
 -- nobody parked is firmly ready
 abbrev pub IsCalm : Script → State → Schedule → Type 0
 IsCalm script s m = (g : ℕ) → is_waiting m g ≡ true → is_firm_at script s m g ≡ false
 
--- Nobody who is parked meets a partner who is parked, and none is firmly ready but at some objects, which are channels that were made
+-- Whether one that is parked may stand there: at operations, and at no choice with a default. Nobody stands at the bounds of a loop or at a jump
+abbrev pub may_wait : Option Instr → Bool
+may_wait None = true
+may_wait (Some i) = elim i [
+  | Instr.Recv o ↦ true
+  | Instr.Send c v ↦ true
+  | Instr.Select cases default_to ↦ is_none default_to
+  | Instr.LoopTop depth count past ↦ true
+  | Instr.LoopEnd depth top ↦ true
+  | Instr.Jump to ↦ true
+  | _ ↦ false
+]
+
+-- Who is parked waits at operations on objects that were made, and meets no partner who is parked; none of these is ready by itself but at some objects, which are
+-- channels that were made
 pub record IsCalmBut (script : Script) (s : State) (m : Schedule) (but : ℕ → Bool) : Type 0 where
-  pub partners : (g : ℕ) (kind : CaseKind) → is_waiting m g ≡ true → operation_at script s (plainly g) ≡ Some kind → has_partner script s (is_waiting m) g kind ≡ false
-  pub others : (g : ℕ) → is_waiting m g ≡ true → is_at script s (plainly g) (λ kind. but (object_of kind)) ≡ false → is_firm_at script s m g ≡ false
+  pub waits : (g : ℕ) → is_waiting m g ≡ true → may_wait (stands_at script s g) ≡ true
+  pub objects : (g n : ℕ) (kind : CaseKind) → is_waiting m g ≡ true → operation_at script s (at_case g n) ≡ Some kind → case_fault s kind ≡ None
+  pub partners : (g n : ℕ) (kind : CaseKind) → is_waiting m g ≡ true → operation_at script s (at_case g n) ≡ Some kind → has_partner script s (is_waiting m) g kind ≡ false
+  pub others : (g n : ℕ) (kind : CaseKind) → is_waiting m g ≡ true → operation_at script s (at_case g n) ≡ Some kind → but (object_of kind) ≡ false
+      → is_ready_alone script s no_timer kind ≡ false
   pub made : (c : ℕ) → but c ≡ true → is_some (channel_at s c) ≡ true

@@ -1,5 +1,6 @@
 -- What a step of a goroutine is, and the entry of an operation.
-use Rattle.std.specs.Prelude.{ℕ, zero, suc, [], slice_get, ◌≡◌, Bool, true, false, not, ◌||◌, MatchOption, is_some, is_none, nat_lt, ◌&&◌, ◌==◌, cond, List, ◌∷◌, length}
+use Rattle.std.specs.Prelude.{ℕ, ◌+◌, zero, suc, [], slice_get, ◌≡◌, Bool, true, false, not, ◌||◌, MatchOption, is_some, is_none, nat_lt, ◌&&◌, ◌==◌, cond, List, ◌∷◌, length}
+use Rattle.std.specs.List.{list_any}
 use Rattle.std.specs.declared.option.Option.{Option}
 use Rattle.std.specs.declared.option.Option.TheVariants.{None, Some}
 use Rattle.gt_model.specs.declared.script.Script.{Script}
@@ -7,11 +8,14 @@ use Rattle.gt_model.specs.declared.script.Instr.{Instr}
 use Rattle.gt_model.specs.declared.entry.Entry.{Entry}
 use Rattle.gt_model.specs.declared.entry.Party.{Party}
 use Rattle.gt_model.specs.declared.entry.Reason.{Reason}
+use Rattle.gt_model.specs.declared.script.Case.{Case}
 use Rattle.gt_model.specs.declared.script.CaseKind.{CaseKind}
-use Rattle.gt_model.specs.Script.{is_chan, capacity_of}
-use Rattle.gt_rules.specs.State.{State, clock, stands_at, clock_of, next_number, sleeps_until, items_of, item_count, is_closed}
+use Rattle.gt_model.specs.Good.{awaits_timer}
+use Rattle.gt_model.specs.Script.{is_chan, is_timer, capacity_of}
+use Rattle.gt_rules.specs.State.{State, clock, stands_at, clock_of, due_of, next_number, sleeps_until, items_of, item_count, is_closed}
 use Rattle.gt_rules.specs.Operations.{receives_from}
-use Rattle.gt_rules.specs.Panics.{fault}
+use Rattle.gt_rules.specs.Panics.{fault, fault_case}
+use Rattle.gt_rules.specs.Ready.{is_due}
 use Rattle.gt_rules.specs.Legal.{May, operation_at}
 use Rattle.gt_rules.specs.After.{new_period}
 use Rattle.gt_book.specs.declared.step.Step.{Step}
@@ -20,7 +24,8 @@ use Rattle.gt_book.specs.declared.answers.Pick.{Pick}
 use Rattle.gt_book.specs.declared.answers.TimerOp.{TimerOp}
 use Rattle.gt_book.specs.declared.answers.Op.{Op}
 use Rattle.gt_book.specs.declared.answers.Commit.{Commit}
-use Rattle.gt_schedule.specs.Schedule.{Schedule, plainly, status_of, is_in_hand, is_parked, in_hand, taken, parked_at, ticket_of, parties_at, Served}
+use Rattle.gt_schedule.specs.Schedule.{Schedule, plainly, at_case, parked_cases, status_of, is_in_hand, is_parked, in_hand, taken, parked_at, ticket_of, parties_at, Served}
+use Rattle.gt_schedule.specs.declared.status.Ticket.{Ticket}
 use Rattle.gt_schedule.specs.declared.scheduler.Scheduler.{Scheduler}
 use Rattle.gt_schedule.specs.Scheduler.{schedule_of, IsScheduler}
 use Rattle.gt_book.specs.View.{BookView, Enters, with_schedule, outcome_of, is_at}
@@ -34,18 +39,83 @@ abbrev pub value_of : Option CaseKind → ℕ
 value_of None = 0
 value_of (Some kind) = elim kind [ CaseKind.Recv o ↦ 0 | CaseKind.Send c v ↦ v ]
 
--- a receive from a channel, by the values that it keeps, whether it is closed, and the sender that waits there
-abbrev pub recv_by : Script → State → ℕ → ℕ → List ℕ → Bool → Option Party → Step
-recv_by script s g c (v ∷ items) closed sender = Step.Makes (Entry.Recv (plainly g) c (Some v))
-recv_by script s g c [] true sender = Step.Makes (Entry.Recv (plainly g) c None)
-recv_by script s g c [] false (Some q) = Step.Makes (Entry.Pair q (plainly g) c (value_of (operation_at script s q)))
-recv_by script s g c [] false None = Step.Parks (CaseKind.Recv c)
+-- the first of two entries
+abbrev pub or_next : Option Entry → Option Entry → Option Entry
+or_next None next = next
+or_next (Some e) next = Some e
 
--- a send to an open channel, by whether it has room, and the receiver that waits there
-abbrev pub send_by : ℕ → ℕ → ℕ → Bool → Option Party → Step
-send_by g c v true receiver = Step.Makes (Entry.Send (plainly g) c v)
-send_by g c v false (Some q) = Step.Makes (Entry.Pair (plainly g) q c v)
-send_by g c v false None = Step.Parks (CaseKind.Send c v)
+-- The entry of a party at an operation that can go on by itself: a receive from a channel, by the values that it keeps and whether it is closed; a send,
+-- by whether the channel is closed, where to send is a misuse, and whether it has room
+abbrev pub receives_alone : Party → ℕ → List ℕ → Bool → Option Entry
+receives_alone p c (v ∷ items) closed = Some (Entry.Recv p c (Some v))
+receives_alone p c [] true = Some (Entry.Recv p c None)
+receives_alone p c [] false = None
+
+abbrev pub sends_alone : Party → ℕ → ℕ → Bool → Bool → Option Entry
+sends_alone p c v true room = Some (Entry.Panic p Reason.Closed)
+sends_alone p c v false true = Some (Entry.Send p c v)
+sends_alone p c v false false = None
+
+abbrev pub goes_alone : Script → State → Party → CaseKind → Option Entry
+goes_alone script s p (CaseKind.Recv o) = cond (is_chan script o) (receives_alone p o (items_of s o) (is_closed s o)) None
+goes_alone script s p (CaseKind.Send c v) = sends_alone p c v (is_closed s c) (nat_lt (item_count s c) (capacity_of script c))
+
+-- its entry with a partner that is parked
+abbrev pub meets_sender : Script → State → Party → ℕ → Option Party → Option Entry
+meets_sender script s p c None = None
+meets_sender script s p c (Some q) = Some (Entry.Pair q p c (value_of (operation_at script s q)))
+
+abbrev pub meets_receiver : Party → ℕ → ℕ → Option Party → Option Entry
+meets_receiver p c v None = None
+meets_receiver p c v (Some q) = Some (Entry.Pair p q c v)
+
+abbrev pub meets : Script → State → Schedule → Party → CaseKind → Option Entry
+meets script s m p (CaseKind.Recv o) = cond (is_chan script o) (meets_sender script s p o (partner_in script m.senders o)) None
+meets script s m p (CaseKind.Send c v) = meets_receiver p c v (partner_in script m.receivers c)
+
+-- its entry, where it can go on without the value of a timer
+abbrev pub goes_by : Script → State → Schedule → Party → CaseKind → Option Entry
+goes_by script s m p kind = or_next (goes_alone script s p kind) (meets script s m p kind)
+
+-- what a plain operation is
+abbrev pub plain_step : CaseKind → Option Entry → Step
+plain_step kind (Some e) = Step.Makes e
+plain_step kind None = Step.Parks kind
+
+-- the timer from which an operation receives
+abbrev pub timer_of : Script → CaseKind → Option ℕ
+timer_of script (CaseKind.Recv o) = cond (is_timer script o) (Some o) None
+timer_of script (CaseKind.Send c v) = None
+
+-- the timer of a receive whose time has come by a clock
+abbrev pub come_timer : Script → State → ℕ → CaseKind → Option ℕ
+come_timer script s now (CaseKind.Recv o) = cond (is_timer script o && is_due (due_of s o) now) (Some o) None
+come_timer script s now (CaseKind.Send c v) = None
+
+-- what a case is where it can go on: its entry; or, where the choice has a default, the receive of a timer's value that has come, which needs its record
+abbrev pub case_step : Option Entry → Bool → Option ℕ → Option Step
+case_step (Some e) polling come = Some (Step.Makes e)
+case_step None true (Some t) = Some (Step.Needs (TimerOp.Poll t))
+case_step None true None = None
+case_step None false come = None
+
+-- the case with the lowest number goes on, where the first one has the number n
+abbrev pub first_step : Script → State → Schedule → ℕ → Bool → ℕ → List Case → Option Step
+first_step script s m g polling n [] = None
+first_step script s m g polling n (c ∷ cases) =
+    elim (case_step (goes_by script s m (at_case g n) c.kind) polling (come_timer script s (clock_of s g) c.kind)) [
+      | None ↦ first_step script s m g polling (n + 1) cases
+      | Some step ↦ Some step
+    ]
+
+-- what a choice is where no case can go on: its default; else it waits at its cases
+abbrev pub no_case : Script → ℕ → List Case → Option ℕ → Step
+no_case script g cases (Some to) = Step.Makes (Entry.Default g)
+no_case script g cases None = Step.Chooses (list_any (λ (c : Case). awaits_timer script c.kind) cases)
+
+abbrev pub choice_step : Script → State → Schedule → ℕ → List Case → Option ℕ → Step
+choice_step script s m g cases default_to =
+    elim (first_step script s m g (is_some default_to) 1 cases) [ None ↦ no_case script g cases default_to | Some step ↦ step ]
 
 -- an instruction without a panic
 abbrev pub step_of_instr : Script → State → Schedule → ℕ → Instr → Step
@@ -58,21 +128,38 @@ step_of_instr script s m g (Instr.New t d) = Step.Needs (TimerOp.Set t d false)
 step_of_instr script s m g (Instr.Stop t) = Step.Needs (TimerOp.Stop t)
 step_of_instr script s m g (Instr.Reset t d) = Step.Needs (TimerOp.Set t d true)
 step_of_instr script s m g (Instr.Recv o) =
-    cond (is_chan script o) (recv_by script s g o (items_of s o) (is_closed s o) (partner_in script m.senders o)) (Step.Waits o)
+    cond (is_chan script o) (plain_step (CaseKind.Recv o) (goes_by script s m (plainly g) (CaseKind.Recv o))) (Step.Waits o)
 step_of_instr script s m g (Instr.Make c) = Step.Makes (Entry.Make g c)
-step_of_instr script s m g (Instr.Send c v) = send_by g c v (nat_lt (item_count s c) (capacity_of script c)) (partner_in script m.receivers c)
+step_of_instr script s m g (Instr.Send c v) = plain_step (CaseKind.Send c v) (goes_by script s m (plainly g) (CaseKind.Send c v))
 step_of_instr script s m g (Instr.Close c) = Step.Makes (Entry.Close g c)
+step_of_instr script s m g (Instr.Select cases default_to) = choice_step script s m g cases default_to
 step_of_instr script s m g (Instr.LoopTop depth count past) = Step.Nowhere
+step_of_instr script s m g (Instr.Jump to) = Step.Nowhere
 step_of_instr script s m g (Instr.LoopEnd depth top) = Step.Nowhere
 step_of_instr script s m g Instr.Finish = Step.Makes (Entry.End g)
 
 abbrev pub step_or_panic : Script → State → Schedule → ℕ → Instr → Option Reason → Step
-step_or_panic script s m g i (Some reason) = Step.Makes (Entry.Panic (plainly g) reason)
+step_or_panic script s m g i (Some reason) = Step.Makes (Entry.Panic (at_case g (fault_case s i)) reason)
 step_or_panic script s m g i None = step_of_instr script s m g i
 
 -- what a goroutine does next: at a channel it goes on with a partner that is parked
 abbrev pub step_of : Script → State → Schedule → ℕ → Option Step
 step_of script s m g = elim (stands_at script s g) [ None ↦ None | Some i ↦ Some (step_or_panic script s m g i (fault script s i)) ]
+
+-- whether a step waits at a choice
+abbrev pub chooses : Option Step → Bool
+chooses None = false
+chooses (Some step) = elim step [ Step.Chooses timed ↦ true | _ ↦ false ]
+
+-- the cases of a choice
+abbrev pub cases_of : Option Instr → List Case
+cases_of None = []
+cases_of (Some i) = elim i [ Instr.Select cases default_to ↦ cases | _ ↦ [] ]
+
+-- the answer of who waits at its choice: where a timer's value is one of its cases, its records are to be told of it
+abbrev pub choice_answer : Ticket → Bool → Did
+choice_answer ticket true = Did.Timer (TimerOp.Enrolled ticket)
+choice_answer ticket false = Did.Parked
 
 -- the answer after an entry
 abbrev pub DidEnter : BookView → Did → Type 0
@@ -84,6 +171,8 @@ Does old g (Step.Makes e) new did = Enters old e new × DidEnter new did
 Does old g (Step.Waits t) new did =
     (new ≡ with_schedule old (parked_at old.schedule (plainly g) (CaseKind.Recv t))) × (did ≡ Did.Timer (TimerOp.Enrolled (ticket_of old.schedule g)))
 Does old g (Step.Parks kind) new did = (new ≡ with_schedule old (parked_at old.schedule (plainly g) kind)) × (did ≡ Did.Parked)
+Does old g (Step.Chooses timed) new did =
+    (new ≡ with_schedule old (parked_cases old.schedule g (cases_of (stands_at old.script old.state g)))) × (did ≡ choice_answer (ticket_of old.schedule g) timed)
 Does old g (Step.Needs op) new did = (new ≡ old) × (did ≡ Did.Timer op)
 Does old g Step.Nowhere new did = ⊥
 

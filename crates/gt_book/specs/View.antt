@@ -1,16 +1,18 @@
 -- What a contract sees of a book.
-use Rattle.std.specs.Prelude.{ℕ, ◌<◌, ◌≡◌, ◌&&◌, cond, Bool, false, is_none, slice_get, IsTrue, MatchOption, List, [], ◌∷◌, ◌++◌, length}
+use Rattle.std.specs.Prelude.{ℕ, ◌+◌, ◌<◌, ◌≡◌, ◌&&◌, cond, Bool, false, is_none, slice_get, IsTrue, MatchOption, List, [], ◌∷◌, ◌++◌, length}
 use Rattle.std.specs.declared.option.Option.{Option}
 use Rattle.std.specs.declared.option.Option.TheVariants.{None, Some}
 use Rattle.gt_model.specs.declared.script.Script.{Script}
 use Rattle.gt_model.specs.declared.entry.Entry.{Entry}
 use Rattle.gt_model.specs.declared.entry.Party.{Party}
+use Rattle.gt_model.specs.declared.script.Instr.{Instr}
+use Rattle.gt_model.specs.declared.script.Case.{Case}
 use Rattle.gt_model.specs.declared.script.CaseKind.{CaseKind}
 use Rattle.gt_model.specs.declared.entry.Limits.{Limits}
 use Rattle.gt_model.specs.declared.entry.Outcome.{Outcome}
 use Rattle.gt_model.specs.declared.state.Goroutine.{Goroutine}
 use Rattle.gt_model.specs.declared.state.Mode.{Mode}
-use Rattle.gt_rules.specs.State.{State, goroutine_at}
+use Rattle.gt_rules.specs.State.{State, goroutine_at, stands_at}
 use Rattle.gt_model.specs.Good.{IsGood, AreLimits}
 use Rattle.gt_rules.specs.After.{after, first_state}
 use Rattle.gt_rules.specs.Finish.{IsRunning}
@@ -19,12 +21,12 @@ use Rattle.gt_facts.specs.Formed.{IsFormed}
 use Rattle.gt_rules.specs.Ready.{is_firm}
 use Rattle.gt_machine.specs.Outcomes.{outcome_in, due_outcome}
 use Rattle.gt_rules.specs.Legal.{operation_at}
-use Rattle.gt_rules.specs.Operations.{receives_from, sends_to}
+use Rattle.gt_rules.specs.Operations.{receives_from, sends_to, offers}
 use Rattle.gt_rules.specs.Change.{Change, change_of}
 use Rattle.gt_rules.specs.declared.change.Move.{Move}
 use Rattle.gt_schedule.specs.declared.status.RunStatus.{RunStatus}
 use Rattle.gt_schedule.specs.Counts.{as_number, often}
-use Rattle.gt_schedule.specs.Schedule.{Schedule, first_schedule, status_of, is_parked, parties_at, scheduled, schedule_after, RunsQueued}
+use Rattle.gt_schedule.specs.Schedule.{Schedule, at_case, first_schedule, status_of, is_parked, parties_at, scheduled, schedule_after, RunsQueued}
 
 pub record BookView : Type 0 where
   pub script : Script
@@ -115,6 +117,24 @@ Agrees _ _ = ⊥
 -- whether a party stands at an operation that passes a test
 abbrev pub is_at : Script → State → Party → (CaseKind → Bool) → Bool
 is_at script s p test = elim (operation_at script s p) [ None ↦ false | Some kind ↦ test kind ]
+
+-- the number of the first case that passes a test, where the first one has the number n
+abbrev pub first_case : (CaseKind → Bool) → ℕ → List Case → ℕ
+first_case test n [] = n
+first_case test n (c ∷ cases) = cond (test c.kind) n (first_case test (n + 1) cases)
+
+-- the lowest number under which an instruction offers such an operation: 0 where it is a plain one
+abbrev pub case_of : (CaseKind → Bool) → Option Instr → ℕ
+case_of test None = 0
+case_of test (Some i) = elim i [ Instr.Select cases default_to ↦ first_case test 1 cases | _ ↦ 0 ]
+
+-- the party of a goroutine that receives from an object
+abbrev pub receiver_of : Script → State → ℕ → ℕ → Party
+receiver_of script s g o = at_case g (case_of (receives_from o) (stands_at script s g))
+
+-- whether a goroutine stands at an instruction that receives from an object, plainly or as a case
+abbrev pub stands_for : Script → State → ℕ → ℕ → Bool
+stands_for script s g o = elim (stands_at script s g) [ None ↦ false | Some i ↦ offers (receives_from o) i ]
 
 -- whether a party is parked at such an operation
 abbrev pub is_parked_at : Script → State → Schedule → Party → (CaseKind → Bool) → Bool

@@ -35,6 +35,8 @@ pub enum TimerOp {
     Set { t: u32, d: u64, anew: bool },
     /// To stop this timer.
     Stop(u32),
+    /// To receive from this timer, whose time has come, as a case of a choice with a default.
+    Poll(u32),
     /// To be counted, under this ticket, among those that wait at its timers.
     Enrolled(Ticket),
     /// To sleep for so many nanoseconds.

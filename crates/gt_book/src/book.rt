@@ -4,7 +4,6 @@ ghost use Rattle.std.specs.Prelude.{◌≡◌, ◌<◌, ◌≤◌, ◌↔◌, []
 ghost use Rattle.gt_rules.specs.State as at;
 ghost use Rattle.gt_model.specs.Good.{IsGood, AreLimits};
 ghost use Rattle.gt_model.specs.Times.{greatest_time};
-ghost use Rattle.gt_rules.specs.Operations.{receives_from};
 ghost use Rattle.gt_rules.specs.Legal.{May};
 ghost use Rattle.gt_rules.specs.Finish.{IsIdle};
 ghost use Rattle.gt_rules.specs.Counted.{counted};
@@ -12,16 +11,18 @@ ghost use Rattle.gt_model.specs.Tables.{least};
 ghost use Rattle.gt_model.specs.declared.entry.Entry.{Entry};
 ghost use Rattle.gt_model.specs.declared.entry.Outcome.{Outcome};
 ghost use Rattle.gt_machine.specs.Places.{placed_at};
+ghost use Rattle.gt_machine.specs.Machine.{HasFewCases};
+ghost use Rattle.gt_rules.specs.Operations.{receives_from};
 ghost use Rattle.gt_schedule.specs.declared.status.RunStatus.{RunStatus};
 ghost use Rattle.gt_schedule.specs.Counts.{times};
 ghost use Rattle.gt_schedule.specs.Schedule.{parties_at, status_of, marks_at, marked, unmarked, HasMarkRoom, given_back, in_hand, IsLive, Served};
 ghost use Rattle.gt_schedule.specs.Schedule as schedule;
 ghost use Rattle.gt_book.specs.Least.{counted_of};
-ghost use Rattle.gt_book.specs.Steps.{Takes, Steps, step_of, MayCommit, Commits, is_gone, is_receiving, entry_of, Clocks};
-ghost use Rattle.gt_book.specs.View.{first_view, is_at, outcome_of, with_entries, with_schedule, Enters, IsLawful};
+ghost use Rattle.gt_book.specs.Steps.{Takes, Steps, step_of, chooses, cases_of, MayCommit, Commits, is_gone, is_receiving, entry_of, Clocks};
+ghost use Rattle.gt_book.specs.View.{first_view, stands_for, receiver_of, case_of, outcome_of, with_entries, with_schedule, Enters, IsLawful};
 
 use crate::answers::{Commit, Did, Op, Pick, TimerOp};
-use crate::channels::operation_at;
+use crate::channels::{first_receiving, operation_at};
 use crate::counted::least_counted;
 use crate::run::Run;
 use crate::step::{Step, next_step};
@@ -41,6 +42,17 @@ pub struct Book {
     script: Script,
     limits: Limits,
     run: Run,
+}
+
+/// The number under which an instruction receives from an object: 0 where it is a plain one, else that of the first case which does.
+fn receiving_case(instr: &Instr, o: u32) -> u32
+    requires { HasFewCases instr.now }
+    ensures { result ≡ case_of (receives_from o) (Some instr.now) }
+{
+    match instr {
+        Instr::Select { cases, .. } => first_receiving(cases.as_slice(), o),
+        _ => 0,
+    }
 }
 
 impl Model for Book {
@@ -153,6 +165,17 @@ impl Book {
         self.run.scheduler.first_receiver(t)
     }
 
+    /// The party of goroutine `g` that receives from timer `t`: that of its case with the lowest number which does.
+    pub fn receiver(&self, g: u32, t: u32) -> Party
+        ensures { result ≡ receiver_of self.now.script self.now.state g t }
+    {
+        let case_no = match self.run.machine.stands_at(&self.script, g) {
+            Some(instr) => receiving_case(instr, t),
+            None => 0,
+        };
+        Party { g, case_no }
+    }
+
     /// The least of the times that will unblock somebody, and the number of a record that shows it; None where there is none. It looks at all
     /// goroutines and declarations.
     pub fn least_counted(&self) -> Option<(u64, u32)>
@@ -170,10 +193,10 @@ impl Book {
         self.run.scheduler.is_live(ticket)
     }
 
-    /// Marks a goroutine that is parked at a receive from timer `t` as one that the timer's record counts. It has no mark so far.
+    /// Marks a goroutine that is parked at a receive from timer `t`, plainly or as a case, as one that the timer's record counts.
     pub fn mark_blocked(&mut self, ticket: Ticket, t: u32)
         requires live { IsLive self.old.schedule ticket }
-        requires waits { IsTrue (is_at self.old.script self.old.state (schedule.plainly ticket.g) (receives_from t)) }
+        requires waits { IsTrue (stands_for self.old.script self.old.state ticket.g t) }
         requires room { HasMarkRoom self.old.schedule ticket.g }
         ensures { self.new ≡ with_schedule self.old (marked self.old.schedule ticket.g t) }
     {
@@ -238,6 +261,14 @@ impl Book {
                 let _ticket = self.run.scheduler.park_at(g, kind);
                 Did::Parked
             }
+            Step::Chooses(timed) => {
+                let ticket = self.park_at_cases(g);
+                if timed {
+                    Did::Timer(TimerOp::Enrolled(ticket))
+                } else {
+                    Did::Parked
+                }
+            }
             Step::Needs(op) => Did::Timer(op),
             Step::Nowhere => unreachable!(),
         }
@@ -294,6 +325,21 @@ impl Book {
         self.run.history.put(Entry::Finish {
             outcome: Outcome::Deadlock,
         });
+    }
+
+    /// A goroutine in hand waits at the cases of its choice.
+    fn park_at_cases(&mut self, g: u32) -> Ticket
+        requires in_hand { status_of self.old.schedule g ≡ Some RunStatus.InHand }
+        requires chooses { IsTrue (chooses (step_of self.old.script self.old.state self.old.schedule g)) }
+        ensures ticket { result ≡ schedule.ticket_of self.old.schedule g }
+        ensures parked { self.new ≡ with_schedule self.old (schedule.parked_cases self.old.schedule g (cases_of (at.stands_at self.old.script self.old.state g))) }
+    {
+        match self.run.machine.stands_at(&self.script, g) {
+            Some(Instr::Select { cases, .. }) => {
+                self.run.scheduler.park_cases(g, cases.as_slice())
+            }
+            _ => unreachable!(),
+        }
     }
 
     /// What a goroutine in hand does next.

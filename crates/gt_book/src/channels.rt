@@ -1,29 +1,45 @@
-//! What the calls at channels are for a goroutine, and who goes on there after one.
+//! What an operation at a channel is for a party, and who goes on there after one.
 
-ghost use Rattle.std.specs.Prelude.{◌≡◌, ◌<◌, length, nat_lt};
-ghost use Rattle.gt_model.specs.Script as declared;
-ghost use Rattle.gt_rules.specs.State as at;
+ghost use Rattle.std.specs.Prelude.{◌≡◌, ◌<◌, ◌≤◌, Some, length};
+ghost use Rattle.gt_model.specs.Good.{IsGood};
 ghost use Rattle.gt_rules.specs.Legal as legal;
-ghost use Rattle.gt_rules.specs.Operations.{operation};
+ghost use Rattle.gt_rules.specs.Operations.{operation, receives_from};
+ghost use Rattle.gt_book.specs.View.{first_case};
 ghost use Rattle.gt_machine.specs.Machine.{state_of};
 ghost use Rattle.gt_schedule.specs.Scheduler.{schedule_of, IsScheduler};
+ghost use Rattle.gt_schedule.specs.Schedule.{object_of};
 ghost use Rattle.gt_book.specs.Steps as steps;
 ghost use Rattle.gt_book.specs.Woken as woken;
 
-use crate::step::Step;
-use gt_machine::{Machine, capacity};
-use gt_model::{CaseKind, Entry, Instr, Party, Reason, Script};
+use gt_machine::{Machine, capacity, is_chan};
+use gt_model::{Case, CaseKind, Entry, Instr, Party, Reason, Script};
 use gt_schedule::{Scheduler, plainly};
 
-/// The operation of an instruction under a case number; 0 is a plain one.
+/// The operation of an instruction under a case number; 0 is a plain one, and the cases of a choice count from 1.
 fn operation(instr: &Instr, case_no: u32) -> Option<CaseKind>
     ensures { result ≡ operation instr.now case_no }
 {
     match (instr, case_no) {
         (Instr::Recv { o }, 0) => Some(CaseKind::Recv(*o)),
         (Instr::Send { c, v }, 0) => Some(CaseKind::Send(*c, *v)),
+        (Instr::Select { cases, .. }, n) if n > 0 => {
+            Some(cases.as_slice().get(n as usize - 1)?.kind)
+        }
         _ => None,
     }
+}
+
+/// The number of the first case that receives from an object; one above the last where none does.
+pub fn first_receiving(cases: &[Case], o: u32) -> u32
+    requires { length cases.now ≤ 16 }
+    ensures { result ≡ first_case (receives_from o) 1 cases.now }
+{
+    for k in 0..cases.len() {
+        if matches!(cases[k].kind, CaseKind::Recv(p) if p == o) {
+            return k as u32 + 1;
+        }
+    }
+    cases.len() as u32 + 1
 }
 
 /// The operation at which a party stands.
@@ -43,94 +59,97 @@ fn value_of(machine: &Machine, script: &Script, p: Party) -> u32
     }
 }
 
-/// What a receive from a channel is for goroutine `g`.
-pub fn step_of_recv(
-    machine: &Machine,
-    scheduler: &Scheduler,
-    script: &Script,
-    g: u32,
-    c: u32,
-) -> Step
-    requires kept { IsScheduler scheduler.now }
-    requires declared { c < length (schedule_of scheduler.now).senders }
-    ensures { result ≡ steps.recv_by script.now (state_of machine.now) g c (at.items_of (state_of machine.now) c) (at.is_closed (state_of machine.now) c)
-        (steps.partner_in script.now (schedule_of scheduler.now).senders c) }
+/// The entry of a party at an operation, where it can go on by itself. A send to a closed channel is a misuse.
+fn goes_alone(machine: &Machine, script: &Script, p: Party, kind: CaseKind) -> Option<Entry>
+    ensures { result ≡ steps.goes_alone script.now (state_of machine.now) p kind }
 {
-    let p = plainly(g);
-    if let Some(v) = machine.first_item(c) {
-        return Step::Makes(Entry::Recv { p, c, v: Some(v) });
-    }
-    if machine.is_closed(c) {
-        return Step::Makes(Entry::Recv { p, c, v: None });
-    }
-    match scheduler.first_sender(c) {
-        Some(from) if capacity(script, c) == 0 => {
-            let v = value_of(machine, script, from);
-            Step::Makes(Entry::Pair { from, to: p, c, v })
-        }
-        _ => Step::Parks(CaseKind::Recv(c)),
-    }
-}
-
-/// What a send to an open channel is for goroutine `g`.
-pub fn step_of_send(
-    machine: &Machine,
-    scheduler: &Scheduler,
-    script: &Script,
-    g: u32,
-    c: u32,
-    v: u32,
-) -> Step
-    requires kept { IsScheduler scheduler.now }
-    requires declared { c < length (schedule_of scheduler.now).receivers }
-    ensures { result ≡ steps.send_by g c v (nat_lt (at.item_count (state_of machine.now) c) (declared.capacity_of script.now c))
-        (steps.partner_in script.now (schedule_of scheduler.now).receivers c) }
-{
-    let p = plainly(g);
-    if machine.has_room(script, c) {
-        return Step::Makes(Entry::Send { p, c, v });
-    }
-    match scheduler.first_receiver(c) {
-        Some(to) if capacity(script, c) == 0 => Step::Makes(Entry::Pair { from: p, to, c, v }),
-        _ => Step::Parks(CaseKind::Send(c, v)),
-    }
-}
-
-/// The entry of the receiver that has waited longest at a channel, if it can go on.
-fn woken_receiver(machine: &Machine, scheduler: &Scheduler, c: u32) -> Option<Entry>
-    requires kept { IsScheduler scheduler.now }
-    requires declared { c < length (schedule_of scheduler.now).receivers }
-    ensures { result ≡ woken.woken_receiver (state_of machine.now) (schedule_of scheduler.now) c }
-{
-    let p = scheduler.first_receiver(c)?;
-    match machine.first_item(c) {
-        Some(v) => Some(Entry::Recv { p, c, v: Some(v) }),
-        None if machine.is_closed(c) => Some(Entry::Recv { p, c, v: None }),
-        None => None,
-    }
-}
-
-/// The entry of the sender that has waited longest at a channel, if it can go on.
-fn woken_sender(machine: &Machine, scheduler: &Scheduler, script: &Script, c: u32) -> Option<Entry>
-    requires kept { IsScheduler scheduler.now }
-    requires declared { c < length (schedule_of scheduler.now).senders }
-    ensures { result ≡ woken.woken_sender script.now (state_of machine.now) (schedule_of scheduler.now) c }
-{
-    let p = scheduler.first_sender(c)?;
-    if machine.is_closed(c) {
-        return Some(Entry::Panic {
+    match kind {
+        CaseKind::Recv(c) if !is_chan(script, c) => None,
+        CaseKind::Recv(c) => match machine.first_item(c) {
+            Some(v) => Some(Entry::Recv { p, c, v: Some(v) }),
+            None if machine.is_closed(c) => Some(Entry::Recv { p, c, v: None }),
+            None => None,
+        },
+        CaseKind::Send(c, _) if machine.is_closed(c) => Some(Entry::Panic {
             p,
             reason: Reason::Closed,
-        });
+        }),
+        CaseKind::Send(c, v) if machine.has_room(script, c) => Some(Entry::Send { p, c, v }),
+        CaseKind::Send(..) => None,
     }
-    if machine.has_room(script, c) {
-        return Some(Entry::Send {
-            p,
-            c,
-            v: value_of(machine, script, p),
-        });
+}
+
+/// The entry of a party at an operation with a partner that is parked: the one that has waited longest.
+fn meets(
+    machine: &Machine,
+    scheduler: &Scheduler,
+    script: &Script,
+    p: Party,
+    kind: CaseKind,
+) -> Option<Entry>
+    requires kept { IsScheduler scheduler.now }
+    requires receivers { object_of kind < length (schedule_of scheduler.now).receivers }
+    requires senders { object_of kind < length (schedule_of scheduler.now).senders }
+    ensures { result ≡ steps.meets script.now (state_of machine.now) (schedule_of scheduler.now) p kind }
+{
+    match kind {
+        CaseKind::Recv(c) if is_chan(script, c) && capacity(script, c) == 0 => {
+            let from = scheduler.first_sender(c)?;
+            let v = value_of(machine, script, from);
+            Some(Entry::Pair { from, to: p, c, v })
+        }
+        CaseKind::Send(c, v) if capacity(script, c) == 0 => {
+            let to = scheduler.first_receiver(c)?;
+            Some(Entry::Pair { from: p, to, c, v })
+        }
+        _ => None,
+    }
+}
+
+/// The entry of a party at an operation, where it can go on without the value of a timer.
+pub fn goes_by(
+    machine: &Machine,
+    scheduler: &Scheduler,
+    script: &Script,
+    p: Party,
+    kind: CaseKind,
+) -> Option<Entry>
+    requires kept { IsScheduler scheduler.now }
+    requires receivers { object_of kind < length (schedule_of scheduler.now).receivers }
+    requires senders { object_of kind < length (schedule_of scheduler.now).senders }
+    ensures { result ≡ steps.goes_by script.now (state_of machine.now) (schedule_of scheduler.now) p kind }
+{
+    match goes_alone(machine, script, p, kind) {
+        Some(entry) => Some(entry),
+        None => meets(machine, scheduler, script, p, kind),
+    }
+}
+
+/// The entry of the first case that can go on by itself.
+fn first_alone(machine: &Machine, script: &Script, g: u32, cases: &[Case]) -> Option<Entry>
+    requires { length cases.now ≤ 16 }
+    ensures { result ≡ woken.first_alone script.now (state_of machine.now) g 1 cases.now }
+{
+    for k in 0..cases.len() {
+        let case_no = k as u32 + 1;
+        if let Some(entry) = goes_alone(machine, script, Party { g, case_no }, cases[k].kind) {
+            return Some(entry);
+        }
     }
     None
+}
+
+/// The entry of the goroutine of a party that waits, where it can go on by itself.
+fn woken_by(machine: &Machine, script: &Script, p: Party) -> Option<Entry>
+    requires { IsGood script.now }
+    ensures { result ≡ woken.woken_by script.now (state_of machine.now) (Some p) }
+{
+    match machine.stands_at(script, p.g)? {
+        Instr::Recv { o } => goes_alone(machine, script, plainly(p.g), CaseKind::Recv(*o)),
+        Instr::Send { c, v } => goes_alone(machine, script, plainly(p.g), CaseKind::Send(*c, *v)),
+        Instr::Select { cases, .. } => first_alone(machine, script, p.g, cases.as_slice()),
+        _ => None,
+    }
 }
 
 /// The entry of the one that goes on next at a channel, of those that wait there; None where none can.
@@ -140,13 +159,18 @@ pub fn next_woken(
     script: &Script,
     c: u32,
 ) -> Option<Entry>
+    requires good { IsGood script.now }
     requires kept { IsScheduler scheduler.now }
     requires receivers { c < length (schedule_of scheduler.now).receivers }
     requires senders { c < length (schedule_of scheduler.now).senders }
     ensures { result ≡ woken.next_woken script.now (state_of machine.now) (schedule_of scheduler.now) c }
 {
-    match woken_receiver(machine, scheduler, c) {
+    let receiver = match scheduler.first_receiver(c) {
+        Some(p) => woken_by(machine, script, p),
+        None => None,
+    };
+    match receiver {
         Some(entry) => Some(entry),
-        None => woken_sender(machine, scheduler, script, c),
+        None => woken_by(machine, script, scheduler.first_sender(c)?),
     }
 }

@@ -1,18 +1,21 @@
 //! The least time that counts, found by a look at all goroutines and declarations.
 
-ghost use Rattle.std.specs.Prelude.{◌≡◌, ◌+◌, ◌≤◌, ◌↔◌, [], IsNone, IfSome, Some, length};
+ghost use Rattle.std.specs.Prelude.{◌≡◌, ◌+◌, ◌≤◌, ◌↔◌, [], IsNone, IsTrue, IfSome, Some, length};
 ghost use Rattle.gt_model.specs.Good.{IsGood};
 ghost use Rattle.gt_model.specs.Script.{is_func};
 ghost use Rattle.gt_model.specs.Tables.{least};
 ghost use Rattle.gt_rules.specs.State as at;
 ghost use Rattle.gt_rules.specs.Counted.{counted};
+ghost use Rattle.gt_rules.specs.Operations.{receives_from, offers};
+ghost use Rattle.gt_model.specs.declared.script.Case.{Case};
+ghost use Rattle.std.specs.List.{list_any};
 ghost use Rattle.gt_facts.specs.Formed.{IsFormed};
 ghost use Rattle.gt_machine.specs.Machine.{state_of};
 ghost use Rattle.gt_book.specs.Least.{counted_of};
-ghost use Rattle.gt_book.specs.Found.{received, IsNotLater, IsOneOf, IsLeastBelow, IsLeastWith};
+ghost use Rattle.gt_book.specs.Found.{IsNotLater, IsOneOf, IsOneDue, IsOneOfDue, IsOneAt, IsLeastBelow, IsLeastWith};
 
 use gt_machine::Machine;
-use gt_model::{Decl, Instr, Script, What};
+use gt_model::{Case, CaseKind, Decl, Instr, Script, What};
 
 /// A time, and the number of a record that shows it.
 type Found = Option<(u64, u32)>;
@@ -43,17 +46,45 @@ fn is_func(script: &Script, t: u32) -> bool
     )
 }
 
-/// The timer at whose receive a goroutine stands.
-fn awaited(machine: &Machine, script: &Script, g: u32) -> Option<u32>
-    ensures { result ≡ received (at.stands_at script.now (state_of machine.now) g) }
+/// The earlier of what was found and the due time of the timer from which an operation receives.
+fn with_operation(found: Found, machine: &Machine, kind: CaseKind) -> Found
+    ensures not_later { (t : _) → IsTrue (receives_from t kind) → IsNotLater result (at.due_of (state_of machine.now) t) }
+    ensures still { (other : _) → IsNotLater found other → IsNotLater result other }
+    ensures shown { IsOneDue (state_of machine.now) found kind result }
 {
-    match *machine.stands_at(script, g)? {
-        Instr::Recv { o } => Some(o),
-        _ => None,
+    match kind {
+        CaseKind::Recv(o) => earlier(found, machine.due_of(o), o),
+        CaseKind::Send(..) => found,
     }
 }
 
-/// The earlier of what was found and what a goroutine waits for: the end of its sleep, or the due time of the timer at whose receive it stands.
+/// The earlier of what was found and the due times of the timers from which the cases of a choice receive.
+fn with_cases(found: Found, machine: &Machine, cases: &[Case]) -> Found
+    ensures not_later { (t : _) → IsTrue (list_any (λ (c : Case). receives_from t c.kind) cases.now) → IsNotLater result (at.due_of (state_of machine.now) t) }
+    ensures still { (other : _) → IsNotLater found other → IsNotLater result other }
+    ensures shown { IsOneOfDue (state_of machine.now) found cases.now result }
+{
+    let mut least = found;
+    for case in cases {
+        least = with_operation(least, machine, case.kind);
+    }
+    least
+}
+
+/// The earlier of what was found and the due times of the timers from which an instruction receives.
+fn with_instr(found: Found, machine: &Machine, instr: &Instr) -> Found
+    ensures not_later { (t : _) → IsTrue (offers (receives_from t) instr.now) → IsNotLater result (at.due_of (state_of machine.now) t) }
+    ensures still { (other : _) → IsNotLater found other → IsNotLater result other }
+    ensures shown { IsOneAt (state_of machine.now) found instr.now result }
+{
+    match instr {
+        Instr::Recv { o } => with_operation(found, machine, CaseKind::Recv(*o)),
+        Instr::Select { cases, .. } => with_cases(found, machine, cases.as_slice()),
+        _ => found,
+    }
+}
+
+/// The earlier of what was found and what a goroutine waits for: the end of its sleep, or the due times of the timers from which it would receive.
 fn with_goroutine(found: Found, machine: &Machine, script: &Script, g: u32) -> Found
     requires good { IsGood script.now }
     requires formed { IsFormed script.now (state_of machine.now) }
@@ -63,8 +94,8 @@ fn with_goroutine(found: Found, machine: &Machine, script: &Script, g: u32) -> F
 {
     let sleep = script.decls.as_slice().len() as u32 + g;
     let with_sleep = earlier(found, machine.until(g), sleep);
-    match awaited(machine, script, g) {
-        Some(t) => earlier(with_sleep, machine.due_of(t), t),
+    match machine.stands_at(script, g) {
+        Some(instr) => with_instr(with_sleep, machine, instr),
         None => with_sleep,
     }
 }

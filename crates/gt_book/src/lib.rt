@@ -4,9 +4,11 @@
 mod answers;
 mod book;
 mod channels;
+mod choices;
 mod counted;
 mod run;
 mod step;
 
 pub use answers::{Commit, Did, Op, Pick, TimerOp};
 pub use book::Book;
+pub use choices::timer_of;

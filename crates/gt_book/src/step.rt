@@ -9,10 +9,10 @@ ghost use Rattle.gt_schedule.specs.Scheduler.{schedule_of};
 ghost use Rattle.gt_book.specs.Steps.{step_of, step_of_instr, HasLists};
 
 use crate::answers::TimerOp;
-use crate::channels::{step_of_recv, step_of_send};
+use crate::choices::{choice_step, plain_step};
 use gt_machine::{Machine, is_chan};
-use gt_model::{CaseKind, Entry, Instr, Script};
-use gt_schedule::{Scheduler, plainly};
+use gt_model::{CaseKind, Entry, Instr, Party, Script};
+use gt_schedule::Scheduler;
 
 /// What a goroutine does next.
 #[derive(Clone, Copy)]
@@ -23,9 +23,11 @@ pub enum Step {
     Waits(u32),
     /// It waits at this operation, for another goroutine.
     Parks(CaseKind),
+    /// It waits at the cases of its choice; whether the value of a timer is one of them.
+    Chooses(bool),
     /// Its instruction needs a timer's record.
     Needs(TimerOp),
-    /// It is at the bounds of a loop, where nobody stands.
+    /// It is at the bounds of a loop or at a jump, where nobody stands.
     Nowhere,
 }
 
@@ -59,12 +61,18 @@ fn step_of_instr(
         Instr::New { t, d } => Step::Needs(TimerOp::Set { t, d, anew: false }),
         Instr::Reset { t, d } => Step::Needs(TimerOp::Set { t, d, anew: true }),
         Instr::Stop { t } => Step::Needs(TimerOp::Stop(t)),
-        Instr::Recv { o } if is_chan(script, o) => step_of_recv(machine, scheduler, script, g, o),
+        Instr::Recv { o } if is_chan(script, o) => {
+            plain_step(machine, scheduler, script, g, CaseKind::Recv(o))
+        }
         Instr::Recv { o } => Step::Waits(o),
         Instr::Make { c } => Step::Makes(Entry::Make { g, c }),
-        Instr::Send { c, v } => step_of_send(machine, scheduler, script, g, c, v),
+        Instr::Send { c, v } => plain_step(machine, scheduler, script, g, CaseKind::Send(c, v)),
         Instr::Close { c } => Step::Makes(Entry::Close { g, c }),
-        Instr::LoopTop { .. } | Instr::LoopEnd { .. } => Step::Nowhere,
+        Instr::Select {
+            ref cases,
+            default_to,
+        } => { choice_step(machine, scheduler, script, g, cases.as_slice(), default_to) }
+        Instr::LoopTop { .. } | Instr::LoopEnd { .. } | Instr::Jump { .. } => Step::Nowhere,
         Instr::Finish => Step::Makes(Entry::End { g }),
     }
 }
@@ -78,9 +86,9 @@ pub fn next_step(machine: &Machine, scheduler: &Scheduler, script: &Script, g: u
     ensures { result ≡ step_of script.now (state_of machine.now) (schedule_of scheduler.now) g }
 {
     let instr = machine.stands_at(script, g)?;
-    Some(match machine.fault(instr) {
-        Some(reason) => Step::Makes(Entry::Panic {
-            p: plainly(g),
+    Some(match machine.fault_at(instr) {
+        Some((case_no, reason)) => Step::Makes(Entry::Panic {
+            p: Party { g, case_no },
             reason,
         }),
         None => step_of_instr(machine, scheduler, script, g, instr),

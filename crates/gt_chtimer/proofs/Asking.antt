@@ -5,8 +5,9 @@ use Rattle.gt_model.specs.declared.entry.Outcome.{Outcome}
 use Rattle.gt_model.specs.declared.entry.Reason.{Reason}
 use Rattle.gt_model.specs.declared.script.Instr.{Instr}
 use Rattle.gt_rules.specs.State.{stands_at}
-use Rattle.gt_rules.specs.Panics.{fault}
-use Rattle.gt_schedule.specs.Schedule.{plainly}
+use Rattle.gt_rules.specs.Panics.{fault, fault_case}
+use Rattle.gt_schedule.specs.Schedule.{at_case}
+use Rattle.gt_model.specs.declared.entry.Party.{Party}
 use Rattle.gt_book.specs.declared.answers.Did.{Did}
 use Rattle.gt_book.specs.declared.answers.TimerOp.{TimerOp}
 use Rattle.gt_book.specs.declared.step.Step.{Step}
@@ -16,8 +17,9 @@ use Rattle.gt_rows.specs.Rows.{Answers, next_of}
 
 -- its panic is its next step
 pub record Panics (b : BookView) (g : ℕ) : Type 0 where
+  pub party : Party
   pub reason : Reason
-  pub step : next_of b g ≡ Some (Step.Makes (Entry.Panic (plainly g) reason))
+  pub step : next_of b g ≡ Some (Step.Makes (Entry.Panic party reason))
 
 pub panic-or-needs : (b : BookView) (g : ℕ) (i : Instr) (op : TimerOp) → stands_at b.script b.state g ≡ Some i → step_of_instr b.script b.state b.schedule g i ≡ Step.Needs op
     → Panics b g ⊎ (next_of b g ≡ Some (Step.Needs op))
@@ -26,7 +28,7 @@ panic-or-needs b g i op stands needs =
     ap (λ (o : Option Instr). elim o as (λ o. Option Step) [ None ↦ None | Some i ↦ Some (step_or_panic b.script b.state b.schedule g i (fault b.script b.state i)) ]) stands in
     elim (fault b.script b.state i) as (λ f. next_of b g ≡ Some (step_or_panic b.script b.state b.schedule g i f) → Panics b g ⊎ (next_of b g ≡ Some (Step.Needs op))) [
       | None ↦ λ k. inr (k ∙ ap Some needs)
-      | Some reason ↦ λ k. inl (record { reason = reason; step = k })
+      | Some reason ↦ λ k. inl (record { party = at_case g (fault_case b.state i); reason = reason; step = k })
     ] is
 
 -- what a section answers where the step was made without it
@@ -36,7 +38,7 @@ Echoes over fine Did.Parked done = done ≡ fine
 Echoes over fine (Did.Over outcome) done = done ≡ over outcome
 Echoes over fine (Did.Timer op) done = ⊥
 
-echoes-answers : {Done : Type 0} (over : Outcome → Done) (fine : Done) (new : BookView) (did : Did) (done : Done) → DidEnter new did → Echoes over fine did done
+pub echoes-answers : {Done : Type 0} (over : Outcome → Done) (fine : Done) (new : BookView) (did : Did) (done : Done) → DidEnter new did → Echoes over fine did done
     → Answers new over done fine
 echoes-answers over fine new did done entry echo =
     elim (outcome_of new) as (λ o. MatchOption o (did ≡ Did.Entered) (λ outcome. did ≡ Did.Over outcome) → MatchOption o (done ≡ fine) (λ outcome. done ≡ over outcome)) [
@@ -47,7 +49,7 @@ echoes-answers over fine new did done entry echo =
 -- the panic was entered
 pub record Panicked {Done : Type 0} (old : BookView) (g : ℕ) (new : BookView) (over : Outcome → Done) (fine done : Done) : Type 0 where
   pub panics : Panics old g
-  pub entered : Enters old (Entry.Panic (plainly g) panics.reason) new
+  pub entered : Enters old (Entry.Panic panics.party panics.reason) new
   pub answer : Answers new over done fine
 
 -- without the record nothing happens but a panic
@@ -59,7 +61,7 @@ panicked over fine old g op new did done step running steps echo =
     subst (λ (o : Option Outcome). MatchOption o (MatchOption (next_of old g) ⊥ (λ step. Does old g step new did)) (λ outcome. (did ≡ Did.Over outcome) × (new ≡ old))) running steps in
     elim step [
       | inl p ↦
-          let entry : Does old g (Step.Makes (Entry.Panic (plainly g) p.reason)) new did = subst (λ o. MatchOption o ⊥ (λ step. Does old g step new did)) p.step does in
+          let entry : Does old g (Step.Makes (Entry.Panic p.party p.reason)) new did = subst (λ o. MatchOption o ⊥ (λ step. Does old g step new did)) p.step does in
           record { panics = p; entered = entry.0; answer = echoes-answers over fine new did done entry.1 echo }
       | inr needs ↦
           let asks : Does old g (Step.Needs op) new did = subst (λ o. MatchOption o ⊥ (λ step. Does old g step new did)) needs does in
@@ -105,7 +107,7 @@ asked old g op new wanted step steps =
     subst (λ (o : Option Outcome). MatchOption o (MatchOption (next_of old g) ⊥ (λ step. Does old g step new (Did.Timer wanted))) (λ outcome. (Did.Timer wanted ≡ Did.Over outcome) × (new ≡ old))) running steps in
     elim step [
       | inl p ↦
-          let entry : Does old g (Step.Makes (Entry.Panic (plainly g) p.reason)) new (Did.Timer wanted) = subst (λ o. MatchOption o ⊥ (λ step. Does old g step new (Did.Timer wanted))) p.step does in
+          let entry : Does old g (Step.Makes (Entry.Panic p.party p.reason)) new (Did.Timer wanted) = subst (λ o. MatchOption o ⊥ (λ step. Does old g step new (Did.Timer wanted))) p.step does in
           absurd (no-panic (Did.Timer wanted) (outcome_of new) wanted entry.1)
       | inr needs ↦
           let asks : Does old g (Step.Needs op) new (Did.Timer wanted) = subst (λ o. MatchOption o ⊥ (λ step. Does old g step new (Did.Timer wanted))) needs does in

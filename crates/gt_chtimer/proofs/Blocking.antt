@@ -1,15 +1,19 @@
 -- A goroutine that comes to wait at a timer.
-use Rattle.std.proofs.Common.{◌≡◌, ℕ, refl, sym, subst, Option, None, Some, MatchOption}
+use Rattle.std.proofs.Common.{◌≡◌, ℕ, refl, sym, ap, subst, ◌∙◌, Option, None, Some, MatchOption, Bool, true, false}
 use Rattle.gt_model.specs.declared.entry.Party.{Party}
-use Rattle.gt_rules.specs.State.{clock}
+use Rattle.gt_rules.specs.State.{clock, stands_at}
 use Rattle.gt_rec.specs.Rec.{Rec}
 use Rattle.gt_rec.specs.Changes.{received}
 use Rattle.gt_lazy.specs.Slots.{LazyHeap}
-use Rattle.gt_schedule.specs.Schedule.{plainly, IsLive}
+use Rattle.gt_schedule.specs.Schedule.{is_parked, IsLive}
 use Rattle.gt_schedule.specs.declared.status.Ticket.{Ticket}
 use Rattle.gt_book.specs.declared.answers.Commit.{Commit}
 use Rattle.gt_book.specs.Steps.{DidCommit}
-use Rattle.gt_book.specs.View.{BookView, outcome_of}
+use Rattle.gt_book.specs.View.{BookView, outcome_of, receiver_of, stands_for, is_at, is_parked_at, is_waiting}
+use Rattle.gt_book.proofs.Committing.{receiver-at}
+use Rattle.gt_model.specs.declared.script.CaseKind.{CaseKind}
+use Rattle.gt_rules.specs.Operations.{offers, receives_from}
+use Rattle.std.proofs.lemmas.Bool.{and_from, eq-eqb}
 use Rattle.gt_rows.specs.declared.answers.BlockDone.{BlockDone}
 use Rattle.gt_rows.specs.Lent.{IsPlaced}
 use Rattle.gt_rows.specs.Rows.{Parts, Answers, Blocks, BlocksBy, BlockCases, BlockRow}
@@ -63,12 +67,12 @@ block-answer new did done entry tells =
     ] entry
 
 pub block-receives : (old : Parts) (ticket : Ticket) (r : Rec) (book : BookView) (did : Option Commit) (commit : Commit) (done : BlockDone) → outcome_of old.book ≡ None → IsLive old.book.schedule ticket
-    → did ≡ Some commit → ReceivesBy old.rec old.book (plainly ticket.g) r book did (received old.rec (clock old.book.state 0)) → Tells BlockDone.Over BlockDone.Received commit done
+    → did ≡ Some commit → ReceivesBy old.rec old.book (receiver_of old.book.script old.book.state ticket.g old.rec.id) r book did (received old.rec (clock old.book.state 0)) → Tells BlockDone.Over BlockDone.Received commit done
     → BlockRow old ticket (record { heap = old.heap; rec = r; book = book }) done
 block-receives old ticket r book did commit done running live is tried tells =
     let now : Option (ℕ × Option ℕ) = received old.rec (clock old.book.state 0) in
-    let f : Full old.rec old.book (plainly ticket.g) r book commit now =
-    full old.rec old.book (plainly ticket.g) r book commit now (subst (λ did. ReceivesBy old.rec old.book (plainly ticket.g) r book did now) is tried) in
+    let f : Full old.rec old.book (receiver_of old.book.script old.book.state ticket.g old.rec.id) r book commit now =
+    full old.rec old.book (receiver_of old.book.script old.book.state ticket.g old.rec.id) r book commit now (subst (λ did. ReceivesBy old.rec old.book (receiver_of old.book.script old.book.state ticket.g old.rec.id) r book did now) is tried) in
     block-live old ticket (record { heap = old.heap; rec = r; book = book }) done running live
     (subst (BlocksBy old ticket.g (record { heap = old.heap; rec = r; book = book }) done) (sym f.is)
     (record { entered = f.takes.entered; rec = f.takes.rec; heap = refl; answer = block-answer book commit done f.takes.answer tells }))
@@ -79,3 +83,17 @@ pub placed-received : (h : LazyHeap) (r : Rec) (b : BookView) (p : Party) (r' : 
 placed-received h r b p r' b' did commit got is tried placed =
     let f : Full r b p r' b' commit got = full r b p r' b' commit got (subst (λ did. ReceivesBy r b p r' b' did got) is tried) in
     subst (IsPlaced h) (sym f.takes.rec) (record { here = placed.here; elsewhere = placed.elsewhere })
+
+-- a goroutine that is parked where it receives from a timer is parked there as the party that receives
+at-receiver : (b : BookView) (g t : ℕ) → stands_for b.script b.state g t ≡ true → is_at b.script b.state (receiver_of b.script b.state g t) (receives_from t) ≡ true
+at-receiver b g t waits =
+    elim (stands_at b.script b.state g) as (λ o. stands_at b.script b.state g ≡ o → (elim o as (λ o. Bool) [ None ↦ false | Some i ↦ offers (receives_from t) i ]) ≡ true
+    → is_at b.script b.state (receiver_of b.script b.state g t) (receives_from t) ≡ true) [
+      | None ↦ λ e h. cc
+      | Some i ↦ λ e h. ap (λ (o : Option CaseKind). elim o as (λ o. Bool) [ None ↦ false | Some kind ↦ receives_from t kind ]) (receiver-at b.script b.state g t i e h) ∙ eq-eqb t t refl
+    ] refl waits
+
+pub parked-receiver : (b : BookView) (ticket : Ticket) (t : ℕ) → IsLive b.schedule ticket → stands_for b.script b.state ticket.g t ≡ true
+    → is_parked_at b.script b.state b.schedule (receiver_of b.script b.state ticket.g t) (receives_from t) ≡ true
+parked-receiver b ticket t live waits =
+    and_from (is_waiting b.schedule ticket.g) _ (ap is_parked live) (at-receiver b ticket.g t waits)

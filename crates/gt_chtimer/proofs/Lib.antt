@@ -6,3 +6,4 @@ pub mod Receiving
 pub mod Delivering
 pub mod Blocking
 pub mod Setting
+pub mod Polling

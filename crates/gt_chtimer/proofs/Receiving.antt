@@ -56,12 +56,12 @@ channel-declared script s r agrees h =
     setting_declared script r.id (timer_setting script r.id (channel-timer script r.id r.kind h agrees.kind).timer)
 
 -- what is received, by the shown due time
-record Got (r : Rec) (now due : ℕ) (next : Option ℕ) : Type 0 where
-  shows : shown r ≡ Some due
-  come : due ≤ now
-  left : next ≡ due_left r.kind r.period due now
+pub record Got (r : Rec) (now due : ℕ) (next : Option ℕ) : Type 0 where
+  pub shows : shown r ≡ Some due
+  pub come : due ≤ now
+  pub left : next ≡ due_left r.kind r.period due now
 
-abbrev gets : Rec → ℕ → ℕ → Bool → Option (ℕ × Option ℕ)
+abbrev pub gets : Rec → ℕ → ℕ → Bool → Option (ℕ × Option ℕ)
 gets r now at b = if b then Some (at, due_left r.kind r.period at now) else None
 
 got-due : (r : Rec) (now due at : ℕ) (next : Option ℕ) (b : Bool) → nat_le at now ≡ b → shown r ≡ Some at
@@ -77,7 +77,7 @@ got-due r now due at next true le shows is =
     }
 got-due r now due at next false le shows is = cc
 
-got : (r : Rec) (now due : ℕ) (next : Option ℕ) → received r now ≡ Some (due, next) → Got r now due next
+pub got : (r : Rec) (now due : ℕ) (next : Option ℕ) → received r now ≡ Some (due, next) → Got r now due next
 got r now due next is =
     elim (shown r) as (λ o. shown r ≡ o → option_and_then (λ (at : ℕ). gets r now at (nat_le at now)) o ≡ Some (due, next) → Got r now due next) [
       | None ↦ λ q h. cc
@@ -85,7 +85,7 @@ got r now due next is =
     ] refl is
 
 -- what a record with a channel leaves
-got-none : (r : Rec) (now due : ℕ) (next : Option ℕ) → r.kind ≡ RecKind.Timer → Got r now due next → next ≡ None
+pub got-none : (r : Rec) (now due : ℕ) (next : Option ℕ) → r.kind ≡ RecKind.Timer → Got r now due next → next ≡ None
 got-none r now due next kind g = g.left ∙ ap (λ kind. due_left kind r.period due now) kind
 
 -- the receive may come

@@ -15,7 +15,7 @@ use Rattle.gt_rec.specs.Rec.{Rec, BitsRight, shown}
 use Rattle.gt_rec.specs.Changes.{armed}
 use Rattle.gt_lazy.specs.Slots.{LazyHeap}
 use Rattle.gt_schedule.specs.declared.status.RunStatus.{RunStatus}
-use Rattle.gt_schedule.specs.Schedule.{plainly, status_of}
+use Rattle.gt_schedule.specs.Schedule.{status_of}
 use Rattle.gt_book.specs.declared.answers.Did.{Did}
 use Rattle.gt_book.specs.declared.answers.Op.{Op}
 use Rattle.gt_book.specs.declared.answers.TimerOp.{TimerOp}
@@ -68,7 +68,7 @@ set-plain_kept old g did r new done lawful stands lent steps echo =
     elim (outcome_of old) as (λ o. outcome_of old ≡ o → IsLentRec new r) [
       | None ↦ λ running.
           let p : Panicked old g new SetDone.Over SetDone.Done done = panicked SetDone.Over SetDone.Done old g (TimerOp.Set r.id i.d i.anew) new did done (set-step old g r.id i) running steps echo in
-          record { agrees = agrees-panicked old (plainly g) p.panics.reason new r lawful p.entered lent.agrees; bits = lent.bits }
+          record { agrees = agrees-panicked old p.panics.party p.panics.reason new r lawful p.entered lent.agrees; bits = lent.bits }
       | Some outcome ↦ λ ended.
           let over : IsOver old outcome new SetDone.Over done = is-over SetDone.Over SetDone.Done old g outcome new did done ended steps echo in
           subst (λ b. IsLentRec b r) (sym over.same) lent

@@ -3,11 +3,9 @@ use Rattle.std.proofs.Common.{◌≡◌, ◌⊎◌, ◌<◌, ◌||◌, length, I
 use Rattle.gt_model.specs.declared.entry.Outcome.{Outcome}
 use Rattle.gt_model.specs.declared.script.Instr.{Instr}
 use Rattle.gt_model.specs.declared.entry.Entry.{Entry}
-use Rattle.gt_model.specs.declared.entry.Reason.{Reason}
-use Rattle.gt_model.specs.declared.script.Script.{Script}
 use Rattle.gt_model.specs.Good.{is_setting}
-use Rattle.gt_rules.specs.State.{State, stands_at, stands, goroutine_at, due_of}
-use Rattle.gt_rules.specs.Panics.{fault, fault_at, panic_of, panic_at}
+use Rattle.gt_rules.specs.State.{stands_at, stands, due_of}
+use Rattle.gt_rules.specs.Panics.{fault, panic_at}
 use Rattle.gt_rules.specs.Legal.{Does}
 use Rattle.gt_rules.specs.declared.change.Setting.{Setting}
 use Rattle.gt_facts.proofs.Lookups.{Standing, standing}
@@ -15,8 +13,9 @@ use Rattle.gt_facts.proofs.Named.{names-instr_at}
 use Rattle.gt_facts.proofs.Within.{setting_within}
 use Rattle.gt_rec.specs.Changes.{disarmed}
 use Rattle.gt_schedule.specs.declared.status.RunStatus.{RunStatus}
-use Rattle.gt_schedule.specs.Schedule.{plainly, status_of}
+use Rattle.gt_schedule.specs.Schedule.{status_of}
 use Rattle.gt_book.specs.declared.answers.Op.{Op}
+use Rattle.gt_book.proofs.Firm.{calm-standing}
 use Rattle.gt_book.proofs.Going.{in_hand-goes}
 use Rattle.gt_rows.specs.Lent.{IsLentRec}
 use Rattle.gt_chtimer.proofs.Keeping.{agrees-panicked, agrees-set, shown-declared}
@@ -47,16 +46,6 @@ pub stop-step : (b : BookView) (g t : ℕ) → StopsAt b g t → Panics b g ⊎ 
 stop-step b g t h = panic-or-needs b g (Instr.Stop t) (TimerOp.Stop t) (stop-stands b g t h) refl
 
 -- ---- with the record
-
--- who stands at an instruction without a fault makes no panic
-calm-standing : (script : Script) (s : State) (g : ℕ) (i : Instr) → stands_at script s g ≡ Some i → fault script s i ≡ None → panic_at script s g ≡ None
-calm-standing script s g i e faultless =
-    elim (goroutine_at s g) as (λ o. (elim o as (λ _. Option Instr) [ None ↦ None | Some r ↦ stands script r ]) ≡ Some i → (elim o as (λ _. Option (ℕ × Reason)) [ None ↦ None | Some r ↦ panic_of script s r ]) ≡ None) [
-      | None ↦ λ h. refl
-      | Some r ↦ λ h.
-          let here : panic_of script s r ≡ fault_at script s i = ap (λ (o : Option Instr). elim o [ None ↦ None | Some i ↦ fault_at script s i ]) h in
-          here ∙ ap (λ (o : Option Reason). elim o [ None ↦ None | Some reason ↦ Some (0, reason) ]) faultless
-    ] e
 
 -- a step that needs the record is of an instruction without a fault
 needs-faultless : (b : BookView) (g t : ℕ) → StopsAt b g t → next_of b g ≡ Some (Step.Needs (TimerOp.Stop t)) → fault b.script b.state (Instr.Stop t) ≡ None
@@ -102,7 +91,7 @@ plain-kept old g did r new done lawful stands lent steps echo =
       | None ↦ λ running.
           let p : Panicked old g new StopDone.Over StopDone.Done done =
           panicked StopDone.Over StopDone.Done old g (TimerOp.Stop r.id) new did done (stop-step old g r.id stands) running steps echo in
-          record { agrees = agrees-panicked old (plainly g) p.panics.reason new r lawful p.entered lent.agrees; bits = lent.bits }
+          record { agrees = agrees-panicked old p.panics.party p.panics.reason new r lawful p.entered lent.agrees; bits = lent.bits }
       | Some outcome ↦ λ ended.
           let over : IsOver old outcome new StopDone.Over done = is-over StopDone.Over StopDone.Done old g outcome new did done ended steps echo in
           subst (λ b. IsLentRec b r) (sym over.same) lent

@@ -6,8 +6,7 @@ ghost use Rattle.gt_rec.specs.Rec.{BitsRight, has_channel, shown};
 ghost use Rattle.gt_rec.specs.Changes.{received};
 ghost use Rattle.gt_schedule.specs.Schedule.{HasMarkRoom, IsLive};
 ghost use Rattle.gt_schedule.specs.Schedule as schedule;
-ghost use Rattle.gt_rules.specs.Operations.{receives_from};
-ghost use Rattle.gt_book.specs.View.{is_at, outcome_of};
+ghost use Rattle.gt_book.specs.View.{stands_for, outcome_of};
 ghost use Rattle.gt_rows.specs.Lent.{IsKept, IsLent, IsPlaced, Settles, joins};
 ghost use Rattle.gt_rows.specs.Rows.{BlockRow, Blocks};
 
@@ -16,14 +15,14 @@ use gt_book::{Book, Commit};
 use gt_lazy::Lazy;
 use gt_rec::TimerRec;
 use gt_rows::BlockDone;
-use gt_schedule::{Ticket, plainly};
+use gt_schedule::Ticket;
 
-/// A goroutine that was parked with this ticket at a receive from this timer: where the timer's value has come it receives it, and else the record
+/// A goroutine that was parked with this ticket at a receive from this timer, plainly or as a case of its choice: where the timer's value has come it receives it, and else the record
 /// counts it. The record joins the caller's heap where it needs one and is in none (Go 1.23, runtime/time.go).
 pub fn sec_block(heap: &mut Lazy, rec: &mut TimerRec, book: &mut Book, ticket: Ticket) -> BlockDone
     requires lent { IsLent book.old heap.old rec.old }
     requires channel { IsTrue (has_channel rec.old.kind) }
-    requires waits { IsLive book.old.schedule ticket → IsTrue (is_at book.old.script book.old.state (schedule.plainly ticket.g) (receives_from rec.old.id)) }
+    requires waits { IsLive book.old.schedule ticket → IsTrue (stands_for book.old.script book.old.state ticket.g rec.old.id) }
     requires room { IsLive book.old.schedule ticket → HasMarkRoom book.old.schedule ticket.g }
     ensures row { BlockRow (record { heap = heap.old; rec = rec.old; book = book.old }) ticket (record { heap = heap.new; rec = rec.new; book = book.new }) result }
     ensures kept { IsKept book.new heap.new rec.new }
@@ -34,7 +33,8 @@ pub fn sec_block(heap: &mut Lazy, rec: &mut TimerRec, book: &mut Book, ticket: T
     if !book.live(ticket) {
         return BlockDone::Gone;
     }
-    let Some(commit) = receive(rec, book, plainly(ticket.g)) else {
+    let p = book.receiver(ticket.g, rec.id);
+    let Some(commit) = receive(rec, book, p) else {
         return count(heap, rec, book, ticket);
     };
     match commit {
@@ -47,7 +47,7 @@ pub fn sec_block(heap: &mut Lazy, rec: &mut TimerRec, book: &mut Book, ticket: T
 fn count(heap: &mut Lazy, rec: &mut TimerRec, book: &mut Book, ticket: Ticket) -> BlockDone
     requires lent { IsLent book.old heap.old rec.old }
     requires live { IsLive book.old.schedule ticket }
-    requires waits { IsTrue (is_at book.old.script book.old.state (schedule.plainly ticket.g) (receives_from rec.old.id)) }
+    requires waits { IsTrue (stands_for book.old.script book.old.state ticket.g rec.old.id) }
     requires room { HasMarkRoom book.old.schedule ticket.g }
     ensures row { Blocks (record { heap = heap.old; rec = rec.old; book = book.old }) ticket.g (record { heap = heap.new; rec = rec.new; book = book.new }) result }
     ensures kept { IsKept book.new heap.new rec.new }

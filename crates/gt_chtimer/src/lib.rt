@@ -3,6 +3,7 @@
 
 mod block;
 mod deliver;
+mod poll;
 mod receive;
 mod set;
 mod stop;
@@ -10,6 +11,7 @@ mod unblock;
 
 pub use block::sec_block;
 pub use deliver::sec_deliver;
+pub use poll::sec_recv;
 pub use set::sec_set;
 pub use stop::sec_stop;
 pub use unblock::sec_unblock;

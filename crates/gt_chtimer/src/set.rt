@@ -50,9 +50,10 @@ pub fn sec_set(heap: &mut Lazy, rec: &mut TimerRec, book: &mut Book, g: u32) -> 
                 due,
             )
         }
-        Did::Parked | Did::Timer(TimerOp::Stop(_) | TimerOp::Enrolled(_) | TimerOp::Sleep(_)) => {
-            unreachable!()
-        }
+        Did::Parked
+        | Did::Timer(
+            TimerOp::Stop(_) | TimerOp::Poll(_) | TimerOp::Enrolled(_) | TimerOp::Sleep(_),
+        ) => unreachable!(),
     }
 }
 

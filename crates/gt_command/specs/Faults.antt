@@ -33,6 +33,7 @@ cause_word Why.Twice = codes "twice"
 cause_word Why.Missing = codes "missing"
 cause_word Why.Number = codes "number"
 cause_word Why.Nest = codes "nest"
+cause_word Why.Select = codes "select"
 cause_word Why.Many = codes "many"
 cause_word Why.NoMain = codes "nomain"
 

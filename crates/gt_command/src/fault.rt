@@ -130,6 +130,7 @@ fn cause_word(why: Why) -> &'static str
         Why::Missing => "missing",
         Why::Number => "number",
         Why::Nest => "nest",
+        Why::Select => "select",
         Why::Many => "many",
         Why::NoMain => "nomain",
     }

@@ -17,3 +17,9 @@ pub mod Pairs
 pub mod Buffers
 pub mod Orders
 pub mod NobodySends
+pub mod Chooses
+pub mod Defaults
+pub mod Polls
+pub mod ChoosesClosed
+pub mod FirstFault
+pub mod TwoPolls

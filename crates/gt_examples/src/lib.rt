@@ -25,6 +25,12 @@ ghost use Rattle.gt_examples.specs.Pairs as pairs;
 ghost use Rattle.gt_examples.specs.Buffers as buffers;
 ghost use Rattle.gt_examples.specs.Orders as orders;
 ghost use Rattle.gt_examples.specs.NobodySends as nobody_sends;
+ghost use Rattle.gt_examples.specs.Chooses as chooses;
+ghost use Rattle.gt_examples.specs.Defaults as defaults;
+ghost use Rattle.gt_examples.specs.Polls as polls;
+ghost use Rattle.gt_examples.specs.ChoosesClosed as chooses_closed;
+ghost use Rattle.gt_examples.specs.FirstFault as first_fault;
+ghost use Rattle.gt_examples.specs.TwoPolls as two_polls;
 
 /// main sleeps for 5 ms and looks at the clock.
 pub fn sleeps_and_looks()
@@ -245,4 +251,81 @@ pub fn gives_the_second_value_first()
 pub fn waits_for_nobody()
     ensures history { History nobody_sends.script default_limits nobody_sends.history Outcome.Deadlock }
     ensures jumps { AllJump nobody_sends.script 0 (first_state nobody_sends.script) nobody_sends.history }
+{}
+
+/// A choice goes on at the body of the case whose channel is sent to.
+pub fn chooses()
+    ensures history { History chooses.script default_limits chooses.history Outcome.Exit }
+    ensures jumps { AllJump chooses.script 0 (first_state chooses.script) chooses.history }
+{}
+
+/// A value passes at a case that receives from another channel.
+pub fn passes_at_another_case()
+    ensures { IsVerdict chooses.script default_limits chooses.other_case (Verdict.Illegal 4) }
+{}
+
+/// A choice goes on at the body of another case.
+pub fn goes_on_at_another_case()
+    ensures { IsVerdict chooses.script default_limits chooses.other_body (Verdict.Illegal 5) }
+{}
+
+/// A choice whose timer was stopped goes on at its default.
+pub fn defaults()
+    ensures history { History defaults.script default_limits defaults.history Outcome.Exit }
+    ensures jumps { AllJump defaults.script 0 (first_state defaults.script) defaults.history }
+{}
+
+/// A choice with a default goes on at the case that gives a value.
+pub fn polls()
+    ensures history { History polls.script default_limits polls.history Outcome.Exit }
+    ensures jumps { AllJump polls.script 0 (first_state polls.script) polls.history }
+{}
+
+/// The default of a choice is taken over a case that gives a value.
+pub fn defaults_over_a_case()
+    ensures { IsVerdict polls.script default_limits polls.passed_by (Verdict.Illegal 3) }
+{}
+
+/// A choice with a case that sends to a closed channel goes on at another case.
+pub fn chooses_beside_a_closed_channel()
+    ensures history { History chooses_closed.script default_limits chooses_closed.receives Outcome.Exit }
+    ensures jumps { AllJump chooses_closed.script 0 (first_state chooses_closed.script) chooses_closed.receives }
+{}
+
+/// A choice of a case that sends to a closed channel panics.
+pub fn chooses_a_closed_channel()
+    ensures history { History chooses_closed.script default_limits chooses_closed.sends Outcome.Panic }
+    ensures jumps { AllJump chooses_closed.script 0 (first_state chooses_closed.script) chooses_closed.sends }
+{}
+
+/// A case that receives from a closed channel panics.
+pub fn panics_at_another_case()
+    ensures { IsVerdict chooses_closed.script default_limits chooses_closed.wrong_case (Verdict.Illegal 3) }
+{}
+
+/// A case of a choice names a timer that was not made: the panic has its number.
+pub fn first_faulty_case()
+    ensures history { History first_fault.script default_limits first_fault.history Outcome.Panic }
+    ensures jumps { AllJump first_fault.script 0 (first_state first_fault.script) first_fault.history }
+{}
+
+/// The panic of a choice has the number of a case that is not faulty.
+pub fn faults_at_another_case()
+    ensures { IsVerdict first_fault.script default_limits first_fault.wrong_case (Verdict.Illegal 2) }
+{}
+
+/// A choice with a faulty case goes on at its default.
+pub fn defaults_over_a_faulty_case()
+    ensures { IsVerdict first_fault.script default_limits first_fault.passed_by (Verdict.Illegal 2) }
+{}
+
+/// Two choices with a default each go on there, though one sends and the other receives.
+pub fn two_polls()
+    ensures history { History two_polls.script default_limits two_polls.history Outcome.Exit }
+    ensures jumps { AllJump two_polls.script 0 (first_state two_polls.script) two_polls.history }
+{}
+
+/// Two choices with a default meet.
+pub fn two_polls_meet()
+    ensures { IsVerdict two_polls.script default_limits two_polls.meet (Verdict.Illegal 3) }
 {}

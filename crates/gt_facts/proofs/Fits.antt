@@ -1,5 +1,5 @@
 -- What an entry that may come next changes is there to be changed: its goroutines live, its timer or its channel was made or is not yet, its clock ticks.
-use Rattle.std.proofs.Common.{◌≡◌, ℕ, ◌<◌, List, length, sym, subst, ◌∙◌, arith, Option, None, Some, true, false, is_some, IsTrue, refl, IfSome, IsSomeAnd}
+use Rattle.std.proofs.Common.{◌≡◌, ℕ, ◌<◌, List, length, sym, subst, ◌∙◌, arith, Option, None, Some, true, false, is_some, IsTrue, refl, IfSome, IsSomeAnd, MatchOption, ap}
 use Rattle.gt_model.specs.declared.script.Script.{Script}
 use Rattle.gt_model.specs.declared.script.Instr.{Instr}
 use Rattle.gt_model.specs.declared.entry.Entry.{Entry}
@@ -16,7 +16,7 @@ use Rattle.gt_rules.specs.declared.change.Move.{Move}
 use Rattle.gt_rules.specs.declared.change.Setting.{Setting}
 use Rattle.gt_rules.specs.declared.change.Trade.{Trade}
 use Rattle.gt_rules.specs.Change.{Change, change_of}
-use Rattle.gt_rules.specs.Legal.{May, Operates}
+use Rattle.gt_rules.specs.Legal.{May, MayPanic, ChoosesClosed, Operates, operation_at}
 use Rattle.gt_rules.specs.Panics.{panic_at, fault_at}
 use Rattle.gt_rules.specs.Finish.{Legal}
 use Rattle.gt_facts.specs.Formed.{IsFormed}
@@ -76,6 +76,19 @@ panics-live script s g n reason h =
       | Some i ↦ λ e k. stands-live script s g i e
     ] refl (panic_stands script s g ∙ h)
 
+chooses-live : (script : Script) (s : State) (p : Party) (o : Option CaseKind) (reason : Reason) → operation_at script s p ≡ o → ChoosesClosed s o reason → IsLive s p.g
+chooses-live script s p (Some kind) reason is h =
+    let at : AtOperation script s p kind = at_operation script s p kind is in
+    stands-live script s p.g at.instr at.stands
+chooses-live script s p None reason is h = absurd h
+
+may_panic-live : (script : Script) (s : State) (p : Party) (reason : Reason) → MayPanic script s p reason → IsLive s p.g
+may_panic-live script s p reason may =
+    elim (panic_at script s p.g) as (λ o. panic_at script s p.g ≡ o → MatchOption o (ChoosesClosed s (operation_at script s p) reason) (λ x. x ≡ (p.case_no, reason)) → IsLive s p.g) [
+      | None ↦ λ calm h. chooses-live script s p (operation_at script s p) reason refl h
+      | Some x ↦ λ is h. panics-live script s p.g p.case_no reason (is ∙ ap Some h)
+    ] refl may
+
 sleeps-live : (s : State) (g : ℕ) (P : ℕ → Type 0) → IsSomeAnd (sleeps_until s g) P → IsLive s g
 sleeps-live s g P h =
     let a : Asleep s g = sleeper s g P h in
@@ -85,9 +98,9 @@ live-Maker : (script : Script) (s : State) (m p : Option (ℕ × Move)) (k : Opt
 live-Maker script s m q k (calls g i n does goes leaves) = stands-live script s g i does.stands
 live-Maker script s m q k (receives p t due call timer is come) = operates-live script s p (CaseKind.Recv t) call
 live-Maker script s m q k (trades p kind call ready) = operates-live script s p kind call
-live-Maker script s m q k (pairs from to c v sends gets chan none other) = operates-live script s from (CaseKind.Send c v) sends
+live-Maker script s m q k (pairs from to c v sends gets chan none other waits) = operates-live script s from (CaseKind.Send c v) sends
 live-Maker script s m q k (wakes g h) = sleeps-live s g _ h
-live-Maker script s m q k (panics p reason h) = panics-live script s p.g p.case_no reason h
+live-Maker script s m q k (panics p reason h) = may_panic-live script s p reason h
 live-Maker script s m q k _ = tt
 
 pub mover-fits : (script : Script) (s : State) (e : Entry) → May script s e → IfSome (change_of e).mover (λ (m : ℕ × Move). IsLive s m.0)
@@ -95,7 +108,7 @@ mover-fits script s e may = live-Maker script s (change_of e).mover (change_of e
 
 -- and so does its partner
 live-partner : (script : Script) (s : State) (m p : Option (ℕ × Move)) (k : Option (ℕ × ℕ)) → Maker script s m p k → IfSome p (λ (m : ℕ × Move). IsLive s m.0)
-live-partner script s m q k (pairs from to c v sends gets chan none other) = operates-live script s to (CaseKind.Recv c) gets
+live-partner script s m q k (pairs from to c v sends gets chan none other waits) = operates-live script s to (CaseKind.Recv c) gets
 live-partner script s m q k _ = tt
 
 pub partner-fits : (script : Script) (s : State) (e : Entry) → May script s e → IfSome (change_of e).partner (λ (m : ℕ × Move). IsLive s m.0)

@@ -33,10 +33,10 @@ use Rattle.gt_rules.specs.Legal.{May, Operates}
 use Rattle.gt_rules.specs.Operations.{operation}
 use Rattle.gt_rules.specs.Finish.{Legal}
 use Rattle.gt_rules.specs.History.{AllLegal, state_after}
-use Rattle.gt_rules.specs.Places.{silent, silent_at, settled}
+use Rattle.gt_rules.specs.Places.{silent, silent_at, settled, next_of, place_after}
 use Rattle.gt_facts.specs.Formed.{IsFormed, IsFormedChannel, IsOnWay, IsPlaced, IsPlacedIn}
 use Rattle.gt_model.proofs.GoodCode.{HasItem, has_item, all_at, main_within}
-use Rattle.gt_facts.proofs.Landing.{way-forward, passes, Landed, landed}
+use Rattle.gt_facts.proofs.Landing.{way-forward, next-way, passes, Landed, landed}
 use Rattle.gt_facts.proofs.Lookups.{Standing, standing, AtOperation, at_operation}
 use Rattle.gt_facts.proofs.Makers.{Maker, calls, receives, trades, pairs, wakes, ticks, panics, maker, Leaves, Sets, sets, Trades, trades-May, Begins, AllBegin, starts, starts-few}
 use Rattle.gt_facts.proofs.Within.{chan_within}
@@ -153,6 +153,20 @@ lands-placed script p good way =
     let to : Landed (code_of script p.func) p = landed script (code_of script p.func) p (good_code script p.func p.at good way.within) way in
     subst (λ f. IsPlacedIn (code_of script f) (settled script p) Mode.At) (sym to.func) (to.way, to.stands)
 
+-- where a goroutine of a function goes on after an operation with any case number
+goes_on-way : (script : Script) (p : Place) (n : ℕ) → IsGood script → IsOnWay (code_of script p.func) p.at → IsOnWay (code_of script p.func) (p.at + 1)
+    → IsOnWay (code_of script p.func) (next_of (instr_at script p) n (p.at + 1))
+goes_on-way script p n good way behind =
+    elim (instr_at script p) as (λ o. instr_at script p ≡ o → IsOnWay (code_of script p.func) (next_of o n (p.at + 1))) [
+      | None ↦ λ on. behind
+      | Some x ↦ λ on. next-way script (code_of script p.func) p.at n x (good_code script p.func p.at good way.within) way on behind
+    ] refl
+
+after-placed : (script : Script) (p : Place) (n : ℕ) → IsGood script → IsOnWay (code_of script p.func) p.at → IsOnWay (code_of script p.func) (p.at + 1)
+    → IsPlacedIn (code_of script (place_after script n p).func) (place_after script n p) Mode.At
+after-placed script p n good way behind =
+    lands-placed script (record p { at = next_of (instr_at script p) n (p.at + 1) }) good (goes_on-way script p n good way behind)
+
 -- the beginning of a function is in no loop
 begins : (script : Script) (f : ℕ) → IsGood script → f < length script.funcs → IsOnWay (code_of script f) 0
 begins script f good h =
@@ -192,18 +206,18 @@ formed-first script good =
 
 -- ---- goroutines
 
-moved-formed : (script : Script) (s : State) (g : ℕ) (i : Instr) (r : Goroutine) → IsGood script → IsFormed script s → stands_at script s g ≡ Some i → is_finish i ≡ false → goroutine_at s g ≡ Some r
-    → IsFormedGoroutine script (moved_on script r)
-moved-formed script s g i r good formed h next e = record {
-  world = formed.world.goroutines g r e;
-  placed = lands-placed script (record r.place { at = r.place.at + 1 }) good (follows script s g i r good formed h next e);
-  until = tt;
-}
-
 pub placed_inside : (code : List Instr) (p : Place) (m : Mode) → IsPlacedIn code p m → IsOnWay code p.at
 placed_inside code p Mode.At h = h.0
 placed_inside code p (Mode.Sleeping until) h = h.0
 placed_inside code p Mode.Ended h = h
+
+moved-formed : (script : Script) (s : State) (g n : ℕ) (i : Instr) (r : Goroutine) → IsGood script → IsFormed script s → stands_at script s g ≡ Some i → is_finish i ≡ false
+    → goroutine_at s g ≡ Some r → IsFormedGoroutine script (moved_on script n r)
+moved-formed script s g n i r good formed h next e = record {
+  world = formed.world.goroutines g r e;
+  placed = after-placed script r.place n good (placed_inside (code_of script r.place.func) r.place r.mode (formed.placed g r e)) (follows script s g i r good formed h next e);
+  until = tt;
+}
 
 -- a sleeper goes on behind its sleep
 placed_next : (code : List Instr) (p : Place) (now : ℕ) (m : Mode) → IsPlacedIn code p m → IsSomeAnd (until_of m) (λ until. until ≤ now) → IsOnWay code (p.at + 1)
@@ -211,13 +225,14 @@ placed_next code p now (Mode.Sleeping until) h k = h.1
 placed_next code p now _ h k = absurd k
 
 woken-formed : (script : Script) (s : State) (g now : ℕ) (r : Goroutine) → IsGood script → IsFormed script s → IsSomeAnd (sleeps_until s g) (λ until. until ≤ now) → goroutine_at s g ≡ Some r
-    → IsFormedGoroutine script (moved_on script r)
+    → IsFormedGoroutine script (moved_on script 0 r)
 woken-formed script s g now r good formed h e =
     let slept : IsSomeAnd (until_of r.mode) (λ until. until ≤ now) =
     subst (λ (o : Option Goroutine). IsSomeAnd (elim (option_map (λ (q : Goroutine). q.mode) o) [ None ↦ None | Some mode ↦ until_of mode ]) (λ until. until ≤ now)) e h in
     record {
       world = formed.world.goroutines g r e;
-      placed = lands-placed script (record r.place { at = r.place.at + 1 }) good (placed_next (code_of script r.place.func) r.place now r.mode (formed.placed g r e) slept);
+      placed = after-placed script r.place 0 good (placed_inside (code_of script r.place.func) r.place r.mode (formed.placed g r e))
+          (placed_next (code_of script r.place.func) r.place now r.mode (formed.placed g r e) slept);
       until = tt;
     }
 
@@ -231,7 +246,7 @@ ended-formed script s g r formed e = record {
 -- a goroutine that leaves its instruction
 leaves-formed : (script : Script) (s : State) (g : ℕ) (i : Instr) (m : Move) (r : Goroutine) → IsGood script → IsFormed script s → stands_at script s g ≡ Some i → Leaves i m → goroutine_at s g ≡ Some r
     → IsFormedGoroutine script (moved script m r)
-leaves-formed script s g i (Move.GoesOn case_no) r good formed h next e = moved-formed script s g i r good formed h next e
+leaves-formed script s g i (Move.GoesOn case_no) r good formed h next e = moved-formed script s g case_no i r good formed h next e
 leaves-formed script s g i (Move.FallsAsleep until) r good formed h leaves e =
     record {
       world = formed.world.goroutines g r e;
@@ -325,23 +340,23 @@ length-starts script s gs (x ∷ xs) =
 
 -- who goes on after its operation
 operates-formed : (script : Script) (s : State) (p : Party) (kind : CaseKind) (r : Goroutine) → IsGood script → IsFormed script s → Operates script s p kind → goroutine_at s p.g ≡ Some r
-    → IsFormedGoroutine script (moved_on script r)
+    → IsFormedGoroutine script (moved_on script p.case_no r)
 operates-formed script s p kind r good formed call e =
     let at : AtOperation script s p kind = at_operation script s p kind call.stands in
-    moved-formed script s p.g at.instr r good formed at.stands (operation-next at.instr p.case_no kind at.has) e
+    moved-formed script s p.g p.case_no at.instr r good formed at.stands (operation-next at.instr p.case_no kind at.has) e
 
 mover-formed : (script : Script) (s : State) (m p : Option (ℕ × Move)) (k : Option (ℕ × ℕ)) → IsGood script → IsFormed script s → Maker script s m p k
     → AreGoroutines script (with_mover script s.goroutines m)
 mover-formed script s m q k good formed (calls g i n does goes leaves) =
     changed_goroutines script s g (moved script n) formed (λ r e. leaves-formed script s g i n r good formed does.stands leaves e)
 mover-formed script s m q k good formed (receives p t due call timer is come) =
-    changed_goroutines script s p.g (moved_on script) formed (λ r e. operates-formed script s p (CaseKind.Recv t) r good formed call e)
+    changed_goroutines script s p.g (moved_on script p.case_no) formed (λ r e. operates-formed script s p (CaseKind.Recv t) r good formed call e)
 mover-formed script s m q k good formed (trades p kind call ready) =
-    changed_goroutines script s p.g (moved_on script) formed (λ r e. operates-formed script s p kind r good formed call e)
-mover-formed script s m q k good formed (pairs from to c v sends gets chan none other) =
-    changed_goroutines script s from.g (moved_on script) formed (λ r e. operates-formed script s from (CaseKind.Send c v) r good formed sends e)
+    changed_goroutines script s p.g (moved_on script p.case_no) formed (λ r e. operates-formed script s p kind r good formed call e)
+mover-formed script s m q k good formed (pairs from to c v sends gets chan none other waits) =
+    changed_goroutines script s from.g (moved_on script from.case_no) formed (λ r e. operates-formed script s from (CaseKind.Send c v) r good formed sends e)
 mover-formed script s m q k good formed (wakes g h) =
-    changed_goroutines script s g (moved_on script) formed (λ r e. woken-formed script s g (clock_of s g) r good formed h e)
+    changed_goroutines script s g (moved_on script 0) formed (λ r e. woken-formed script s g (clock_of s g) r good formed h e)
 mover-formed script s m q k good formed (panics p reason h) =
     changed_goroutines script s p.g (moved script Move.Panics) formed (λ r e. (goroutines-of script s formed).each p.g r e)
 mover-formed script s m q k good formed _ = goroutines-of script s formed
@@ -349,11 +364,11 @@ mover-formed script s m q k good formed _ = goroutines-of script s formed
 -- the partner is another goroutine than the mover, and stands where it stood
 partner-formed : (script : Script) (s : State) (m p : Option (ℕ × Move)) (k : Option (ℕ × ℕ)) → IsGood script → IsFormed script s → Maker script s m p k
     → AreGoroutines script (with_mover script s.goroutines m) → AreGoroutines script (with_mover script (with_mover script s.goroutines m) p)
-partner-formed script s m q k good formed (pairs from to c v sends gets chan none other) all = record {
-  each = all_numbered-change (IsFormedGoroutine script) (with_mover script s.goroutines m) to.g (moved_on script) all.each
+partner-formed script s m q k good formed (pairs from to c v sends gets chan none other waits) all = record {
+  each = all_numbered-change (IsFormedGoroutine script) (with_mover script s.goroutines m) to.g (moved_on script to.case_no) all.each
       (λ r e.
       operates-formed script s to (CaseKind.Recv c) r good formed gets
-      (sym (numbered-change_other s.goroutines from.g to.g (moved_on script) (λ same. other (sym same))) ∙ e));
+      (sym (numbered-change_other s.goroutines from.g to.g (moved_on script from.case_no) (λ same. other (sym same))) ∙ e));
 }
 partner-formed script s m q k good formed _ all = all
 

@@ -5,9 +5,11 @@ use Rattle.std.proofs.lemmas.Option.{slice_get_within}
 use Rattle.gt_model.specs.declared.script.Script.{Script}
 use Rattle.gt_model.specs.declared.script.Instr.{Instr}
 use Rattle.gt_model.specs.declared.script.Place.{Place}
-use Rattle.gt_model.specs.Good.{IsGoodCode, IsGoodLoop, IsGoodEnd, is_finish, meets_instr}
-use Rattle.gt_rules.specs.Places.{at_top, at_end, passes_left, silent, silent_at, go_on, settled_in}
+use Rattle.gt_model.specs.declared.script.Case.{Case}
+use Rattle.gt_model.specs.Good.{IsGoodCode, IsGoodLoop, IsGoodEnd, IsGoodTarget, HasGoodTargets, is_finish, meets_instr}
+use Rattle.gt_rules.specs.Places.{at_top, at_end, passes_left, silent, silent_at, go_on, settled_in, body_of, next_index}
 use Rattle.gt_facts.specs.Formed.{IsOnWay}
+use Rattle.gt_model.proofs.GoodCode.{all_at}
 
 -- behind an instruction that is no end stands another
 pub follows_in : (script : Script) (code : List Instr) (i : ℕ) (x : Instr) → IsGoodCode script code → slice_get code i ≡ Some x → is_finish x ≡ false → i + 1 < length code
@@ -40,6 +42,24 @@ way-forward script code i x good way on next other = record {
         | false ↦ λ e. let differ : j ≡ i → ⊥ = eqb-false j i e in way.entered j depth past top (omega arith) (omega arith)
       ] refl;
 }
+
+-- a good target is on the way: who goes there comes into no loop but at its top
+pub way-to : (script : Script) (code : List Instr) (i to : ℕ) (x : Instr) → IsOnWay code i → slice_get code i ≡ Some x → passes x ≡ false → IsGoodTarget code i to → IsOnWay code to
+way-to script code i to x way on other target =
+    let further : i < to = target.ahead in
+    record {
+      within = target.within;
+      entered = λ j depth past top before inside.
+          elim (eqb j i) as (λ b. eqb j i ≡ b → ⊥) [
+            | true ↦ λ e. let same : j ≡ i = eqb-true j i e in passes-same code i depth past x on other (subst (λ k. slice_get code k ≡ Some (Instr.LoopTop depth 0 past)) same top)
+            | false ↦ λ e.
+                let differ : j ≡ i → ⊥ = eqb-false j i e in
+                elim (ltb i j) as (λ b. ltb i j ≡ b → ⊥) [
+                  | true ↦ λ l. let over : past ≤ to = target.clear j depth 0 past top (ltb-true i j l) before in omega arith
+                  | false ↦ λ l. let not_ahead : j ≤ i = ltb-false i j l in way.entered j depth past top (omega arith) (omega arith)
+                ] refl
+          ] refl;
+    }
 
 -- ---- what a step leads to
 
@@ -149,6 +169,9 @@ leads script code p q (Instr.LoopTop depth (suc count) past) good way on e =
     (record { way = way-forward script code p.at (Instr.LoopTop depth (suc count) past) good way on refl refl; func = refl })
 leads script code p q (Instr.LoopEnd depth top) good way on e =
     let is : at_end p depth top ≡ q = cc in subst (Leads code p) is (end-leads script code p depth top good way on)
+leads script code p q (Instr.Jump to) good way on e =
+    let is : record p { at = to } ≡ q = cc in
+    subst (Leads code p) is (record { way = way-to script code p.at to (Instr.Jump to) way on refl (good.jumps p.at to on); func = refl })
 leads script code p q _ good way on e = cc
 
 step-leads : (script : Script) (code : List Instr) (p q : Place) → IsGoodCode script code → IsOnWay code p.at → silent_at code p ≡ Some q → Leads code p q
@@ -176,6 +199,7 @@ abbrev meets_by : ℕ → List Instr → ℕ → Option Instr → Bool
 meets_by g code i None = false
 meets_by g code i (Some (Instr.LoopTop depth count past)) = meets_instr g code (cond (eqb count 0) past (i + 1))
 meets_by g code i (Some (Instr.LoopEnd depth top)) = false
+meets_by g code i (Some (Instr.Jump to)) = meets_instr g code to
 meets_by g code i (Some _) = true
 
 abbrev meets_here : ℕ → List Instr → ℕ → Option Instr → Bool
@@ -184,6 +208,7 @@ meets_here g code i o = elim o [
   | Some x ↦ elim x [
     | Instr.LoopTop depth count past ↦ meets_instr g code (cond (eqb count 0) past (i + 1))
     | Instr.LoopEnd depth top ↦ false
+    | Instr.Jump to ↦ meets_instr g code to
     | _ ↦ true
   ]
 ]
@@ -192,6 +217,7 @@ meets-same : (g : ℕ) (code : List Instr) (i : ℕ) (o : Option Instr) → meet
 meets-same g code i None = refl
 meets-same g code i (Some (Instr.LoopTop depth count past)) = refl
 meets-same g code i (Some (Instr.LoopEnd depth top)) = refl
+meets-same g code i (Some (Instr.Jump to)) = refl
 meets-same g code i (Some x) = refl
 
 meets-is : (g : ℕ) (code : List Instr) (i : ℕ) (o : Option Instr) → slice_get code i ≡ o → meets_instr (suc g) code i ≡ meets_by g code i o
@@ -212,6 +238,8 @@ meets-at code f g p (Instr.LoopTop depth (suc count) past) more few on h =
     let is : silent_at code p ≡ Some (entered p depth (suc count)) = silent-is code p (Instr.LoopTop depth (suc count) past) on ∙ ap Some (top-enters p depth count past) in
     subst (λ (q : Place). silent_at code q ≡ None) (sym (steps f code p (entered p depth (suc count)) is)) (more f (entered p depth (suc count)) few next)
 meets-at code f g p (Instr.LoopEnd depth top) more few on h = cc
+meets-at code f g p (Instr.Jump to) more few on h =
+    subst (λ (q : Place). silent_at code q ≡ None) (sym (steps f code p (record p { at = to }) (silent-is code p (Instr.Jump to) on))) (more f (record p { at = to }) few h)
 meets-at code f g p x more few on h =
     let none : silent_at code p ≡ None = silent-is code p x on in
     subst (λ (q : Place). silent_at code q ≡ None) (sym (stops (suc f) code p none)) none
@@ -248,6 +276,10 @@ lands-at script code f p (Instr.LoopEnd depth top) good way few on ahead =
       | true ↦ ahead (to true) (omega arith) (way-forward script code p.at (Instr.LoopEnd depth top) good way on refl refl)
       | false ↦ meets-stops code (length code) f (to false) few again
     ])
+lands-at script code f p (Instr.Jump to) good way few on ahead =
+    let target : IsGoodTarget code p.at to = good.jumps p.at to on in
+    subst (λ (q : Place). silent_at code q ≡ None) (sym (steps f code p (record p { at = to }) (silent-is code p (Instr.Jump to) on)))
+    (ahead (record p { at = to }) target.ahead (way-to script code p.at to (Instr.Jump to) way on refl target))
 lands-at script code f p x good way few on ahead =
     let none : silent_at code p ≡ None = silent-is code p x on in
     subst (λ (q : Place). silent_at code q ≡ None) (sym (stops (suc f) code p none)) none
@@ -275,3 +307,28 @@ pub landed : (script : Script) (code : List Instr) (p : Place) → IsGoodCode sc
 landed script code p good way =
     let to : Leads code p (settled_in code p) = all-leads script code (length code + length code) p good way in
     record { way = to.way; stands = lands script code (length code) (length code + length code) p good way (omega arith) (omega arith); func = to.func }
+
+-- ---- where an operation leads
+
+-- who chooses a case goes on at its body, or behind the choice where no case has this number
+body-way : (script : Script) (code : List Instr) (i k : ℕ) (cases : List Case) (default_to : Option ℕ) → IsGoodCode script code → IsOnWay code i
+    → slice_get code i ≡ Some (Instr.Select cases default_to) → IsOnWay code (i + 1) → IsOnWay code (body_of cases k (i + 1))
+body-way script code i k cases default_to good way on behind =
+    let targets : HasGoodTargets code i cases default_to = good.choices i cases default_to on in
+    elim (slice_get cases k) as (λ o. slice_get cases k ≡ o → IsOnWay code (elim o as (λ o. ℕ) [ None ↦ i + 1 | Some c ↦ c.to ])) [
+      | None ↦ λ e. behind
+      | Some c ↦ λ e. way-to script code i c.to (Instr.Select cases default_to) way on refl (all_at (λ (c : Case). IsGoodTarget code i c.to) cases k c targets.each e)
+    ] refl
+
+default-way : (script : Script) (code : List Instr) (i : ℕ) (cases : List Case) (default_to : Option ℕ) → IsGoodCode script code → IsOnWay code i
+    → slice_get code i ≡ Some (Instr.Select cases default_to) → IsOnWay code (i + 1) → IsOnWay code (next_index (Instr.Select cases default_to) 0 (i + 1))
+default-way script code i cases None good way on behind = behind
+default-way script code i cases (Some to) good way on behind =
+    way-to script code i to (Instr.Select cases (Some to)) way on refl (good.choices i cases (Some to) on).otherwise
+
+-- after an operation with any case number a goroutine is on the way
+pub next-way : (script : Script) (code : List Instr) (i n : ℕ) (x : Instr) → IsGoodCode script code → IsOnWay code i → slice_get code i ≡ Some x → IsOnWay code (i + 1)
+    → IsOnWay code (next_index x n (i + 1))
+next-way script code i zero (Instr.Select cases default_to) good way on behind = default-way script code i cases default_to good way on behind
+next-way script code i (suc k) (Instr.Select cases default_to) good way on behind = body-way script code i k cases default_to good way on behind
+next-way script code i n _ good way on behind = behind

@@ -1,6 +1,6 @@
 -- What holds of each item of a list holds of one, and an item of a numbered list has its number; a goroutine where it stands, what it names and wants there, and one that sleeps.
-use Rattle.std.proofs.Common.{◌≡◌, ℕ, zero, suc, ◌+◌, ◌-◌, arith, subst, List, [], ◌∷◌, refl, ap, slice_get, None, Some, option_map, Bool, true, false, eqb-true, ◌||◌, IsSomeAnd, ◌∙◌, Option}
-use Rattle.std.specs.List.{list_any, list_all, enumerate_from}
+use Rattle.std.proofs.Common.{◌≡◌, ℕ, zero, suc, ◌+◌, ◌-◌, arith, subst, sym, List, [], ◌∷◌, refl, ap, slice_get, None, Some, option_map, Bool, true, false, eqb-true, ◌||◌, IsSomeAnd, ◌∙◌, Option}
+use Rattle.std.specs.List.{All, list_any, list_all, enumerate_from}
 use Rattle.std.proofs.lemmas.Bool.{and_parts}
 use Rattle.gt_model.specs.declared.script.Script.{Script}
 use Rattle.gt_model.specs.declared.script.Instr.{Instr}
@@ -11,8 +11,9 @@ use Rattle.gt_rules.specs.State.{State, goroutine_at, stands, stands_at, until_o
 use Rattle.gt_model.specs.Script.{instr_at}
 use Rattle.gt_model.specs.declared.script.Func.{Func}
 use Rattle.gt_model.specs.declared.script.Place.{Place}
-use Rattle.gt_model.specs.Good.{IsGood, IsGoodCode, NamesRightly}
+use Rattle.gt_model.specs.Good.{IsGood, IsGoodCode, NamesRightly, OperatesRightly}
 use Rattle.gt_model.proofs.GoodCode.{all_at}
+use Rattle.gt_model.specs.declared.script.Case.{Case}
 use Rattle.gt_model.specs.declared.script.CaseKind.{CaseKind}
 use Rattle.gt_rules.specs.Operations.{operation, receives_from, sends_to, offers}
 use Rattle.gt_model.specs.declared.entry.Party.{Party}
@@ -139,21 +140,107 @@ names-Does script s g i good does =
     let stands : Standing script s g i = standing script s g i does.stands in
     names-instr_at script stands.who.place i good stands.on
 
--- what stands at a receive of t is that receive
-pub receives-recv : (i : Instr) (t : ℕ) → offers (receives_from t) i ≡ true → i ≡ Instr.Recv t
-receives-recv (Instr.Recv o) t h = ap Instr.Recv (eqb-true o t h)
-receives-recv (Instr.Send c v) t h = cc
-receives-recv _ t h = cc
+-- an item that passes a test
+pub record HasAny {X : Type 0} (p : X → Bool) (xs : List X) : Type 0 where
+  pub place : ℕ
+  pub item : X
+  pub there : slice_get xs place ≡ Some item
+  pub passes : p item ≡ true
 
--- what stands at a send to c is the send of some value
+pub any-has : {X : Type 0} (p : X → Bool) (xs : List X) → list_any p xs ≡ true → HasAny p xs
+any-has p [] h = cc
+any-has p (x ∷ xs) h =
+    elim (p x) as (λ b. p x ≡ b → (b || list_any p xs) ≡ true → HasAny p (x ∷ xs)) [
+      | true ↦ λ e k. record { place = 0; item = x; there = refl; passes = e }
+      | false ↦ λ e k. let rest : HasAny p xs = any-has p xs k in record { place = suc rest.place; item = rest.item; there = rest.there; passes = rest.passes }
+    ] refl h
+
+-- an operation of an instruction that passes a test, under its case number
+pub record Offered (i : Instr) (test : CaseKind → Bool) : Type 0 where
+  pub case_no : ℕ
+  pub kind : CaseKind
+  pub has : operation i case_no ≡ Some kind
+  pub passes : test kind ≡ true
+
+pub offered : (i : Instr) (test : CaseKind → Bool) → offers test i ≡ true → Offered i test
+offered (Instr.Recv o) test h = record { case_no = 0; kind = CaseKind.Recv o; has = refl; passes = h }
+offered (Instr.Send c v) test h = record { case_no = 0; kind = CaseKind.Send c v; has = refl; passes = h }
+offered (Instr.Select cases default_to) test h =
+    let one : HasAny (λ (c : Case). test c.kind) cases = any-has (λ (c : Case). test c.kind) cases h in
+    record { case_no = suc one.place; kind = one.item.kind; has = ap (option_map (λ (c : Case). c.kind)) one.there; passes = one.passes }
+offered _ test h = cc
+
+-- the case that has a number
+pub record IsCase (cases : List Case) (k : ℕ) (kind : CaseKind) : Type 0 where
+  pub item : Case
+  pub there : slice_get cases k ≡ Some item
+  pub its : item.kind ≡ kind
+
+pub is-case : (cases : List Case) (k : ℕ) (kind : CaseKind) → option_map (λ (c : Case). c.kind) (slice_get cases k) ≡ Some kind → IsCase cases k kind
+is-case cases k kind e =
+    elim (slice_get cases k) as (λ o. slice_get cases k ≡ o → option_map (λ (c : Case). c.kind) o ≡ Some kind → IsCase cases k kind) [
+      | None ↦ λ there h. cc
+      | Some c ↦ λ there h. record { item = c; there = there; its = cc }
+    ] refl e
+
+-- What holds of each operation of an instruction, at a choice of each case: it holds of the one under a number. So too of one that passes a test
+pub operation-any : (test : CaseKind → Bool) (cases : List Case) (k : ℕ) (kind : CaseKind) → option_map (λ (c : Case). c.kind) (slice_get cases k) ≡ Some kind → test kind ≡ true
+    → list_any (λ (c : Case). test c.kind) cases ≡ true
+operation-any test cases k kind e h =
+    let one : IsCase cases k kind = is-case cases k kind e in
+    any-item (λ (c : Case). test c.kind) cases k one.item one.there (subst (λ kind. test kind ≡ true) (sym one.its) h)
+
+pub operation-all : (P : CaseKind → Type 0) (cases : List Case) (k : ℕ) (kind : CaseKind) → option_map (λ (c : Case). c.kind) (slice_get cases k) ≡ Some kind
+    → All (λ (c : Case). P c.kind) cases → P kind
+operation-all P cases k kind e all =
+    let one : IsCase cases k kind = is-case cases k kind e in
+    subst P one.its (all_at (λ (c : Case). P c.kind) cases k one.item all one.there)
+
+pub offers-operation : (test : CaseKind → Bool) (i : Instr) (n : ℕ) (kind : CaseKind) → operation i n ≡ Some kind → test kind ≡ true → offers test i ≡ true
+offers-operation test (Instr.Recv o) zero kind e h = let is : CaseKind.Recv o ≡ kind = cc in subst (λ kind. test kind ≡ true) (sym is) h
+offers-operation test (Instr.Recv o) (suc k) kind e h = cc
+offers-operation test (Instr.Send c v) zero kind e h = let is : CaseKind.Send c v ≡ kind = cc in subst (λ kind. test kind ≡ true) (sym is) h
+offers-operation test (Instr.Send c v) (suc k) kind e h = cc
+offers-operation test (Instr.Select cases default_to) zero kind e h = cc
+offers-operation test (Instr.Select cases default_to) (suc k) kind e h = operation-any test cases k kind e h
+offers-operation test _ n kind e h = cc
+
+-- the operation of a party is named rightly
+pub names-operation : (script : Script) (i : Instr) (n : ℕ) (kind : CaseKind) → operation i n ≡ Some kind → NamesRightly script i → OperatesRightly script kind
+names-operation script (Instr.Recv o) zero kind e names = let is : CaseKind.Recv o ≡ kind = cc in subst (OperatesRightly script) is names
+names-operation script (Instr.Recv o) (suc k) kind e names = cc
+names-operation script (Instr.Send c v) zero kind e names = let is : CaseKind.Send c v ≡ kind = cc in subst (OperatesRightly script) is names
+names-operation script (Instr.Send c v) (suc k) kind e names = cc
+names-operation script (Instr.Select cases default_to) zero kind e names = cc
+names-operation script (Instr.Select cases default_to) (suc k) kind e names = operation-all (OperatesRightly script) cases k kind e names.each
+names-operation script _ n kind e names = cc
+
+receives-kind : (t : ℕ) (kind : CaseKind) → receives_from t kind ≡ true → kind ≡ CaseKind.Recv t
+receives-kind t (CaseKind.Recv o) h = ap CaseKind.Recv (eqb-true o t h)
+receives-kind t (CaseKind.Send c v) h = cc
+
+-- who offers to receive from t receives from it under some case number
+pub record ReceivesFrom (i : Instr) (t : ℕ) : Type 0 where
+  pub case_no : ℕ
+  pub has : operation i case_no ≡ Some (CaseKind.Recv t)
+
+pub receives-recv : (i : Instr) (t : ℕ) → offers (receives_from t) i ≡ true → ReceivesFrom i t
+receives-recv i t h =
+    let o : Offered i (receives_from t) = offered i (receives_from t) h in
+    record { case_no = o.case_no; has = o.has ∙ ap Some (receives-kind t o.kind o.passes) }
+
+-- and who offers to send to c sends some value to it
 pub record SendsTo (i : Instr) (c : ℕ) : Type 0 where
+  pub case_no : ℕ
   pub value : ℕ
-  pub is : i ≡ Instr.Send c value
+  pub has : operation i case_no ≡ Some (CaseKind.Send c value)
+
+sends-kind : (i : Instr) (case_no c : ℕ) (kind : CaseKind) → operation i case_no ≡ Some kind → sends_to c kind ≡ true → SendsTo i c
+sends-kind i case_no c (CaseKind.Send d v) has h = record { case_no = case_no; value = v; has = has ∙ ap (λ x. Some (CaseKind.Send x v)) (eqb-true d c h) }
+sends-kind i case_no c (CaseKind.Recv o) has h = cc
 
 pub sends-send : (i : Instr) (c : ℕ) → offers (sends_to c) i ≡ true → SendsTo i c
-sends-send (Instr.Send d v) c h = record { value = v; is = ap (λ x. Instr.Send x v) (eqb-true d c h) }
-sends-send (Instr.Recv o) c h = cc
-sends-send _ c h = cc
+sends-send i c h = let o : Offered i (sends_to c) = offered i (sends_to c) h in sends-kind i o.case_no c o.kind o.has o.passes
 
 -- a goroutine that sleeps
 pub record Asleep (s : State) (g : ℕ) : Type 0 where
@@ -189,53 +276,17 @@ at_operation script s p kind e =
       | Some i ↦ λ is h. record { instr = i; stands = is; has = h }
     ] refl e
 
--- it is a receive or a send, and a plain one
-pub is_recv : (i : Instr) (n o : ℕ) → operation i n ≡ Some (CaseKind.Recv o) → i ≡ Instr.Recv o
-is_recv (Instr.Recv t) zero o e = let is : t ≡ o = cc in ap Instr.Recv is
-is_recv (Instr.Recv t) (suc k) o e = cc
-is_recv (Instr.Send c v) zero o e = cc
-is_recv (Instr.Send c v) (suc k) o e = cc
-is_recv _ n o e = cc
+-- who operates does its instruction, and names its object rightly
+pub operates-Does : (script : Script) (s : State) (p : Party) (kind : CaseKind) (at : AtOperation script s p kind) → Operates script s p kind → Does script s p.g at.instr
+operates-Does script s p kind at h = record { stands = at.stands; calm = h.calm }
 
-pub is_send : (i : Instr) (n c v : ℕ) → operation i n ≡ Some (CaseKind.Send c v) → i ≡ Instr.Send c v
-is_send (Instr.Send d w) zero c v e =
-    let same_channel : d ≡ c = cc in
-    let same_value : w ≡ v = cc in
-    rw (same_channel, same_value) refl
-is_send (Instr.Send d w) (suc k) c v e = cc
-is_send (Instr.Recv o) zero c v e = cc
-is_send (Instr.Recv o) (suc k) c v e = cc
-is_send _ n c v e = cc
+pub names-Operates : (script : Script) (s : State) (p : Party) (kind : CaseKind) → IsGood script → Operates script s p kind → OperatesRightly script kind
+names-Operates script s p kind good h =
+    let at : AtOperation script s p kind = at_operation script s p kind h.stands in
+    names-operation script at.instr p.case_no kind at.has (names-Does script s p.g at.instr good (operates-Does script s p kind at h))
 
-pub is_plain : (i : Instr) (n : ℕ) (kind : CaseKind) → operation i n ≡ Some kind → n ≡ 0
-is_plain (Instr.Recv o) zero kind e = refl
-is_plain (Instr.Recv o) (suc k) kind e = cc
-is_plain (Instr.Send c v) zero kind e = refl
-is_plain (Instr.Send c v) (suc k) kind e = cc
-is_plain _ n kind e = cc
-
-pub stands_recv : (script : Script) (s : State) (p : Party) (o : ℕ) → operation_at script s p ≡ Some (CaseKind.Recv o) → stands_at script s p.g ≡ Some (Instr.Recv o)
-stands_recv script s p o e =
-    let at : AtOperation script s p (CaseKind.Recv o) = at_operation script s p (CaseKind.Recv o) e in
-    at.stands ∙ ap Some (is_recv at.instr p.case_no o at.has)
-
-pub stands_send : (script : Script) (s : State) (p : Party) (c v : ℕ) → operation_at script s p ≡ Some (CaseKind.Send c v) → stands_at script s p.g ≡ Some (Instr.Send c v)
-stands_send script s p c v e =
-    let at : AtOperation script s p (CaseKind.Send c v) = at_operation script s p (CaseKind.Send c v) e in
-    at.stands ∙ ap Some (is_send at.instr p.case_no c v at.has)
-
--- who operates does its instruction
-pub recv-Does : (script : Script) (s : State) (p : Party) (o : ℕ) → Operates script s p (CaseKind.Recv o) → Does script s p.g (Instr.Recv o)
-recv-Does script s p o h = record { stands = stands_recv script s p o h.stands; calm = h.calm }
-
-pub send-Does : (script : Script) (s : State) (p : Party) (c v : ℕ) → Operates script s p (CaseKind.Send c v) → Does script s p.g (Instr.Send c v)
-send-Does script s p c v h = record { stands = stands_send script s p c v h.stands; calm = h.calm }
-
--- and who does a receive or a send operates so, as a plain party
-abbrev pub plainly : ℕ → Party
-plainly g = record { g = g; case_no = 0 }
-
-pub does-Operates : (script : Script) (s : State) (g : ℕ) (i : Instr) (kind : CaseKind) → operation i 0 ≡ Some kind → Does script s g i → Operates script s (plainly g) kind
-does-Operates script s g i kind has does =
-    let there : operation_at script s (plainly g) ≡ operation i 0 = ap (λ (o : Option Instr). elim o as (λ o. Option CaseKind) [ None ↦ None | Some i ↦ operation i 0 ]) does.stands in
+-- and who does an instruction operates so under each of its case numbers
+pub does-Operates : (script : Script) (s : State) (p : Party) (i : Instr) (kind : CaseKind) → operation i p.case_no ≡ Some kind → Does script s p.g i → Operates script s p kind
+does-Operates script s p i kind has does =
+    let there : operation_at script s p ≡ operation i p.case_no = ap (λ (o : Option Instr). elim o as (λ o. Option CaseKind) [ None ↦ None | Some i ↦ operation i p.case_no ]) does.stands in
     record { stands = there ∙ has; calm = does.calm }

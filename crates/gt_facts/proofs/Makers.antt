@@ -1,7 +1,8 @@
 -- Who makes an entry that may come next, and what the entry changes: of what is shown here alone each kind of entry, and of instruction, has a clause.
-use Rattle.std.proofs.Common.{◌≡◌, ℕ, zero, suc, ◌<◌, ◌≤◌, List, [], ◌∷◌, length, refl, sym, ap, subst, ◌∙◌, arith, Option, None, Some, Bool, true, false, not, ◌&&◌, ◌||◌, ◌==◌, ◌≢◌, nat_lt, slice_get, is_some, is_none, IsTrue, IfSome, IsSomeAnd}
+use Rattle.std.proofs.Common.{◌≡◌, ℕ, zero, suc, ◌<◌, ◌≤◌, List, [], ◌∷◌, length, refl, sym, ap, subst, ◌∙◌, arith, Option, None, Some, Bool, true, false, not, ◌&&◌, ◌||◌, ◌==◌, ◌≢◌, nat_lt, slice_get, is_some, is_none, IsTrue, IfSome, IsSomeAnd, MatchOption, option_map, get_or}
+use Rattle.std.specs.List.{list_any}
 use Rattle.std.proofs.lemmas.Bool.{and_parts, eqb-true, leb-true, lt-ltb, ltb-true, or_left, or_right}
-use Rattle.std.proofs.lemmas.Option.{slice_get_within}
+use Rattle.std.proofs.lemmas.Option.{slice_get_within, slice_get-get_or}
 use Rattle.gt_model.specs.declared.script.Script.{Script}
 use Rattle.gt_model.specs.declared.script.Instr.{Instr}
 use Rattle.gt_model.specs.declared.entry.Entry.{Entry}
@@ -9,23 +10,24 @@ use Rattle.gt_model.specs.declared.entry.Party.{Party}
 use Rattle.gt_model.specs.declared.entry.Reason.{Reason}
 use Rattle.gt_model.specs.declared.state.Timer.{Timer}
 use Rattle.gt_model.specs.Times.{greatest_time}
+use Rattle.gt_model.specs.declared.script.Case.{Case}
 use Rattle.gt_model.specs.declared.script.CaseKind.{CaseKind}
 use Rattle.gt_model.specs.declared.script.What.{What}
 use Rattle.gt_model.specs.Script.{what_at, names_timer, names_chan, is_func, is_timer, is_chan, capacity_of}
 use Rattle.gt_model.specs.Good.{IsGood, is_finish, is_setting}
 use Rattle.gt_model.proofs.Declared.{timer_setting, func_setting}
-use Rattle.gt_rules.specs.State.{State, Channel, goroutine_at, stands, clock, clock_of, sleeps_until, next_number, timer_at, due_of, channel_at, items_of, item_count, is_closed, is_open}
-use Rattle.gt_rules.specs.Panics.{panic_at, panic_of, fault, fault_at, when, or_else, open_fault}
-use Rattle.gt_rules.specs.Ready.{is_due, is_ready_instr, is_ready_alone, is_ready_recv, has_partner, partner_waits, has_come, everyone}
-use Rattle.gt_rules.specs.Operations.{receives_from, sends_to}
+use Rattle.gt_rules.specs.State.{State, Channel, goroutine_at, stands, world_of, clock, clock_of, sleeps_until, next_number, timer_at, due_of, channel_at, items_of, item_count, is_closed, is_open}
+use Rattle.gt_rules.specs.Panics.{panic_of, fault, fault_at, fault_case, case_fault, choice_fault, when, or_else, open_fault}
+use Rattle.gt_rules.specs.Ready.{is_due, is_ready_instr, is_ready_case, is_ready_alone, is_ready_recv, has_partner, partner_waits, has_come, everyone}
+use Rattle.gt_rules.specs.Operations.{operation, polls, receives_from, sends_to}
 use Rattle.gt_rules.specs.declared.change.Move.{Move}
 use Rattle.gt_rules.specs.declared.change.Trade.{Trade}
 use Rattle.gt_rules.specs.declared.change.Setting.{Setting}
 use Rattle.gt_rules.specs.declared.change.Start.{Start}
 use Rattle.gt_rules.specs.Change.{change_of, sleeps, takes, goes_on}
-use Rattle.gt_rules.specs.Legal.{May, Does, Operates, Gives, due_at, sleep_end, was_set}
+use Rattle.gt_rules.specs.Legal.{May, MayPanic, ChoosesClosed, Does, Operates, operation_at, is_polling, Gives, due_at, sleep_end, was_set}
 use Rattle.gt_rules.specs.Finish.{IsIdle}
-use Rattle.gt_facts.proofs.Lookups.{names-Does, send-Does, plainly, does-Operates, receives-recv, SendsTo, sends-send}
+use Rattle.gt_facts.proofs.Lookups.{names-Does, names-Operates, operates-Does, does-Operates, AtOperation, at_operation, HasAny, any-has, IsCase, is-case, ReceivesFrom, receives-recv, SendsTo, sends-send}
 use Rattle.gt_facts.proofs.Partners.{Partner, partner}
 
 -- ---- times
@@ -57,13 +59,13 @@ pub data Maker (script : Script) (s : State) : Option (ℕ × Move) → Option (
   -- a goroutine at an operation of a channel that is ready by itself, and two at the two operations of a channel that keeps no values: a good script declares it as one
   trades : (p : Party) (kind : CaseKind) → Operates script s p kind → ((timed : ℕ → Bool) → is_ready_alone script s timed kind ≡ true) → Maker script s (Some (goes_on p)) None None
   pairs : (from to : Party) (c v : ℕ) → Operates script s from (CaseKind.Send c v) → Operates script s to (CaseKind.Recv c) → (IsGood script → IsTrue (is_chan script c)) → capacity_of script c ≡ 0
-      → from.g ≢ to.g → Maker script s (Some (goes_on from)) (Some (goes_on to)) None
+      → from.g ≢ to.g → IsTrue (not (is_polling script s from.g && is_polling script s to.g)) → Maker script s (Some (goes_on from)) (Some (goes_on to)) None
   -- a sleeper whose time has come, and an AfterFunc timer
   wakes : (g : ℕ) → IsSomeAnd (sleeps_until s g) (λ until. until ≤ clock_of s g) → Maker script s (Some (g, Move.GoesOn 0)) None None
   fires : (t : ℕ) → IsTrue (is_func script t) → IsSomeAnd (timer_at s t) (λ (r : Timer). IsTrue (is_due r.due (clock s r.world))) → Maker script s None None None
   -- the program's clock, and a misuse
   ticks : (to : ℕ) → clock s 0 < to → to ≤ greatest_time → Maker script s None None (Some (0, to))
-  panics : (p : Party) (reason : Reason) → panic_at script s p.g ≡ Some (p.case_no, reason) → Maker script s (Some (p.g, Move.Panics)) None None
+  panics : (p : Party) (reason : Reason) → MayPanic script s p reason → Maker script s (Some (p.g, Move.Panics)) None None
 
 asleep-leaves : (d : ℕ) (until : Option ℕ) → IfSome until (λ u. u ≤ greatest_time) → Leaves (Instr.Sleep d) (sleeps until)
 asleep-leaves d None time = refl
@@ -106,8 +108,9 @@ maker script s (Entry.Make g c) may = calls g (Instr.Make c) (Move.GoesOn 0) may
 maker script s (Entry.Send p c v) may = trades p (CaseKind.Send c v) may.0 (λ timed. or_right (is_closed s c) _ (lt-ltb (item_count s c) (capacity_of script c) may.2))
 maker script s (Entry.Recv p c v) may = trades p (CaseKind.Recv c) may.0 (gives-ready script s c v may.1 may.2)
 maker script s (Entry.Pair from to c v) may =
-    pairs from to c v may.0 may.1 (λ good. names-Does script s from.g (Instr.Send c v) good (send-Does script s from c v may.0)) may.3 may.4
+    pairs from to c v may.0 may.1 (λ good. names-Operates script s from (CaseKind.Send c v) good may.0) may.3 may.4 may.5
 maker script s (Entry.Close g c) may = calls g (Instr.Close c) (Move.GoesOn 0) may (λ timed counts me. refl) refl
+maker script s (Entry.Default g) may = calls g (Instr.Select may.cases (Some may.to)) (Move.GoesOn 0) may.does (λ timed counts me. refl) refl
 maker script s (Entry.Clock zero to) may = ticks to may.0 may.1
 maker script s (Entry.Clock (suc world) to) may = absurd may
 maker script s (Entry.Panic p reason) may = panics p reason may
@@ -140,16 +143,16 @@ some-not_none : {X : Type 0} (o : Option X) → is_none o ≡ false → is_some 
 some-not_none None h = cc
 some-not_none (Some x) h = refl
 
-no-fault : (o : Option Reason) → (elim o as (λ o. Option (ℕ × Reason)) [ None ↦ None | Some reason ↦ Some (0, reason) ]) ≡ None → o ≡ None
-no-fault None h = refl
-no-fault (Some reason) h = cc
+no-fault : (n : ℕ) (o : Option Reason) → (elim o as (λ o. Option (ℕ × Reason)) [ None ↦ None | Some reason ↦ Some (n, reason) ]) ≡ None → o ≡ None
+no-fault n None h = refl
+no-fault n (Some reason) h = cc
 
 calm-fault : (script : Script) (s : State) (g : ℕ) (i : Instr) → Does script s g i → fault script s i ≡ None
 calm-fault script s g i does =
     elim (goroutine_at s g) as (λ o. (elim o as (λ o. Option Instr) [ None ↦ None | Some r ↦ stands script r ]) ≡ Some i
     → (elim o as (λ o. Option (ℕ × Reason)) [ None ↦ None | Some r ↦ panic_of script s r ]) ≡ None → fault script s i ≡ None) [
       | None ↦ λ p q. cc
-      | Some r ↦ λ p q. no-fault (fault script s i) (subst (λ o. (elim o as (λ o. Option (ℕ × Reason)) [ None ↦ None | Some i ↦ fault_at script s i ]) ≡ None) p q)
+      | Some r ↦ λ p q. no-fault (fault_case s i) (fault script s i) (subst (λ o. (elim o as (λ o. Option (ℕ × Reason)) [ None ↦ None | Some i ↦ fault_at script s i ]) ≡ None) p q)
     ] does.stands does.calm
 
 -- an instruction that asks for a timer which was made, and makes no misuse
@@ -249,7 +252,7 @@ trades-May script s (Entry.Make g c) good may = record {
 }
 trades-May script s (Entry.Send p c v) good may =
     let is : IsOpened s c = is_open-IsOpened s c may.1 in
-    record { named = names-Does script s p.g (Instr.Send c v) good (send-Does script s p c v may.0); has = (is.made, is.unshut, may.2) }
+    record { named = names-Operates script s p (CaseKind.Send c v) good may.0; has = (is.made, is.unshut, may.2) }
 trades-May script s (Entry.Recv p c v) good may = takes-May script s c v may.1 may.2
 trades-May script s (Entry.Close g c) good may =
     let is : IsOpened s c = opened script s g c (Instr.Close c) refl may in
@@ -279,81 +282,185 @@ starts-few _ = omega arith
 
 -- ---- the entry of who stands at an instruction
 
+not_true : (b : Bool) → (b ≡ true → ⊥) → b ≡ false
+not_true true h = absurd (h refl)
+not_true false h = refl
+
 either-not : (a b : Bool) → (a || b) ≡ true → (a ≡ true → ⊥) → (b ≡ true → ⊥) → ⊥
 either-not true b h left right = left refl
 either-not false b h left right = right h
 
 -- the receive of a timer's value that has come
-timer-not : (script : Script) (s : State) (g w t : ℕ) → IsIdle script s → clock_of s g ≡ clock s w → Does script s g (Instr.Recv t) → IsTrue (is_timer script t)
+timer-not : (script : Script) (s : State) (p : Party) (w t : ℕ) → IsIdle script s → clock_of s p.g ≡ clock s w → Operates script s p (CaseKind.Recv t) → IsTrue (is_timer script t)
     → is_due (due_of s t) (clock s w) ≡ true → ⊥
-timer-not script s g w t idle now does timer ready =
+timer-not script s p w t idle now gets timer ready =
     elim (due_of s t) as (λ o. due_of s t ≡ o → is_due o (clock s w) ≡ true → ⊥) [
       | None ↦ λ is come. cc
       | Some due ↦ λ is come.
-          let here : due ≤ clock_of s g = subst (λ now. due ≤ now) (sym now) (leb-true due (clock s w) come) in
-          idle (Entry.TRecv (plainly g) t due None) (does-Operates script s g (Instr.Recv t) (CaseKind.Recv t) refl does, timer, is, here, refl)
+          let here : due ≤ clock_of s p.g = subst (λ now. due ≤ now) (sym now) (leb-true due (clock s w) come) in
+          idle (Entry.TRecv p t due None) (gets, timer, is, here, refl)
     ] refl ready
 
 -- the receive from a channel that keeps values, or is closed
-keeps-not : (script : Script) (s : State) (g c : ℕ) (items : List ℕ) → IsIdle script s → Does script s g (Instr.Recv c) → IsTrue (is_chan script c) → items_of s c ≡ items
+keeps-not : (script : Script) (s : State) (p : Party) (c : ℕ) (items : List ℕ) → IsIdle script s → Operates script s p (CaseKind.Recv c) → IsTrue (is_chan script c) → items_of s c ≡ items
     → (nat_lt 0 (length items) || is_closed s c) ≡ true → ⊥
-keeps-not script s g c [] idle does chan is ready =
-    idle (Entry.Recv (plainly g) c None) (does-Operates script s g (Instr.Recv c) (CaseKind.Recv c) refl does, chan, (is, ready))
-keeps-not script s g c (v ∷ rest) idle does chan is ready =
-    idle (Entry.Recv (plainly g) c (Some v)) (does-Operates script s g (Instr.Recv c) (CaseKind.Recv c) refl does, chan, ap (λ (items : List ℕ). slice_get items 0) is)
+keeps-not script s p c [] idle gets chan is ready = idle (Entry.Recv p c None) (gets, chan, (is, ready))
+keeps-not script s p c (v ∷ rest) idle gets chan is ready = idle (Entry.Recv p c (Some v)) (gets, chan, ap (λ (items : List ℕ). slice_get items 0) is)
 
-gives-not : (script : Script) (s : State) (g w o : ℕ) (what : What) → IsIdle script s → clock_of s g ≡ clock s w → Does script s g (Instr.Recv o) → what_at script o ≡ Some what
-    → is_ready_recv s (has_come s w) o (Some what) ≡ true → ⊥
-gives-not script s g w o What.Timer idle now does is ready = timer-not script s g w o idle now does (ap names_timer is) ready
-gives-not script s g w o (What.AfterFunc func) idle now does is ready = cc
-gives-not script s g w o (What.Chan cap) idle now does is ready = keeps-not script s g o (items_of s o) idle does (ap names_chan is) refl ready
-gives-not script s g w o What.Function idle now does is ready = cc
+gives-not : (script : Script) (s : State) (p : Party) (w o : ℕ) (what : What) → IsIdle script s → clock_of s p.g ≡ clock s w → Operates script s p (CaseKind.Recv o)
+    → what_at script o ≡ Some what → is_ready_recv s (has_come s w) o (Some what) ≡ true → ⊥
+gives-not script s p w o What.Timer idle now gets is ready = timer-not script s p w o idle now gets (ap names_timer is) ready
+gives-not script s p w o (What.AfterFunc func) idle now gets is ready = cc
+gives-not script s p w o (What.Chan cap) idle now gets is ready = keeps-not script s p o (items_of s o) idle gets (ap names_chan is) refl ready
+gives-not script s p w o What.Function idle now gets is ready = cc
 
-recv-not : (script : Script) (s : State) (g w o : ℕ) → IsIdle script s → clock_of s g ≡ clock s w → Does script s g (Instr.Recv o)
+recv-not : (script : Script) (s : State) (p : Party) (w o : ℕ) → IsIdle script s → clock_of s p.g ≡ clock s w → Operates script s p (CaseKind.Recv o)
     → is_ready_alone script s (has_come s w) (CaseKind.Recv o) ≡ true → ⊥
-recv-not script s g w o idle now does ready =
+recv-not script s p w o idle now gets ready =
     elim (what_at script o) as (λ q. what_at script o ≡ q → is_ready_recv s (has_come s w) o q ≡ true → ⊥) [
       | None ↦ λ is h. cc
-      | Some what ↦ λ is h. gives-not script s g w o what idle now does is h
+      | Some what ↦ λ is h. gives-not script s p w o what idle now gets is h
     ] refl ready
 
-send-not : (script : Script) (s : State) (g c v : ℕ) → IsIdle script s → Does script s g (Instr.Send c v) → (is_closed s c || nat_lt (item_count s c) (capacity_of script c)) ≡ true → ⊥
-send-not script s g c v idle does ready =
-    let is : IsOpened s c = opened script s g c (Instr.Send c v) refl does in
-    let unshut : is_closed s c ≡ false = is.unshut in
-    either-not (is_closed s c) (nat_lt (item_count s c) (capacity_of script c)) ready (λ shut. cc)
-    (λ room.
-    idle (Entry.Send (plainly g) c v)
-    (does-Operates script s g (Instr.Send c v) (CaseKind.Send c v) refl does, is.is, ltb-true (item_count s c) (capacity_of script c) room))
+-- the channel of a send was made: else it is a misuse
+send-fault : (s : State) (c v : ℕ) → case_fault s (CaseKind.Send c v) ≡ None → is_some (channel_at s c) ≡ true
+send-fault s c v h = some-not_none (channel_at s c) (none-when (is_none (channel_at s c)) Reason.Unmade h)
 
--- a sender and a receiver at a channel that keeps no values
-pair-not : (script : Script) (s : State) (from to c v : ℕ) → IsIdle script s → Does script s from (Instr.Send c v) → Does script s to (Instr.Recv c) → capacity_of script c ≡ 0
-    → from ≢ to → ⊥
-pair-not script s from to c v idle sends gets none other =
-    idle (Entry.Pair (plainly from) (plainly to) c v) (
-      does-Operates script s from (Instr.Send c v) (CaseKind.Send c v) refl sends,
-      does-Operates script s to (Instr.Recv c) (CaseKind.Recv c) refl gets,
-      (opened script s from c (Instr.Send c v) refl sends).is,
-      none,
-      other,
-    )
+no-first : (a b : Option Reason) → or_else a b ≡ None → (a ≡ None) × (b ≡ None)
+no-first None b h = (refl, h)
+no-first (Some reason) b h = cc
+
+no-case_fault : (s : State) (cases : List Case) (k : ℕ) (c : Case) → choice_fault s cases ≡ None → slice_get cases k ≡ Some c → case_fault s c.kind ≡ None
+no-case_fault s [] k c none e = cc
+no-case_fault s (d ∷ cases) zero c none e =
+    let is : d ≡ c = cc in
+    subst (λ (c : Case). case_fault s c.kind ≡ None) is (no-first (case_fault s d.kind) (choice_fault s cases) none).0
+no-case_fault s (d ∷ cases) (suc k) c none e = no-case_fault s cases k c (no-first (case_fault s d.kind) (choice_fault s cases) none).1 e
+
+operation-fault : (script : Script) (s : State) (i : Instr) (n c v : ℕ) → fault script s i ≡ None → operation i n ≡ Some (CaseKind.Send c v) → is_some (channel_at s c) ≡ true
+operation-fault script s (Instr.Send d w) zero c v none e =
+    let same : d ≡ c = cc in
+    subst (λ c. is_some (channel_at s c) ≡ true) same
+    (some-not_none (channel_at s d) (none-when (is_none (channel_at s d)) Reason.Unmade (no-first (when (is_none (channel_at s d)) Reason.Unmade) (when (is_closed s d) Reason.Closed) none).0))
+operation-fault script s (Instr.Send d w) (suc k) c v none e = cc
+operation-fault script s (Instr.Recv o) zero c v none e = cc
+operation-fault script s (Instr.Recv o) (suc k) c v none e = cc
+operation-fault script s (Instr.Select cases default_to) zero c v none e = cc
+operation-fault script s (Instr.Select cases default_to) (suc k) c v none e =
+    let one : IsCase cases k (CaseKind.Send c v) = is-case cases k (CaseKind.Send c v) e in
+    send-fault s c v (subst (λ kind. case_fault s kind ≡ None) one.its (no-case_fault s cases k one.item none one.there))
+operation-fault script s _ n c v none e = cc
+
+send-made : (script : Script) (s : State) (p : Party) (c v : ℕ) → Operates script s p (CaseKind.Send c v) → is_some (channel_at s c) ≡ true
+send-made script s p c v sends =
+    let at : AtOperation script s p (CaseKind.Send c v) = at_operation script s p (CaseKind.Send c v) sends.stands in
+    operation-fault script s at.instr p.case_no c v (calm-fault script s p.g at.instr (operates-Does script s p (CaseKind.Send c v) at sends)) at.has
+
+made-open : (o : Option Channel) → is_some o ≡ true → (elim o as (λ o. Bool) [ None ↦ false | Some r ↦ r.closed ]) ≡ false → (elim o as (λ o. Bool) [ None ↦ false | Some r ↦ not r.closed ]) ≡ true
+made-open None h shut = cc
+made-open (Some r) h shut = ap not shut
+
+-- A send to a closed channel is a misuse, so that an idle program has none; to an open one with room it goes on
+shut-not : (script : Script) (s : State) (p : Party) (c v : ℕ) → IsIdle script s → Operates script s p (CaseKind.Send c v) → is_closed s c ≡ true → ⊥
+shut-not script s p c v idle sends shut =
+    let chooses : ChoosesClosed s (operation_at script s p) Reason.Closed =
+    subst (λ o. ChoosesClosed s o Reason.Closed) (sym sends.stands) (shut, refl) in
+    idle (Entry.Panic p Reason.Closed)
+    (subst (λ (o : Option (ℕ × Reason)). MatchOption o (ChoosesClosed s (operation_at script s p) Reason.Closed) (λ x. x ≡ (p.case_no, Reason.Closed))) (sym sends.calm) chooses)
+
+send-open : (script : Script) (s : State) (p : Party) (c v : ℕ) → IsIdle script s → Operates script s p (CaseKind.Send c v) → is_open s c ≡ true
+send-open script s p c v idle sends =
+    made-open (channel_at s c) (send-made script s p c v sends) (not_true (is_closed s c) (shut-not script s p c v idle sends))
+
+send-not : (script : Script) (s : State) (p : Party) (c v : ℕ) → IsIdle script s → Operates script s p (CaseKind.Send c v)
+    → (is_closed s c || nat_lt (item_count s c) (capacity_of script c)) ≡ true → ⊥
+send-not script s p c v idle sends ready =
+    either-not (is_closed s c) (nat_lt (item_count s c) (capacity_of script c)) ready (shut-not script s p c v idle sends)
+    (λ room. idle (Entry.Send p c v) (sends, send-open script s p c v idle sends, ltb-true (item_count s c) (capacity_of script c) room))
+
+-- a sender and a receiver at a channel that keeps no values, of whom one would wait
+pair-not : (script : Script) (s : State) (from to : Party) (c v : ℕ) → IsIdle script s → Operates script s from (CaseKind.Send c v) → Operates script s to (CaseKind.Recv c)
+    → capacity_of script c ≡ 0 → from.g ≢ to.g → IsTrue (not (is_polling script s from.g && is_polling script s to.g)) → ⊥
+pair-not script s from to c v idle sends gets none other waits = idle (Entry.Pair from to c v) (sends, gets, send-open script s from c v idle sends, none, other, waits)
+
+-- who does an instruction at which it would wait is not at a choice with a default
+pub waits-polling : (script : Script) (s : State) (g : ℕ) (i : Instr) → Does script s g i → polls i ≡ false → is_polling script s g ≡ false
+waits-polling script s g i does waits = ap (λ (o : Option Instr). elim o as (λ o. Bool) [ None ↦ false | Some i ↦ polls i ]) does.stands ∙ waits
+
+not-and_left : (a b : Bool) → a ≡ false → not (a && b) ≡ true
+not-and_left false b h = refl
+not-and_left true b h = cc
+
+not-and_right : (a b : Bool) → b ≡ false → not (a && b) ≡ true
+not-and_right false b h = refl
+not-and_right true false h = refl
+not-and_right true true h = cc
 
 -- who receives from such a channel has a sender there
-recv-partner-not : (script : Script) (s : State) (g o : ℕ) → IsIdle script s → Does script s g (Instr.Recv o) → has_partner script s everyone g (CaseKind.Recv o) ≡ true → ⊥
-recv-partner-not script s g o idle does ready =
-    let waits = and_parts (is_chan script o && capacity_of script o == 0) (partner_waits script s everyone g (sends_to o)) ready in
+recv-partner-not : (script : Script) (s : State) (p : Party) (o : ℕ) → IsIdle script s → Operates script s p (CaseKind.Recv o) → has_partner script s everyone p.g (CaseKind.Recv o) ≡ true → ⊥
+recv-partner-not script s p o idle gets ready =
+    let waits = and_parts (is_chan script o && capacity_of script o == 0) (partner_waits script s everyone p.g (sends_to o)) ready in
     let none = and_parts (is_chan script o) (capacity_of script o == 0) waits.0 in
-    let p : Partner script s everyone g (sends_to o) = partner script s everyone g (sends_to o) waits.1 in
-    let to : SendsTo p.instr o = sends-send p.instr o p.passes in
-    pair-not script s p.number g o to.value idle (subst (Does script s p.number) to.is p.does) does (eqb-true (capacity_of script o) 0 none.1) p.other
+    let q : Partner script s everyone p.g (sends_to o) = partner script s everyone p.g (sends_to o) waits.1 in
+    let to : SendsTo q.instr o = sends-send q.instr o q.passes in
+    let from : Party = record { g = q.number; case_no = to.case_no } in
+    pair-not script s from p o to.value idle (does-Operates script s from q.instr (CaseKind.Send o to.value) to.has q.does) gets (eqb-true (capacity_of script o) 0 none.1) q.other
+    (not-and_left (is_polling script s q.number) (is_polling script s p.g) (waits-polling script s q.number q.instr q.does q.waits))
 
 -- and who sends to it a receiver
-send-partner-not : (script : Script) (s : State) (g c v : ℕ) → IsIdle script s → Does script s g (Instr.Send c v) → has_partner script s everyone g (CaseKind.Send c v) ≡ true → ⊥
-send-partner-not script s g c v idle does ready =
-    let waits = and_parts (capacity_of script c == 0) (partner_waits script s everyone g (receives_from c)) ready in
-    let p : Partner script s everyone g (receives_from c) = partner script s everyone g (receives_from c) waits.1 in
-    let gets : Does script s p.number (Instr.Recv c) = subst (Does script s p.number) (receives-recv p.instr c p.passes) p.does in
-    pair-not script s g p.number c v idle does gets (eqb-true (capacity_of script c) 0 waits.0) (λ e. p.other (sym e))
+send-partner-not : (script : Script) (s : State) (p : Party) (c v : ℕ) → IsIdle script s → Operates script s p (CaseKind.Send c v) → has_partner script s everyone p.g (CaseKind.Send c v) ≡ true → ⊥
+send-partner-not script s p c v idle sends ready =
+    let waits = and_parts (capacity_of script c == 0) (partner_waits script s everyone p.g (receives_from c)) ready in
+    let q : Partner script s everyone p.g (receives_from c) = partner script s everyone p.g (receives_from c) waits.1 in
+    let gets : ReceivesFrom q.instr c = receives-recv q.instr c q.passes in
+    let to : Party = record { g = q.number; case_no = gets.case_no } in
+    pair-not script s p to c v idle sends (does-Operates script s to q.instr (CaseKind.Recv c) gets.has q.does) (eqb-true (capacity_of script c) 0 waits.0) (λ e. q.other (sym e))
+    (not-and_right (is_polling script s p.g) (is_polling script s q.number) (waits-polling script s q.number q.instr q.does q.waits))
+
+-- an operation that is ready has its entry
+alone-not : (script : Script) (s : State) (p : Party) (w : ℕ) (kind : CaseKind) → IsIdle script s → clock_of s p.g ≡ clock s w → Operates script s p kind
+    → is_ready_alone script s (has_come s w) kind ≡ true → ⊥
+alone-not script s p w (CaseKind.Recv o) idle now gets ready = recv-not script s p w o idle now gets ready
+alone-not script s p w (CaseKind.Send c v) idle now sends ready = send-not script s p c v idle sends ready
+
+partner-not : (script : Script) (s : State) (p : Party) (kind : CaseKind) → IsIdle script s → Operates script s p kind → has_partner script s everyone p.g kind ≡ true → ⊥
+partner-not script s p (CaseKind.Recv o) idle gets ready = recv-partner-not script s p o idle gets ready
+partner-not script s p (CaseKind.Send c v) idle sends ready = send-partner-not script s p c v idle sends ready
+
+operation-not : (script : Script) (s : State) (p : Party) (w : ℕ) (kind : CaseKind) → IsIdle script s → clock_of s p.g ≡ clock s w → Operates script s p kind
+    → is_ready_case script s (has_come s w) everyone p.g kind ≡ true → ⊥
+operation-not script s p w kind idle now h ready =
+    either-not (is_ready_alone script s (has_come s w) kind) (has_partner script s everyone p.g kind) ready (alone-not script s p w kind idle now h) (partner-not script s p kind idle h)
+
+-- who stands at a plain operation, and at a case of a choice
+plain-not : (script : Script) (s : State) (g w : ℕ) (i : Instr) (kind : CaseKind) → IsIdle script s → clock_of s g ≡ clock s w → Does script s g i → operation i 0 ≡ Some kind
+    → is_ready_case script s (has_come s w) everyone g kind ≡ true → ⊥
+plain-not script s g w i kind idle now does has ready =
+    let p : Party = record { g = g; case_no = 0 } in
+    operation-not script s p w kind idle now (does-Operates script s p i kind has does) ready
+
+case-not : (script : Script) (s : State) (g w : ℕ) (cases : List Case) (default_to : Option ℕ) → IsIdle script s → clock_of s g ≡ clock s w → Does script s g (Instr.Select cases default_to)
+    → list_any (λ (c : Case). is_ready_case script s (has_come s w) everyone g c.kind) cases ≡ true → ⊥
+case-not script s g w cases default_to idle now does ready =
+    let one : HasAny (λ (c : Case). is_ready_case script s (has_come s w) everyone g c.kind) cases = any-has (λ (c : Case). is_ready_case script s (has_come s w) everyone g c.kind) cases ready in
+    let p : Party = record { g = g; case_no = suc one.place } in
+    operation-not script s p w one.item.kind idle now
+    (does-Operates script s p (Instr.Select cases default_to) one.item.kind (ap (option_map (λ (c : Case). c.kind)) one.there) does) one.passes
+
+-- a choice with a default takes it where no case could go on but by a partner
+default-not : (script : Script) (s : State) (g : ℕ) (cases : List Case) (default_to : Option ℕ) → IsIdle script s → Does script s g (Instr.Select cases default_to) → is_some default_to ≡ true → ⊥
+default-not script s g cases None idle does h = cc
+default-not script s g cases (Some to) idle does h =
+    idle (Entry.Default g) (record {
+      cases = cases;
+      to = to;
+      does = does;
+      none = λ k d below.
+          not_true (is_ready_alone script s (has_come s (world_of s g)) (get_or cases k d).kind)
+          (alone-not script s (record { g = g; case_no = suc k }) (world_of s g) (get_or cases k d).kind idle refl
+          (does-Operates script s (record { g = g; case_no = suc k }) (Instr.Select cases (Some to)) (get_or cases k d).kind
+          (ap (option_map (λ (c : Case). c.kind)) (slice_get-get_or cases k d below)) does));
+    })
 
 -- who stands at an instruction that is ready, and makes no misuse, has an entry: the program is not idle
 pub idle-not : (script : Script) (s : State) (g w : ℕ) (i : Instr) → IsGood script → IsIdle script s → clock_of s g ≡ clock s w → Does script s g i
@@ -366,13 +473,15 @@ idle-not script s g w (Instr.New t d) good idle now does ready = idle (Entry.New
 idle-not script s g w (Instr.Stop t) good idle now does ready = idle (Entry.Stop g t (was_set script s t)) (does, refl)
 idle-not script s g w (Instr.Reset t d) good idle now does ready = idle (Entry.Reset g t (was_set script s t) (due_at (clock_of s g) d)) (d, does, refl, refl)
 idle-not script s g w (Instr.Recv o) good idle now does ready =
-    either-not (is_ready_alone script s (has_come s w) (CaseKind.Recv o)) (has_partner script s everyone g (CaseKind.Recv o)) ready
-    (recv-not script s g w o idle now does) (recv-partner-not script s g o idle does)
+    plain-not script s g w (Instr.Recv o) (CaseKind.Recv o) idle now does refl ready
 idle-not script s g w (Instr.Make c) good idle now does ready = idle (Entry.Make g c) does
 idle-not script s g w (Instr.Send c v) good idle now does ready =
-    either-not (is_ready_alone script s (has_come s w) (CaseKind.Send c v)) (has_partner script s everyone g (CaseKind.Send c v)) ready
-    (send-not script s g c v idle does) (send-partner-not script s g c v idle does)
+    plain-not script s g w (Instr.Send c v) (CaseKind.Send c v) idle now does refl ready
 idle-not script s g w (Instr.Close c) good idle now does ready = idle (Entry.Close g c) does
 idle-not script s g w Instr.Finish good idle now does ready = idle (Entry.End g) does
 idle-not script s g w (Instr.LoopTop depth count past) good idle now does ready = cc
 idle-not script s g w (Instr.LoopEnd depth top) good idle now does ready = cc
+idle-not script s g w (Instr.Jump to) good idle now does ready = cc
+idle-not script s g w (Instr.Select cases default_to) good idle now does ready =
+    either-not (is_some default_to) (list_any (λ (c : Case). is_ready_case script s (has_come s w) everyone g c.kind) cases) ready
+    (default-not script s g cases default_to idle does) (case-not script s g w cases default_to idle now does)

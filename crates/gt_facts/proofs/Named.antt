@@ -10,16 +10,14 @@ use Rattle.gt_model.specs.declared.entry.Reason.{Reason}
 use Rattle.gt_model.specs.Good.{IsGood}
 use Rattle.gt_model.specs.Named.{IsNamed, AllNamed}
 use Rattle.gt_rules.specs.State.{State, stands_at, sleeps_until, next_number}
-use Rattle.gt_rules.specs.Panics.{panic_at}
 use Rattle.gt_rules.specs.declared.change.Move.{Move}
 use Rattle.gt_rules.specs.Change.{change_of}
 use Rattle.gt_rules.specs.After.{after}
-use Rattle.gt_rules.specs.Legal.{May, Operates, operation_at}
+use Rattle.gt_rules.specs.Legal.{May, MayPanic, Operates, operation_at}
 use Rattle.gt_rules.specs.Finish.{Legal}
 use Rattle.gt_rules.specs.History.{AllLegal}
 use Rattle.gt_facts.proofs.Makers.{Maker, calls, receives, trades, pairs, wakes, panics, maker, sets, trades-May, starts}
-use Rattle.gt_facts.proofs.Lookups.{send-Does}
-pub use Rattle.gt_facts.proofs.Lookups.{names-instr_at, names-Does}
+pub use Rattle.gt_facts.proofs.Lookups.{names-instr_at, names-Does, names-Operates}
 
 -- goroutines are numbered from 1: there is none with the number 0
 one-stands_at : (script : Script) (s : State) (g : ℕ) (i : Instr) → stands_at script s g ≡ Some i → 1 ≤ g
@@ -34,9 +32,9 @@ one-operation_at : (script : Script) (s : State) (g case_no : ℕ) (kind : CaseK
 one-operation_at script s zero case_no kind e = cc
 one-operation_at script s (suc g) case_no kind e = omega arith
 
-one-panic_at : (script : Script) (s : State) (g case_no : ℕ) (reason : Reason) → panic_at script s g ≡ Some (case_no, reason) → 1 ≤ g
-one-panic_at script s zero case_no reason e = cc
-one-panic_at script s (suc g) case_no reason e = omega arith
+one-may_panic : (script : Script) (s : State) (g case_no : ℕ) (reason : Reason) → MayPanic script s (record { g = g; case_no = case_no }) reason → 1 ≤ g
+one-may_panic script s zero case_no reason may = absurd may
+one-may_panic script s (suc g) case_no reason may = omega arith
 
 one-next_number : (s : State) (child : ℕ) → child ≡ next_number s → 1 ≤ child
 one-next_number s child e = omega arith
@@ -46,9 +44,9 @@ one-Maker : (script : Script) (s : State) (m p : Option (ℕ × Move)) (k : Opti
 one-Maker script s m q k (calls g i n does goes leaves) = one-stands_at script s g i does.stands
 one-Maker script s m q k (receives p t due call timer is come) = one-operation_at script s p.g p.case_no (CaseKind.Recv t) call.stands
 one-Maker script s m q k (trades p kind call ready) = one-operation_at script s p.g p.case_no kind call.stands
-one-Maker script s m q k (pairs from to c v sends gets chan none other) = one-operation_at script s from.g from.case_no (CaseKind.Send c v) sends.stands
+one-Maker script s m q k (pairs from to c v sends gets chan none other waits) = one-operation_at script s from.g from.case_no (CaseKind.Send c v) sends.stands
 one-Maker script s m q k (wakes g h) = one-sleeps_until s g _ h
-one-Maker script s m q k (panics p reason h) = one-panic_at script s p.g p.case_no reason h
+one-Maker script s m q k (panics p reason h) = one-may_panic script s p.g p.case_no reason h
 one-Maker script s m q k _ = tt
 
 -- an entry that may come next can be printed: its goroutines have numbers, and its timer, its channel and its function are declared
@@ -60,7 +58,7 @@ named-May script s (Entry.Recv p c v) good may = (tt, (one-operation_at script s
 named-May script s (Entry.Pair from to c v) good may =
     let sends : Operates script s from (CaseKind.Send c v) = may.0 in
     let gets : Operates script s to (CaseKind.Recv c) = may.1 in
-    let chan : IsTrue (is_chan script c) = names-Does script s from.g (Instr.Send c v) good (send-Does script s from c v sends) in (
+    let chan : IsTrue (is_chan script c) = names-Operates script s from (CaseKind.Send c v) good sends in (
       tt,
       (
         one-operation_at script s from.g from.case_no (CaseKind.Send c v) sends.stands,

@@ -11,17 +11,18 @@ use Rattle.gt_model.specs.declared.state.Timer.{Timer}
 use Rattle.gt_model.specs.declared.state.Mode.{Mode}
 use Rattle.gt_model.specs.Tables.{numbered, at}
 use Rattle.gt_rules.specs.State.{State, goroutine_at, stands, stands_at, until_of, clock, timer_at, due_of}
+use Rattle.gt_model.specs.declared.script.Case.{Case}
 use Rattle.gt_model.specs.declared.script.CaseKind.{CaseKind}
 use Rattle.gt_model.specs.declared.script.What.{What}
 use Rattle.gt_model.specs.Script.{instr_at, what_at, is_func}
 use Rattle.gt_rules.specs.Panics.{fault}
-use Rattle.gt_rules.specs.Operations.{receives_from, offers}
-use Rattle.gt_rules.specs.Ready.{is_firm, is_firm_in, is_due, is_ready_in, is_ready_at, is_ready_instr, is_ready_recv, has_partner, has_come, everyone, no_timer}
+use Rattle.gt_rules.specs.Operations.{operation, receives_from, offers}
+use Rattle.gt_rules.specs.Ready.{is_firm, is_firm_in, is_due, is_ready_in, is_ready_at, is_ready_instr, is_ready_case, is_ready_recv, has_partner, has_come, everyone, no_timer}
 use Rattle.gt_facts.specs.Still.{IsStill}
 use Rattle.gt_rules.specs.Counted.{sleep_of, awaits, is_awaited, counted_timer}
 use Rattle.gt_rules.specs.Finish.{IsIdle}
 use Rattle.gt_facts.specs.Quiet.{IsQuiet, none_due}
-use Rattle.gt_facts.proofs.Lookups.{any-numbered, enumerated_at, all-enumerated, Standing, standing}
+use Rattle.gt_facts.proofs.Lookups.{any-numbered, offers-operation, enumerated_at, all-enumerated, Standing, standing}
 use Rattle.gt_model.proofs.Items.{at-is}
 use Rattle.gt_facts.proofs.Still.{still-IsIdle, stands_there}
 
@@ -83,12 +84,12 @@ timer_later script s t due r quiet e is counts =
 same_number : (t : ℕ) → eqb t t ≡ true
 same_number t = eq-eqb t t refl
 
-awaited_there : (script : Script) (s : State) (g t : ℕ) → IsQuiet script s → stands_at script s g ≡ Some (Instr.Recv t) → is_awaited script s 0 t ≡ true
-awaited_there script s g t quiet e =
-    let st : Standing script s g (Instr.Recv t) = standing script s g (Instr.Recv t) e in
+awaited_there : (script : Script) (s : State) (g t : ℕ) (i : Instr) → IsQuiet script s → stands_at script s g ≡ Some i → offers (receives_from t) i ≡ true → is_awaited script s 0 t ≡ true
+awaited_there script s g t i quiet e offer =
+    let st : Standing script s g i = standing script s g i e in
     let zero_world : st.who.world ≡ 0 = quiet.world.goroutines g st.who st.there in
-    let on : stands script st.who ≡ Some (Instr.Recv t) = subst (λ (m : Mode). (elim m [ Mode.At ↦ instr_at script st.who.place | _ ↦ None ]) ≡ Some (Instr.Recv t)) (sym st.at) st.on in
-    let yes : awaits script 0 t st.who ≡ true = rw (eq-eqb st.who.world 0 zero_world) (subst (λ (o : Option Instr). (elim o [ None ↦ false | Some i ↦ offers (receives_from t) i ]) ≡ true) (sym on) (same_number t)) in
+    let on : stands script st.who ≡ Some i = subst (λ (m : Mode). (elim m [ Mode.At ↦ instr_at script st.who.place | _ ↦ None ]) ≡ Some i) (sym st.at) st.on in
+    let yes : awaits script 0 t st.who ≡ true = rw (eq-eqb st.who.world 0 zero_world) (subst (λ (o : Option Instr). (elim o [ None ↦ false | Some i ↦ offers (receives_from t) i ]) ≡ true) (sym on) offer) in
     any-numbered (awaits script 0 t) s.goroutines g st.who st.there yes
 
 -- what counts is not due
@@ -100,11 +101,12 @@ not_due script s t r quiet e counts =
     ] refl
 
 -- nobody's receive is ready
-waits_on : (script : Script) (s : State) (g t : ℕ) → IsQuiet script s → stands_at script s g ≡ Some (Instr.Recv t) → is_due (due_of s t) (clock s 0) ≡ false
-waits_on script s g t quiet on =
+waits_on : (script : Script) (s : State) (g t : ℕ) (i : Instr) → IsQuiet script s → stands_at script s g ≡ Some i → offers (receives_from t) i ≡ true
+    → is_due (due_of s t) (clock s 0) ≡ false
+waits_on script s g t i quiet on offer =
     elim (timer_at s t) as (λ o. timer_at s t ≡ o → is_due (elim o as (λ o. Option ℕ) [ None ↦ None | Some r ↦ r.due ]) (clock s 0) ≡ false) [
       | None ↦ λ e. refl
-      | Some r ↦ λ e. not_due script s t r quiet e (or_right (is_func script t) _ (awaited_there script s g t quiet on))
+      | Some r ↦ λ e. not_due script s t r quiet e (or_right (is_func script t) _ (awaited_there script s g t i quiet on offer))
     ] refl
 
 -- a receive that is ready where no timer counts is ready where some do: they differ in the receive of a timer
@@ -115,15 +117,39 @@ recv_not s timed t (Some (What.AfterFunc func)) later h = refl
 recv_not s timed t (Some (What.Chan cap)) later h = h
 recv_not s timed t (Some What.Function) later h = refl
 
+-- so it is with each operation of who stands there
+ready_case_not : (script : Script) (s : State) (g : ℕ) (i : Instr) (n : ℕ) (kind : CaseKind) → IsQuiet script s → stands_at script s g ≡ Some i → operation i n ≡ Some kind
+    → is_ready_case script s no_timer everyone g kind ≡ false → is_ready_case script s (has_come s 0) everyone g kind ≡ false
+ready_case_not script s g i n (CaseKind.Recv t) quiet on has stays =
+    let none = or_parts (is_ready_recv s no_timer t (what_at script t)) (has_partner script s everyone g (CaseKind.Recv t)) stays in
+    let offer : offers (receives_from t) i ≡ true = offers-operation (receives_from t) i n (CaseKind.Recv t) has (same_number t) in
+    or_from (is_ready_recv s (has_come s 0) t (what_at script t)) (has_partner script s everyone g (CaseKind.Recv t))
+    (recv_not s (has_come s 0) t (what_at script t) (waits_on script s g t i quiet on offer) none.0) none.1
+ready_case_not script s g i n (CaseKind.Send c v) quiet on has stays = stays
+
+-- what holds of no item of a list holds of none of them
+none-item : (p : Case → Bool) (cases : List Case) (k : ℕ) (c : Case) → list_any p cases ≡ false → slice_get cases k ≡ Some c → p c ≡ false
+none-item p [] k c none e = cc
+none-item p (d ∷ cases) zero c none e = let is : d ≡ c = cc in subst (λ c. p c ≡ false) is (or_parts (p d) (list_any p cases) none).0
+none-item p (d ∷ cases) (suc k) c none e = none-item p cases k c (or_parts (p d) (list_any p cases) none).1 e
+
+none-any : (p : Case → Bool) (cases : List Case) → ((k : ℕ) (c : Case) → slice_get cases k ≡ Some c → p c ≡ false) → list_any p cases ≡ false
+none-any p [] each = refl
+none-any p (d ∷ cases) each = or_from (p d) (list_any p cases) (each 0 d refl) (none-any p cases (λ k c e. each (suc k) c e))
+
 ready_instr_not : (script : Script) (s : State) (g : ℕ) (i : Instr) → IsQuiet script s → stands_at script s g ≡ Some i → is_ready_instr script s no_timer everyone g i ≡ false
     → is_ready_instr script s (has_come s 0) everyone g i ≡ false
-ready_instr_not script s g (Instr.Recv t) quiet on stays =
-    let none = or_parts (is_ready_recv s no_timer t (what_at script t)) (has_partner script s everyone g (CaseKind.Recv t)) stays in
-    or_from (is_ready_recv s (has_come s 0) t (what_at script t)) (has_partner script s everyone g (CaseKind.Recv t))
-    (recv_not s (has_come s 0) t (what_at script t) (waits_on script s g t quiet on) none.0) none.1
+ready_instr_not script s g (Instr.Recv t) quiet on stays = ready_case_not script s g (Instr.Recv t) 0 (CaseKind.Recv t) quiet on refl stays
 ready_instr_not script s g (Instr.Send c v) quiet on stays = stays
+ready_instr_not script s g (Instr.Select cases default_to) quiet on stays =
+    let none = or_parts (is_some default_to) (list_any (λ (c : Case). is_ready_case script s no_timer everyone g c.kind) cases) stays in
+    or_from (is_some default_to) (list_any (λ (c : Case). is_ready_case script s (has_come s 0) everyone g c.kind) cases) none.0
+    (none-any (λ (c : Case). is_ready_case script s (has_come s 0) everyone g c.kind) cases (λ k c e.
+    ready_case_not script s g (Instr.Select cases default_to) (suc k) c.kind quiet on (ap (option_map (λ (c : Case). c.kind)) e)
+    (none-item (λ (c : Case). is_ready_case script s no_timer everyone g c.kind) cases k c none.1 e)))
 ready_instr_not script s g (Instr.LoopTop depth count past) quiet on stays = refl
 ready_instr_not script s g (Instr.LoopEnd depth top) quiet on stays = refl
+ready_instr_not script s g (Instr.Jump to) quiet on stays = refl
 ready_instr_not script s g _ quiet on stays = cc
 
 -- who stands at an instruction is not ready: it is no misuse, it has no partner, and it waits for a time that is still to come

@@ -1,5 +1,5 @@
 -- A program is idle exactly where it stands still: who is ready has an entry that may come next, and who is not has none.
-use Rattle.std.proofs.Common.{◌≡◌, ℕ, zero, suc, ◌≤◌, refl, sym, ap, subst, ◌∙◌, Option, None, Some, Bool, true, false, ◌||◌, ◌==◌, ◌≢◌, is_some, IsTrue, IsSomeAnd}
+use Rattle.std.proofs.Common.{◌≡◌, ℕ, zero, suc, ◌≤◌, refl, sym, ap, subst, ◌∙◌, Option, None, Some, Bool, true, false, ◌||◌, ◌==◌, ◌≢◌, is_some, IsTrue, IsSomeAnd, MatchOption}
 use Rattle.std.specs.Option.{option_map}
 use Rattle.std.proofs.lemmas.Bool.{leb-true, le-leb, eq-eqb, and_from}
 pub use Rattle.std.proofs.lemmas.Bool.{or_left, or_right}
@@ -11,20 +11,20 @@ use Rattle.gt_model.specs.declared.entry.Reason.{Reason}
 use Rattle.gt_model.specs.declared.state.Goroutine.{Goroutine}
 use Rattle.gt_model.specs.declared.state.Timer.{Timer}
 use Rattle.gt_model.specs.declared.state.Mode.{Mode}
-use Rattle.gt_rules.specs.State.{State, goroutine_at, stands, stands_at, until_of, sleeps_until, clock, clock_of, world_of, next_number, timer_at, due_of}
+use Rattle.gt_rules.specs.State.{State, goroutine_at, stands, stands_at, until_of, sleeps_until, clock, clock_of, world_of, next_number, timer_at, due_of, is_closed}
 use Rattle.gt_model.specs.declared.script.CaseKind.{CaseKind}
 use Rattle.gt_model.specs.declared.script.What.{What}
 use Rattle.gt_model.specs.Script.{instr_at, what_at, names_timer, is_func, is_timer, capacity_of}
-use Rattle.gt_rules.specs.Panics.{fault, fault_at, panic_of, panic_at}
-use Rattle.gt_rules.specs.Operations.{operation, receives_from}
+use Rattle.gt_rules.specs.Panics.{fault, fault_at, fault_case, panic_of, panic_at}
+use Rattle.gt_rules.specs.Operations.{operation, polls, receives_from}
 use Rattle.gt_rules.specs.Ready.{is_due, is_ready, is_ready_in, is_ready_at, is_ready_instr, is_ready_case, is_ready_alone, is_ready_recv, has_partner, partner_waits, has_come, everyone}
 use Rattle.gt_model.specs.Good.{IsGood}
 use Rattle.gt_rules.specs.declared.change.Move.{Move}
 use Rattle.gt_rules.specs.Change.{change_of}
-use Rattle.gt_rules.specs.Legal.{May, Does, Operates}
+use Rattle.gt_rules.specs.Legal.{May, MayPanic, ChoosesClosed, Does, Operates, operation_at}
 use Rattle.gt_rules.specs.Finish.{IsIdle, IsProgramClock}
 use Rattle.gt_facts.specs.Still.{IsStill}
-use Rattle.gt_facts.proofs.Lookups.{Standing, standing, AtOperation, at_operation, recv-Does, Asleep, sleeper}
+use Rattle.gt_facts.proofs.Lookups.{Standing, standing, AtOperation, at_operation, operates-Does, operation-any, offers-operation, Asleep, sleeper}
 use Rattle.gt_facts.proofs.Partners.{Partner, partner-waits}
 use Rattle.gt_facts.proofs.Makers.{Maker, calls, receives, trades, pairs, wakes, fires, ticks, panics, maker, idle-not}
 
@@ -77,19 +77,7 @@ timer-ready s timed t (Some (What.Chan cap)) timer come = cc
 timer-ready s timed t (Some What.Function) timer come = cc
 timer-ready s timed t None timer come = cc
 
-receives_not : (script : Script) (s : State) (p : Party) (t due : ℕ) → IsStill script s → Operates script s p (CaseKind.Recv t) → IsTrue (is_timer script t) → due_of s t ≡ Some due
-    → due ≤ clock_of s p.g → ⊥
-receives_not script s p t due still call timer is h =
-    let does : Does script s p.g (Instr.Recv t) = recv-Does script s p t call in
-    let st : Standing script s p.g (Instr.Recv t) = standing script s p.g (Instr.Recv t) does.stands in
-    let here : due ≤ clock s st.who.world = subst (λ w. due ≤ clock s w) (world_there s p.g st.who st.there) h in
-    let come : has_come s st.who.world t ≡ true =
-    subst (λ (o : Option ℕ). is_due o (clock s st.who.world) ≡ true) (sym is) (le-leb due (clock s st.who.world) here) in
-    let alone : is_ready_alone script s (has_come s st.who.world) (CaseKind.Recv t) ≡ true = timer-ready s (has_come s st.who.world) t (what_at script t) timer come in
-    not_ready script s p.g (Instr.Recv t) st still
-    (or_right (is_some (fault script s (Instr.Recv t))) _ (or_left (is_ready_alone script s (has_come s st.who.world) (CaseKind.Recv t)) _ alone))
-
--- what an instruction is ready for is its operation
+-- an instruction is ready where one of its operations is
 operation-ready : (script : Script) (s : State) (timed counts : ℕ → Bool) (me n : ℕ) (i : Instr) (kind : CaseKind) → operation i n ≡ Some kind
     → is_ready_case script s timed counts me kind ≡ true → is_ready_instr script s timed counts me i ≡ true
 operation-ready script s timed counts me zero (Instr.Recv o) kind e h =
@@ -100,7 +88,24 @@ operation-ready script s timed counts me zero (Instr.Send c v) kind e h =
     subst (λ (k : CaseKind). is_ready_case script s timed counts me k ≡ true) (sym is) h
 operation-ready script s timed counts me (suc n) (Instr.Recv o) kind e h = cc
 operation-ready script s timed counts me (suc n) (Instr.Send c v) kind e h = cc
+operation-ready script s timed counts me zero (Instr.Select cases default_to) kind e h = cc
+operation-ready script s timed counts me (suc k) (Instr.Select cases default_to) kind e h =
+    or_right (is_some default_to) _ (operation-any (is_ready_case script s timed counts me) cases k kind e h)
 operation-ready script s timed counts me n _ kind e h = cc
+
+receives_not : (script : Script) (s : State) (p : Party) (t due : ℕ) → IsStill script s → Operates script s p (CaseKind.Recv t) → IsTrue (is_timer script t) → due_of s t ≡ Some due
+    → due ≤ clock_of s p.g → ⊥
+receives_not script s p t due still call timer is h =
+    let at : AtOperation script s p (CaseKind.Recv t) = at_operation script s p (CaseKind.Recv t) call.stands in
+    let st : Standing script s p.g at.instr = standing script s p.g at.instr at.stands in
+    let here : due ≤ clock s st.who.world = subst (λ w. due ≤ clock s w) (world_there s p.g st.who st.there) h in
+    let come : has_come s st.who.world t ≡ true =
+    subst (λ (o : Option ℕ). is_due o (clock s st.who.world) ≡ true) (sym is) (le-leb due (clock s st.who.world) here) in
+    let alone : is_ready_alone script s (has_come s st.who.world) (CaseKind.Recv t) ≡ true = timer-ready s (has_come s st.who.world) t (what_at script t) timer come in
+    not_ready script s p.g at.instr st still
+    (or_right (is_some (fault script s at.instr)) _
+    (operation-ready script s (has_come s st.who.world) everyone p.g p.case_no at.instr (CaseKind.Recv t) at.has
+    (or_left (is_ready_alone script s (has_come s st.who.world) (CaseKind.Recv t)) _ alone)))
 
 -- an operation that goes on by whatever clock
 operates_not : (script : Script) (s : State) (p : Party) (kind : CaseKind) → IsStill script s → Operates script s p kind
@@ -110,22 +115,34 @@ operates_not script s p kind still call goes =
     goes_not script s p.g at.instr still (record { stands = at.stands; calm = call.calm })
     (λ w. operation-ready script s (has_come s w) everyone p.g p.case_no at.instr kind at.has (goes w))
 
--- a sender whose partner waits there is ready
+-- who stands at a choice with a default is ready
+polls-ready : (script : Script) (s : State) (timed counts : ℕ → Bool) (me : ℕ) (i : Instr) → polls i ≡ true → is_ready_instr script s timed counts me i ≡ true
+polls-ready script s timed counts me (Instr.Select cases default_to) h = or_left (is_some default_to) _ h
+polls-ready script s timed counts me _ h = cc
+
+-- a sender whose partner would wait there is ready, and so is one who would not wait
 pairs_not : (script : Script) (s : State) (from to : Party) (c v : ℕ) → IsStill script s → Operates script s from (CaseKind.Send c v) → Operates script s to (CaseKind.Recv c)
     → capacity_of script c ≡ 0 → from.g ≢ to.g → ⊥
 pairs_not script s from to c v still sends gets none other =
-    let p : Partner script s everyone from.g (receives_from c) = record {
-      number = to.g;
-      instr = Instr.Recv c;
-      other = λ e. other (sym e);
-      counted = refl;
-      does = recv-Does script s to c gets;
-      passes = eq-eqb c c refl;
-    } in
-    let ready : has_partner script s everyone from.g (CaseKind.Send c v) ≡ true =
-    and_from (capacity_of script c == 0) (partner_waits script s everyone from.g (receives_from c)) (eq-eqb (capacity_of script c) 0 none)
-    (partner-waits script s everyone from.g (receives_from c) p) in
-    operates_not script s from (CaseKind.Send c v) still sends (λ w. or_right (is_ready_alone script s (has_come s w) (CaseKind.Send c v)) _ ready)
+    let at : AtOperation script s to (CaseKind.Recv c) = at_operation script s to (CaseKind.Recv c) gets.stands in
+    let does : Does script s to.g at.instr = operates-Does script s to (CaseKind.Recv c) at gets in
+    elim (polls at.instr) as (λ b. polls at.instr ≡ b → ⊥) [
+      | true ↦ λ polling. goes_not script s to.g at.instr still does (λ w. polls-ready script s (has_come s w) everyone to.g at.instr polling)
+      | false ↦ λ waits.
+          let p : Partner script s everyone from.g (receives_from c) = record {
+            number = to.g;
+            instr = at.instr;
+            other = λ e. other (sym e);
+            counted = refl;
+            does = does;
+            waits = waits;
+            passes = offers-operation (receives_from c) at.instr to.case_no (CaseKind.Recv c) at.has (eq-eqb c c refl);
+          } in
+          let ready : has_partner script s everyone from.g (CaseKind.Send c v) ≡ true =
+          and_from (capacity_of script c == 0) (partner_waits script s everyone from.g (receives_from c)) (eq-eqb (capacity_of script c) 0 none)
+          (partner-waits script s everyone from.g (receives_from c) p) in
+          operates_not script s from (CaseKind.Send c v) still sends (λ w. or_right (is_ready_alone script s (has_come s w) (CaseKind.Send c v)) _ ready)
+    ] refl
 
 fires_not : (script : Script) (s : State) (t : ℕ) → IsStill script s → IsTrue (is_func script t)
     → IsSomeAnd (timer_at s t) (λ (r : Timer). IsTrue (is_due r.due (clock s r.world))) → ⊥
@@ -135,9 +152,9 @@ fires_not script s t still func h =
       | Some r ↦ λ e k. true_false (is_due r.due (clock s r.world)) k (still.no_func_due t r e func)
     ] refl h
 
-faulty : (o : Option Reason) (n : ℕ) (reason : Reason) → (elim o as (λ x. Option (ℕ × Reason)) [ None ↦ None | Some why ↦ Some (0, why) ]) ≡ Some (n, reason) → is_some o ≡ true
-faulty None n reason e = cc
-faulty (Some why) n reason e = refl
+faulty : (o : Option Reason) (k n : ℕ) (reason : Reason) → (elim o as (λ x. Option (ℕ × Reason)) [ None ↦ None | Some why ↦ Some (k, why) ]) ≡ Some (n, reason) → is_some o ≡ true
+faulty None k n reason e = cc
+faulty (Some why) k n reason e = refl
 
 pub panic_stands : (script : Script) (s : State) (g : ℕ)
     → (elim (stands_at script s g) as (λ x. Option (ℕ × Reason)) [ None ↦ None | Some i ↦ fault_at script s i ]) ≡ panic_at script s g
@@ -153,8 +170,25 @@ panics_not script s g n reason still h =
     elim (stands_at script s g)
     as (λ o. stands_at script s g ≡ o → (elim o as (λ x. Option (ℕ × Reason)) [ None ↦ None | Some i ↦ fault_at script s i ]) ≡ Some (n, reason) → ⊥) [
       | None ↦ λ e k. cc
-      | Some i ↦ λ e k. not_ready script s g i (standing script s g i e) still (or_left (is_some (fault script s i)) _ (faulty (fault script s i) n reason k))
+      | Some i ↦ λ e k. not_ready script s g i (standing script s g i e) still (or_left (is_some (fault script s i)) _ (faulty (fault script s i) (fault_case s i) n reason k))
     ] refl (panic_stands script s g ∙ h)
+
+-- a case that sends to a closed channel is ready
+chooses_not : (script : Script) (s : State) (p : Party) (o : Option CaseKind) (reason : Reason) → IsStill script s → panic_at script s p.g ≡ None → operation_at script s p ≡ o
+    → ChoosesClosed s o reason → ⊥
+chooses_not script s p (Some (CaseKind.Send c v)) reason still calm stands chooses =
+    operates_not script s p (CaseKind.Send c v) still (record { stands = stands; calm = calm })
+    (λ w. or_left (is_ready_alone script s (has_come s w) (CaseKind.Send c v)) _ (or_left (is_closed s c) _ chooses.0))
+chooses_not script s p (Some (CaseKind.Recv o)) reason still calm stands chooses = chooses
+chooses_not script s p None reason still calm stands chooses = chooses
+
+may-panic_not : (script : Script) (s : State) (p : Party) (reason : Reason) → IsStill script s → MayPanic script s p reason → ⊥
+may-panic_not script s p reason still may =
+    elim (panic_at script s p.g)
+    as (λ o. panic_at script s p.g ≡ o → MatchOption o (ChoosesClosed s (operation_at script s p) reason) (λ x. x ≡ (p.case_no, reason)) → ⊥) [
+      | None ↦ λ calm h. chooses_not script s p (operation_at script s p) reason still calm refl h
+      | Some x ↦ λ is h. panics_not script s p.g p.case_no reason still (is ∙ ap Some h)
+    ] refl may
 
 -- nobody makes an entry but the program's clock
 clock-Maker : (script : Script) (s : State) (m p : Option (ℕ × Move)) (k : Option (ℕ × ℕ)) → IsStill script s → Maker script s m p k → is_some k ≡ true
@@ -162,11 +196,11 @@ clock-Maker script s m q k still (calls g i n does goes leaves) = absurd (goes_n
 clock-Maker script s m q k still (receives p t due call timer is come) = absurd (receives_not script s p t due still call timer is come)
 clock-Maker script s m q k still (trades p kind call ready) =
     absurd (operates_not script s p kind still call (λ w. or_left (is_ready_alone script s (has_come s w) kind) _ (ready (has_come s w))))
-clock-Maker script s m q k still (pairs from to c v sends gets chan none other) = absurd (pairs_not script s from to c v still sends gets none other)
+clock-Maker script s m q k still (pairs from to c v sends gets chan none other waits) = absurd (pairs_not script s from to c v still sends gets none other)
 clock-Maker script s m q k still (wakes g h) = absurd (wakes_not script s g still h)
 clock-Maker script s m q k still (fires t func h) = absurd (fires_not script s t still func h)
 clock-Maker script s m q k still (ticks to up most) = refl
-clock-Maker script s m q k still (panics p reason h) = absurd (panics_not script s p.g p.case_no reason still h)
+clock-Maker script s m q k still (panics p reason h) = absurd (may-panic_not script s p reason still h)
 
 moves-clock : (script : Script) (s : State) (e : Entry) → May script s e → is_some (change_of e).clock ≡ true → IsProgramClock e
 moves-clock script s (Entry.Clock zero to) may h = tt
@@ -179,6 +213,10 @@ still-IsIdle script s still e may =
 
 -- ---- an idle program is still
 
+panic-may : (script : Script) (s : State) (g n : ℕ) (reason : Reason) → panic_at script s g ≡ Some (n, reason) → MayPanic script s (record { g = g; case_no = n }) reason
+panic-may script s g n reason is =
+    subst (λ (o : Option (ℕ × Reason)). MatchOption o (ChoosesClosed s (operation_at script s (record { g = g; case_no = n })) reason) (λ x. x ≡ (n, reason))) (sym is) refl
+
 at_not : (script : Script) (s : State) (g : ℕ) (r : Goroutine) (i : Instr) → IsGood script → IsIdle script s → goroutine_at s g ≡ Some r → stands_at script s g ≡ Some i
     → is_ready_at script s (has_come s r.world) everyone g (Some i) ≡ true → ⊥
 at_not script s g r i good idle e on ready =
@@ -188,12 +226,12 @@ at_not script s g r i good idle e on ready =
     elim (fault script s i)
     as (λ o. fault script s i ≡ o → (is_some o || is_ready_instr script s (has_come s r.world) everyone g i) ≡ true → ⊥) [
       | None ↦ λ is h.
-          let calm : panic_at script s g ≡ None = panics ∙ ap (λ (o : Option Reason). elim o as (λ x. Option (ℕ × Reason)) [ None ↦ None | Some why ↦ Some (0, why) ]) is in
+          let calm : panic_at script s g ≡ None = panics ∙ ap (λ (o : Option Reason). elim o as (λ x. Option (ℕ × Reason)) [ None ↦ None | Some why ↦ Some (fault_case s i, why) ]) is in
           idle-not script s g r.world i good idle now (record { stands = on; calm = calm }) h
       | Some reason ↦ λ is h.
-          let misuse : panic_at script s g ≡ Some (0, reason) =
-          panics ∙ ap (λ (o : Option Reason). elim o as (λ x. Option (ℕ × Reason)) [ None ↦ None | Some why ↦ Some (0, why) ]) is in
-          idle (Entry.Panic (record { g = g; case_no = 0 }) reason) misuse
+          let misuse : panic_at script s g ≡ Some (fault_case s i, reason) =
+          panics ∙ ap (λ (o : Option Reason). elim o as (λ x. Option (ℕ × Reason)) [ None ↦ None | Some why ↦ Some (fault_case s i, why) ]) is in
+          idle (Entry.Panic (record { g = g; case_no = fault_case s i }) reason) (panic-may script s g (fault_case s i) reason misuse)
     ] refl ready
 
 pub stands_there : (script : Script) (s : State) (g : ℕ) (r : Goroutine) (i : Instr) → goroutine_at s g ≡ Some r → r.mode ≡ Mode.At → instr_at script r.place ≡ Some i

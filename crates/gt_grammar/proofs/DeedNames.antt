@@ -13,11 +13,11 @@ use Rattle.gt_table.specs.declared.form.Kind.{Kind}
 use Rattle.gt_table.specs.Forms.{is_kind_function}
 use Rattle.gt_names.specs.declared.names.Declared.{Declared}
 use Rattle.gt_names.specs.Names.{Names, is_free_name, find}
-use Rattle.gt_grammar.specs.declared.progress.OpenLoop.{OpenLoop}
+use Rattle.gt_grammar.specs.declared.progress.OpenBlock.{OpenBlock}
 use Rattle.gt_grammar.specs.declared.progress.Held.{Held}
-use Rattle.gt_grammar.specs.Faults.{holding, loop_ended}
-use Rattle.gt_grammar.specs.Deeds.{Deed, declares, opens, does, loops, closes, decl_of, func_of, decls_in, code_in, funcs_in}
-use Rattle.gt_grammar.proofs.Rightly.{kind_in, place_of, is_declared_before, names_in, Starts, Right, opened}
+use Rattle.gt_grammar.specs.Faults.{holding, block_ended, case_added, default_added}
+use Rattle.gt_grammar.specs.Deeds.{Deed, declares, opens, does, loops, selects, chooses, defaults, closes, decl_of, func_of, decls_in, code_in, funcs_in}
+use Rattle.gt_grammar.proofs.Rightly.{kind_in, place_of, is_declared_before, names_in, Starts, Right, opened, chosen_in}
 
 abbrev pub declared : Kind → ℕ → ℕ → Declared
 declared kind n f = record { kind = kind; place = n; func = f }
@@ -46,26 +46,32 @@ Placed names n f (declares name what ∷ rest) = (names name ≡ Some (declared 
 Placed names n f (opens name decl ∷ rest) = (names name ≡ Some (declared Kind.Function n f)) × (decl ≡ n) × Placed names (n + 1) (f + 1) rest
 Placed names n f (does instr ∷ rest) = Placed names n f rest
 Placed names n f (loops count ∷ rest) = Placed names n f rest
+Placed names n f (selects ∷ rest) = Placed names n f rest
+Placed names n f (chooses kind ∷ rest) = Placed names n f rest
+Placed names n f (defaults ∷ rest) = Placed names n f rest
 Placed names n f (closes ∷ rest) = Placed names n f rest
 
-placed-from : (names : Names) (deeds : List Deed) (inside : Bool) (open_loops : List OpenLoop) (n f k : ℕ) → Right names inside open_loops n f k deeds → FoundFrom names n f deeds → Placed names n f deeds
-placed-from names [] inside open_loops n f k r w = tt
-placed-from names (declares name what ∷ rest) inside open_loops n f k r w =
+placed-from : (names : Names) (deeds : List Deed) (inside : Bool) (blocks : List OpenBlock) (n f k : ℕ) → Right names inside blocks n f k deeds → FoundFrom names n f deeds → Placed names n f deeds
+placed-from names [] inside blocks n f k r w = tt
+placed-from names (declares name what ∷ rest) inside blocks n f k r w =
     let x : Declared = declared (kind_in what) n f in (
       here-by (names name) x (find (names_in (n + 1) f rest) name) (bytes_eq name name) n (same-name name) r.2.first (w name),
-      placed-from names rest false open_loops (n + 1) f k r.4 (λ q. further names q (bytes_eq q name) x (find (names_in (n + 1) f rest) q) n refl (w q)),
+      placed-from names rest false blocks (n + 1) f k r.4 (λ q. further names q (bytes_eq q name) x (find (names_in (n + 1) f rest) q) n refl (w q)),
     )
-placed-from names (opens name decl ∷ rest) inside open_loops n f k r w =
+placed-from names (opens name decl ∷ rest) inside blocks n f k r w =
     let x : Declared = declared Kind.Function n f in
     let here : names name ≡ Some x = here-by (names name) x (find (names_in (n + 1) (f + 1) rest) name) (bytes_eq name name) n (same-name name) r.3.first (w name) in (
       here,
       r.4 ∙ ap place_of here,
       placed-from names rest true [] (n + 1) (f + 1) k r.6 (λ q. further names q (bytes_eq q name) x (find (names_in (n + 1) (f + 1) rest) q) n refl (w q)),
     )
-placed-from names (does i ∷ rest) inside open_loops n f k r w = placed-from names rest true (holding Held.Entered open_loops) n f (k + 1) r.3 w
-placed-from names (loops count ∷ rest) inside open_loops n f k r w = placed-from names rest true (opened count open_loops) n f k r.3 w
+placed-from names (does i ∷ rest) inside blocks n f k r w = placed-from names rest true (holding Held.Entered blocks) n f (k + 1) r.3 w
+placed-from names (loops count ∷ rest) inside blocks n f k r w = placed-from names rest true (opened count blocks) n f k r.3 w
+placed-from names (selects ∷ rest) inside blocks n f k r w = placed-from names rest true (chosen_in blocks) n f (k + 1) r.3 w
+placed-from names (chooses kind ∷ rest) inside blocks n f k r w = placed-from names rest true (case_added r.2.0 blocks) n f k r.2.2 w
+placed-from names (defaults ∷ rest) inside blocks n f k r w = placed-from names rest true (default_added blocks) n f k r.2 w
 placed-from names (closes ∷ rest) inside [] n f k r w = placed-from names rest false [] n f k r.1 w
-placed-from names (closes ∷ rest) inside (inner ∷ outer) n f k r w = placed-from names rest true (loop_ended (inner ∷ outer)) n f k r.2 w
+placed-from names (closes ∷ rest) inside (inner ∷ outer) n f k r w = placed-from names rest true (block_ended (inner ∷ outer)) n f k r.2 w
 
 pub placed : (names : Names) (deeds : List Deed) → names ≡ find (names_in 0 0 deeds) → Right names false [] 0 0 0 deeds → Placed names 0 0 deeds
 placed names deeds are r = placed-from names deeds false [] 0 0 0 r (λ q. inl (ap (λ (m : Names). m q) are))
@@ -86,16 +92,19 @@ free-not_root : (word : List ℕ) → is_free_name word ≡ true → word ≢ co
 free-not_root word h = λ e.
     not-true (bytes_eq word (codes "root")) (and_parts (is_name word) (not (bytes_eq word (codes "root"))) h).1 ((bytes_eq-Decides word (codes "root")).1 e)
 
-each-name : (names : Names) (P : Decl → Type 0) → ((d : Decl) → is_free_name d.name ≡ true → P d) → (deeds : List Deed) (inside : Bool) (open_loops : List OpenLoop) (n f k : ℕ) → Right names inside open_loops n f k deeds → All P (decls_in deeds)
-each-name names P by [] inside open_loops n f k r = All-none P
-each-name names P by (declares name what ∷ rest) inside open_loops n f k r =
-    All-cons P (decl_of name what) (decls_in rest) (by (decl_of name what) r.2.free) (each-name names P by rest false open_loops (n + 1) f k r.4)
-each-name names P by (opens name decl ∷ rest) inside open_loops n f k r =
+each-name : (names : Names) (P : Decl → Type 0) → ((d : Decl) → is_free_name d.name ≡ true → P d) → (deeds : List Deed) (inside : Bool) (blocks : List OpenBlock) (n f k : ℕ) → Right names inside blocks n f k deeds → All P (decls_in deeds)
+each-name names P by [] inside blocks n f k r = All-none P
+each-name names P by (declares name what ∷ rest) inside blocks n f k r =
+    All-cons P (decl_of name what) (decls_in rest) (by (decl_of name what) r.2.free) (each-name names P by rest false blocks (n + 1) f k r.4)
+each-name names P by (opens name decl ∷ rest) inside blocks n f k r =
     All-cons P (decl_of name What.Function) (decls_in rest) (by (decl_of name What.Function) r.3.free) (each-name names P by rest true [] (n + 1) (f + 1) k r.6)
-each-name names P by (does i ∷ rest) inside open_loops n f k r = each-name names P by rest true (holding Held.Entered open_loops) n f (k + 1) r.3
-each-name names P by (loops count ∷ rest) inside open_loops n f k r = each-name names P by rest true (opened count open_loops) n f k r.3
+each-name names P by (does i ∷ rest) inside blocks n f k r = each-name names P by rest true (holding Held.Entered blocks) n f (k + 1) r.3
+each-name names P by (loops count ∷ rest) inside blocks n f k r = each-name names P by rest true (opened count blocks) n f k r.3
+each-name names P by (selects ∷ rest) inside blocks n f k r = each-name names P by rest true (chosen_in blocks) n f (k + 1) r.3
+each-name names P by (chooses kind ∷ rest) inside blocks n f k r = each-name names P by rest true (case_added r.2.0 blocks) n f k r.2.2
+each-name names P by (defaults ∷ rest) inside blocks n f k r = each-name names P by rest true (default_added blocks) n f k r.2
 each-name names P by (closes ∷ rest) inside [] n f k r = each-name names P by rest false [] n f k r.1
-each-name names P by (closes ∷ rest) inside (inner ∷ outer) n f k r = each-name names P by rest true (loop_ended (inner ∷ outer)) n f k r.2
+each-name names P by (closes ∷ rest) inside (inner ∷ outer) n f k r = each-name names P by rest true (block_ended (inner ∷ outer)) n f k r.2
 
 -- where a declaration is found by its name
 record IsAt (names : Names) (name : List ℕ) (place : ℕ) : Type 0 where
@@ -119,6 +128,9 @@ decl_at names (opens name decl ∷ rest) n f (suc i) d p e =
     record { found = more.found; known = more.known; at = omega (arith, more.at) }
 decl_at names (does instr ∷ rest) n f i d p e = decl_at names rest n f i d p e
 decl_at names (loops count ∷ rest) n f i d p e = decl_at names rest n f i d p e
+decl_at names (selects ∷ rest) n f i d p e = decl_at names rest n f i d p e
+decl_at names (chooses kind ∷ rest) n f i d p e = decl_at names rest n f i d p e
+decl_at names (defaults ∷ rest) n f i d p e = decl_at names rest n f i d p e
 decl_at names (closes ∷ rest) n f i d p e = decl_at names rest n f i d p e
 
 one-place : (o : Option Declared) (x y : Declared) → o ≡ Some x → o ≡ Some y → x.place ≡ y.place
@@ -141,18 +153,21 @@ has_names names deeds r p = record {
 -- ---- functions
 
 -- the functions are the declarations of functions
-pub functions_are : (names : Names) (deeds : List Deed) (inside : Bool) (open_loops : List OpenLoop) (n f k : ℕ) → Right names inside open_loops n f k deeds → Placed names n f deeds → map (λ (g : Func). g.decl) (funcs_in deeds) ≡ function_places n (decls_in deeds)
-functions_are names [] inside open_loops n f k r p = refl
-functions_are names (declares name What.Timer ∷ rest) inside open_loops n f k r p = functions_are names rest false open_loops (n + 1) f k r.4 p.1
-functions_are names (declares name (What.AfterFunc g) ∷ rest) inside open_loops n f k r p = functions_are names rest false open_loops (n + 1) f k r.4 p.1
-functions_are names (declares name (What.Chan cap) ∷ rest) inside open_loops n f k r p = functions_are names rest false open_loops (n + 1) f k r.4 p.1
-functions_are names (declares name What.Function ∷ rest) inside open_loops n f k r p = absurd r.3
-functions_are names (opens name decl ∷ rest) inside open_loops n f k r p =
+pub functions_are : (names : Names) (deeds : List Deed) (inside : Bool) (blocks : List OpenBlock) (n f k : ℕ) → Right names inside blocks n f k deeds → Placed names n f deeds → map (λ (g : Func). g.decl) (funcs_in deeds) ≡ function_places n (decls_in deeds)
+functions_are names [] inside blocks n f k r p = refl
+functions_are names (declares name What.Timer ∷ rest) inside blocks n f k r p = functions_are names rest false blocks (n + 1) f k r.4 p.1
+functions_are names (declares name (What.AfterFunc g) ∷ rest) inside blocks n f k r p = functions_are names rest false blocks (n + 1) f k r.4 p.1
+functions_are names (declares name (What.Chan cap) ∷ rest) inside blocks n f k r p = functions_are names rest false blocks (n + 1) f k r.4 p.1
+functions_are names (declares name What.Function ∷ rest) inside blocks n f k r p = absurd r.3
+functions_are names (opens name decl ∷ rest) inside blocks n f k r p =
     ap (λ x. x ∷ map (λ (g : Func). g.decl) (funcs_in rest)) p.1 ∙ ap (λ xs. n ∷ xs) (functions_are names rest true [] (n + 1) (f + 1) k r.6 p.2)
-functions_are names (does instr ∷ rest) inside open_loops n f k r p = functions_are names rest true (holding Held.Entered open_loops) n f (k + 1) r.3 p
-functions_are names (loops count ∷ rest) inside open_loops n f k r p = functions_are names rest true (opened count open_loops) n f k r.3 p
+functions_are names (does instr ∷ rest) inside blocks n f k r p = functions_are names rest true (holding Held.Entered blocks) n f (k + 1) r.3 p
+functions_are names (loops count ∷ rest) inside blocks n f k r p = functions_are names rest true (opened count blocks) n f k r.3 p
+functions_are names (selects ∷ rest) inside blocks n f k r p = functions_are names rest true (chosen_in blocks) n f (k + 1) r.3 p
+functions_are names (chooses kind ∷ rest) inside blocks n f k r p = functions_are names rest true (case_added r.2.0 blocks) n f k r.2.2 p
+functions_are names (defaults ∷ rest) inside blocks n f k r p = functions_are names rest true (default_added blocks) n f k r.2 p
 functions_are names (closes ∷ rest) inside [] n f k r p = functions_are names rest false [] n f k r.1 p
-functions_are names (closes ∷ rest) inside (inner ∷ outer) n f k r p = functions_are names rest true (loop_ended (inner ∷ outer)) n f k r.2 p
+functions_are names (closes ∷ rest) inside (inner ∷ outer) n f k r p = functions_are names rest true (block_ended (inner ∷ outer)) n f k r.2 p
 
 -- ---- where a name leads
 
@@ -202,9 +217,9 @@ found-by : (decls : List Decl) (funcs : List Func) (n f : ℕ) (q name : List �
 found-by decls funcs n f q name x d more true e here later h = let same : x ≡ d = cc in here same ((bytes_eq-Decides q name).0 e)
 found-by decls funcs n f q name x d more false e here later h = later h
 
-pub found : (names : Names) (deeds : List Deed) (inside : Bool) (open_loops : List OpenLoop) (n f k : ℕ) → Right names inside open_loops n f k deeds → Placed names n f deeds → (q : List ℕ) (d : Declared) → find (names_in n f deeds) q ≡ Some d → Found (decls_in deeds) (funcs_in deeds) n f q d
-found names [] inside open_loops n f k r p q d h = cc
-found names (declares name what ∷ rest) inside open_loops n f k r p q d h =
+pub found : (names : Names) (deeds : List Deed) (inside : Bool) (blocks : List OpenBlock) (n f k : ℕ) → Right names inside blocks n f k deeds → Placed names n f deeds → (q : List ℕ) (d : Declared) → find (names_in n f deeds) q ≡ Some d → Found (decls_in deeds) (funcs_in deeds) n f q d
+found names [] inside blocks n f k r p q d h = cc
+found names (declares name what ∷ rest) inside blocks n f k r p q d h =
     let x : Declared = declared (kind_in what) n f in
     found-by (decl_of name what ∷ decls_in rest) (funcs_in rest) n f q name x d (find (names_in (n + 1) f rest) q) (bytes_eq q name) refl
     (λ e same. record {
@@ -216,9 +231,9 @@ found names (declares name what ∷ rest) inside open_loops n f k r p q d h =
       kind = ap (λ (y : Declared). y.kind) e;
       func = λ t. absurd (starts-no_function names what r.3 (ap (λ (y : Declared). is_kind_function y.kind) e ∙ t));
     })
-    (λ e. found-further (decl_of name what) (decls_in rest) (funcs_in rest) (funcs_in rest) n f f q d (λ w. w) (found names rest false open_loops (n + 1) f k r.4 p.1 q d e))
+    (λ e. found-further (decl_of name what) (decls_in rest) (funcs_in rest) (funcs_in rest) n f f q d (λ w. w) (found names rest false blocks (n + 1) f k r.4 p.1 q d e))
     h
-found names (opens name decl ∷ rest) inside open_loops n f k r p q d h =
+found names (opens name decl ∷ rest) inside blocks n f k r p q d h =
     let x : Declared = declared Kind.Function n f in
     let g : Func = func_of decl (code_in rest) in
     found-by (decl_of name What.Function ∷ decls_in rest) (g ∷ funcs_in rest) n f q name x d (find (names_in (n + 1) (f + 1) rest) q) (bytes_eq q name) refl
@@ -239,7 +254,10 @@ found names (opens name decl ∷ rest) inside open_loops n f k r p q d h =
     })
     (λ e. found-further (decl_of name What.Function) (decls_in rest) (funcs_in rest) (g ∷ funcs_in rest) n f (f + 1) q d (further-func g (funcs_in rest) f d) (found names rest true [] (n + 1) (f + 1) k r.6 p.2 q d e))
     h
-found names (does instr ∷ rest) inside open_loops n f k r p q d h = found names rest true (holding Held.Entered open_loops) n f (k + 1) r.3 p q d h
-found names (loops count ∷ rest) inside open_loops n f k r p q d h = found names rest true (opened count open_loops) n f k r.3 p q d h
+found names (does instr ∷ rest) inside blocks n f k r p q d h = found names rest true (holding Held.Entered blocks) n f (k + 1) r.3 p q d h
+found names (loops count ∷ rest) inside blocks n f k r p q d h = found names rest true (opened count blocks) n f k r.3 p q d h
+found names (selects ∷ rest) inside blocks n f k r p q d h = found names rest true (chosen_in blocks) n f (k + 1) r.3 p q d h
+found names (chooses kind ∷ rest) inside blocks n f k r p q d h = found names rest true (case_added r.2.0 blocks) n f k r.2.2 p q d h
+found names (defaults ∷ rest) inside blocks n f k r p q d h = found names rest true (default_added blocks) n f k r.2 p q d h
 found names (closes ∷ rest) inside [] n f k r p q d h = found names rest false [] n f k r.1 p q d h
-found names (closes ∷ rest) inside (inner ∷ outer) n f k r p q d h = found names rest true (loop_ended (inner ∷ outer)) n f k r.2 p q d h
+found names (closes ∷ rest) inside (inner ∷ outer) n f k r p q d h = found names rest true (block_ended (inner ∷ outer)) n f k r.2 p q d h

@@ -6,6 +6,7 @@ use Rattle.std.specs.Str.{bytes_eq, is_utf8}
 use Rattle.std.proofs.lemmas.Bool.{leb-true, cond_both}
 use Rattle.gt_model.specs.Good.{most_capacity}
 use Rattle.gt_model.specs.Times.{greatest_time}
+use Rattle.gt_model.specs.declared.script.CaseKind.{CaseKind}
 use Rattle.gt_lines.specs.Number.{number_of}
 use Rattle.gt_dur.specs.declared.fault.DurFault.{DurFault}
 use Rattle.gt_dur.specs.Duration.{read_of, capped, outcome_of, begins_with_digit, unmet_place, nanoseconds_of}
@@ -19,8 +20,8 @@ use Rattle.gt_table.specs.Table.{form_of, step_of}
 use Rattle.gt_names.specs.declared.names.Declared.{Declared}
 use Rattle.gt_names.specs.Names.{Names, is_free_name}
 use Rattle.gt_grammar.specs.Duration.{duration_of}
-use Rattle.gt_grammar.specs.Statements.{function_place, number_to, value_of}
-use Rattle.gt_grammar.proofs.Rightly.{kind_in, Ref, IsPlace, Refers, Starts}
+use Rattle.gt_grammar.specs.Statements.{function_place, source_place, number_to, value_of, is_ticking, awaits_timer, command}
+use Rattle.gt_grammar.proofs.Rightly.{kind_in, Ref, IsPlace, Refers, RefersCase, Starts}
 
 -- ---- a duration is at most the greatest time
 
@@ -104,23 +105,33 @@ new-value names q v h = free-by names q v (is_free_name q) (names q) refl refl h
 
 -- ---- each keyword
 
--- what a line with this role and this first argument, of this value, may do
-abbrev pub FitsRole : Names → Role → Arg → ℕ → Step → Type 0
-FitsRole names (Role.Declares kind) arg a (Step.Declare what) = (arg ≡ Arg.NewName) × (kind ≡ kind_in what) × Starts names what
-FitsRole names (Role.Declares kind) arg a (Step.Open decl) = (arg ≡ Arg.NewName) × (kind ≡ Kind.Function) × (decl ≡ a)
-FitsRole names Role.Closes arg a Step.Close = Unit {0}
-FitsRole names Role.Acts arg a (Step.Do instr) = Refers names instr
-FitsRole names Role.Loops arg a (Step.Loop count) = (arg ≡ Arg.Passes) × (count ≡ a) × (count ≤ 1000000)
-FitsRole names _ arg a _ = ⊥
+-- what a line with this role and this first argument, of this value, may do, which receives from a timer as a case or does not
+abbrev pub FitsRole : Names → Role → Arg → ℕ → Bool → Step → Type 0
+FitsRole names (Role.Declares kind) arg a awaits (Step.Declare what) = (arg ≡ Arg.NewName) × (kind ≡ kind_in what) × Starts names what
+FitsRole names (Role.Declares kind) arg a awaits (Step.Open decl) = (arg ≡ Arg.NewName) × (kind ≡ Kind.Function) × (decl ≡ a)
+FitsRole names Role.Closes arg a awaits Step.Close = Unit {0}
+FitsRole names Role.Acts arg a awaits (Step.Do instr) = Refers names instr
+FitsRole names Role.Loops arg a awaits (Step.Loop count) = (arg ≡ Arg.Passes) × (count ≡ a) × (count ≤ 1000000)
+FitsRole names Role.Selects arg a awaits Step.Select = Unit {0}
+FitsRole names Role.Chooses arg a awaits (Step.Case kind) = RefersCase names awaits kind
+FitsRole names Role.Defaults arg a awaits Step.Default = Unit {0}
+FitsRole names _ arg a awaits _ = ⊥
+
+-- a case that receives says by the name of its source whether that is a timer
+ticks-by : (names : Names) (q : List ℕ) (v : ℕ) (o : Option Declared) → names q ≡ o → option_and_then source_place o ≡ Some v → RefersCase names (is_ticking o) (CaseKind.Recv v)
+ticks-by names q v None e h = cc
+ticks-by names q v (Some d) e h = let both = if-Some (is_kind_source d.kind) d.place v h in (record { ref = ref names q d e; kind = both.0; is = both.1 }, refl)
 
 -- what stands last is of each keyword that sets a timer
 pub fits : (names : Names) (k : Keyword) (w u : List ℕ) (a b : ℕ) → value_of names (form_of k).first w ≡ Some a → value_of names (form_of k).second u ≡ Some b
-    → FitsRole names (form_of k).role (form_of k).first a (step_of k a b)
+    → FitsRole names (form_of k).role (form_of k).first a (awaits_timer names (command k w u)) (step_of k a b)
 fits names Keyword.Timer w u a b first second = (refl, refl, tt)
 fits names Keyword.AfterFunc w u a b first second = (refl, refl, function-by names u b (names u) refl second)
 fits names Keyword.Chan w u a b first second = (refl, refl, number-most most_capacity u b second)
 fits names Keyword.Func w u a b first second = (refl, refl, refl)
 fits names Keyword.Loop w u a b first second = (refl, refl, number-most 1000000 w a first)
+fits names Keyword.CaseRecv w u a b first second = ticks-by names w a (names w) refl first
+fits names Keyword.CaseSend w u a b first second = (channel-at names w a first, refl)
 fits names Keyword.Sleep w u a b first second = duration-value w a first
 fits names Keyword.Go w u a b first second = function-by names w a (names w) refl first
 fits names Keyword.Stop w u a b first second = setting-at names w a first

@@ -7,6 +7,7 @@ use Rattle.std.proofs.lemmas.Bool.{leb-false, not-false, and_parts, both_ways}
 use Rattle.gt_model.specs.declared.script.Script.{Script}
 use Rattle.gt_model.specs.declared.script.What.{What}
 use Rattle.gt_model.specs.declared.script.Instr.{Instr}
+use Rattle.gt_model.specs.declared.script.CaseKind.{CaseKind}
 use Rattle.gt_model.specs.Good.{IsGood}
 use Rattle.gt_lines.specs.Words.{Words, NumberedLine, next, is_end}
 use Rattle.gt_table.specs.declared.form.Arg.{Arg}
@@ -15,20 +16,20 @@ use Rattle.gt_table.specs.declared.form.Role.{Role}
 use Rattle.gt_table.specs.declared.form.Step.{Step}
 use Rattle.gt_table.specs.declared.table.Keyword.{Keyword}
 use Rattle.gt_table.specs.Forms.{declared_kind, is_wanted, is_kind_function, is_declaration as is_declaring}
-use Rattle.gt_table.specs.Table.{keyword_of, form_of}
+use Rattle.gt_table.specs.Table.{keyword_of, case_keyword_of, form_of}
 use Rattle.gt_names.specs.declared.names.Declared.{Declared}
 use Rattle.gt_names.specs.Names.{Names, Naming, naming, is_free_name, kind_of, named, naming_of, functions_with, Declaration, declaration, declarations_from, find, names_of}
 use Rattle.gt_grammar.specs.declared.fault.Why.{Why}
-use Rattle.gt_grammar.specs.declared.progress.OpenLoop.{OpenLoop}
+use Rattle.gt_grammar.specs.declared.progress.OpenBlock.{OpenBlock}
 use Rattle.gt_grammar.specs.declared.progress.Held.{Held}
 use Rattle.gt_grammar.specs.Progress.{Progress}
-use Rattle.gt_grammar.specs.Statements.{Command, command, command_by, command_with, command_of, value_of, is_head}
-use Rattle.gt_grammar.specs.Deeds.{Deed, declares, opens, does, loops, closes, deed_of, deed_with, deed_at, deeds_of, func_place, script_in, script_with, script_of}
-use Rattle.gt_grammar.specs.Faults.{test, stands, is_before, is_function, are_none_open, may_end, ends_wrongly, nests_wrongly, holding, loop_ended, count_of, progress_after, progress_with, brings_too_many, lacks_main, fault_from, fault_in_lines, head_cause, no_progress}
-use Rattle.gt_grammar.proofs.Rightly.{kind_in, place_of, is_declared_before, naming_as, names_in, Refers, Starts, IsNew, Right, opened}
+use Rattle.gt_grammar.specs.Statements.{Command, command, command_by, command_with, command_in, case_of, command_of, awaits_timer, value_of, is_head}
+use Rattle.gt_grammar.specs.Deeds.{Deed, declares, opens, does, loops, selects, chooses, defaults, closes, deed_of, deed_with, deed_at, deeds_of, func_place, script_in, script_with, script_of}
+use Rattle.gt_grammar.specs.Faults.{test, stands, is_before, is_function, are_none_open, may_end, ends_wrongly, nests_wrongly, selects_wrongly, in_choice, loop_count, holding, block_ended, case_added, default_added, count_of, progress_after, progress_with, brings_too_many, lacks_main, fault_from, fault_in_lines, head_cause, no_progress}
+use Rattle.gt_grammar.proofs.Rightly.{kind_in, place_of, is_declared_before, naming_as, names_in, Refers, RefersCase, Starts, IsNew, IsChosen, MayChoose, MayDefault, Right, opened, chosen_in}
 use Rattle.gt_grammar.proofs.DeedsGood.{deeds-good}
 use Rattle.gt_grammar.proofs.Fits.{FitsRole, IsFree, new-value}
-use Rattle.gt_grammar.proofs.RightLines.{first-None, Doing, doing, AllRight, all_right, fault_or-None}
+use Rattle.gt_grammar.proofs.RightLines.{first-None, Doing, doing, RightLine, AllRight, all_right, fault_or-None}
 
 -- ---- what a line declares, by its command
 
@@ -98,26 +99,62 @@ naming-words : (word : List ℕ) (words : Words) → naming_of (word ∷ words) 
 naming-words word [] = refl
 naming-words word (name ∷ words) = refl
 
+-- a case declares nothing
+case-role : (k : Keyword) (word : List ℕ) → case_keyword_of word ≡ Some k → declared_kind (role_in k) ≡ None
+case-role k word h = by (bytes_eq word (codes "recv")) (bytes_eq word (codes "send")) h
+  where
+    by : (recv send : Bool) → cond recv (Some Keyword.CaseRecv) (cond send (Some Keyword.CaseSend) None) ≡ Some k → declared_kind (role_in k) ≡ None
+    by true send e = let same : k ≡ Keyword.CaseRecv = cc in ap (λ x. declared_kind (role_in x)) same
+    by false true e = let same : k ≡ Keyword.CaseSend = cc in ap (λ x. declared_kind (role_in x)) same
+    by false false e = cc
+
+case-declares : (o : Option Keyword) (words : Words) (c : Command) → command_in o words ≡ Some c → ((k : Keyword) → o ≡ Some k → declared_kind (role_in k) ≡ None) → declared_kind (role_in c.keyword) ≡ None
+case-declares None words c h none = cc
+case-declares (Some k) words c h none =
+    let is : CommandIs k (is_wanted (form_of k).first) words c = with-words k (is_wanted (form_of k).first) (is_wanted (form_of k).second) words c h in
+    ap (λ x. declared_kind (role_in x)) is.keyword ∙ none k refl
+
+case-none : (words : Words) (c : Command) → case_of words ≡ Some c → declared_kind (role_in c.keyword) ≡ None
+case-none [] c h = cc
+case-none (word ∷ words) c h = case-declares (case_keyword_of word) words c h (λ k e. case-role k word e)
+
+no-name : (word : List ℕ) (words : Words) → kind_of word ≡ None → naming_of (word ∷ words) ≡ None
+no-name word [] e = refl
+no-name word (name ∷ words) e = ap (named name) e ∙ named-none name
+
+naming-by-case : (word : List ℕ) (words : Words) (c : Command) (b : Bool) → bytes_eq word (codes "case") ≡ b → cond b (case_of words) (command_in (keyword_of word) words) ≡ Some c
+    → (is_wanted (form_of c.keyword).first ≡ false → declared_kind (role_in c.keyword) ≡ None) → naming_of (word ∷ words) ≡ named c.first (declared_kind (role_in c.keyword))
+naming-by-case word words c true e h none =
+    let same : word ≡ codes "case" = (bytes_eq-Decides word (codes "case")).0 e in
+    no-name word words (ap kind_of same) ∙ sym (ap (named c.first) (case-none words c h) ∙ named-none c.first)
+naming-by-case word words c false e h none = naming-words word words ∙ naming-command (keyword_of word) words c h none
+
 naming-is : (words : Words) (c : Command) → command_of words ≡ Some c → (is_wanted (form_of c.keyword).first ≡ false → declared_kind (role_in c.keyword) ≡ None) → naming_of words ≡ named c.first (declared_kind (role_in c.keyword))
 naming-is [] c h none = cc
-naming-is (word ∷ words) c h none = naming-words word words ∙ naming-command (keyword_of word) words c h none
+naming-is (word ∷ words) c h none = naming-by-case word words c (bytes_eq word (codes "case")) refl h none
 
 -- a line that declares wants a name
-wants-name : (names : Names) (role : Role) (arg : Arg) (a : ℕ) (step : Step) → FitsRole names role arg a step → is_wanted arg ≡ false → declared_kind role ≡ None
-wants-name names (Role.Declares kind) arg a (Step.Declare what) f h = let e : is_wanted arg ≡ true = ap is_wanted f.0 in cc
-wants-name names (Role.Declares kind) arg a (Step.Open decl) f h = let e : is_wanted arg ≡ true = ap is_wanted f.0 in cc
-wants-name names (Role.Declares kind) arg a (Step.Do instr) f h = absurd f
-wants-name names (Role.Declares kind) arg a Step.Close f h = absurd f
-wants-name names (Role.Declares kind) arg a (Step.Loop count) f h = absurd f
-wants-name names Role.Closes arg a step f h = refl
-wants-name names Role.Acts arg a step f h = refl
-wants-name names Role.Loops arg a step f h = refl
+wants-name : (names : Names) (role : Role) (arg : Arg) (a : ℕ) (awaits : Bool) (step : Step) → FitsRole names role arg a awaits step → is_wanted arg ≡ false → declared_kind role ≡ None
+wants-name names (Role.Declares kind) arg a awaits (Step.Declare what) f h = let e : is_wanted arg ≡ true = ap is_wanted f.0 in cc
+wants-name names (Role.Declares kind) arg a awaits (Step.Open decl) f h = let e : is_wanted arg ≡ true = ap is_wanted f.0 in cc
+wants-name names (Role.Declares kind) arg a awaits (Step.Do instr) f h = absurd f
+wants-name names (Role.Declares kind) arg a awaits Step.Close f h = absurd f
+wants-name names (Role.Declares kind) arg a awaits (Step.Loop count) f h = absurd f
+wants-name names (Role.Declares kind) arg a awaits Step.Select f h = absurd f
+wants-name names (Role.Declares kind) arg a awaits (Step.Case case) f h = absurd f
+wants-name names (Role.Declares kind) arg a awaits Step.Default f h = absurd f
+wants-name names Role.Closes arg a awaits step f h = refl
+wants-name names Role.Acts arg a awaits step f h = refl
+wants-name names Role.Loops arg a awaits step f h = refl
+wants-name names Role.Selects arg a awaits step f h = refl
+wants-name names Role.Chooses arg a awaits step f h = refl
+wants-name names Role.Defaults arg a awaits step f h = refl
 
 -- ---- what lines with nothing wrong do
 
 record Done (names : Names) (p : Progress) (lines : List NumberedLine) : Type 0 where
   are : declarations_from p.names p.functions lines ≡ names_in p.names p.functions (deeds_of names lines)
-  right : Right names p.inside p.loops p.names p.functions p.instructions (deeds_of names lines)
+  right : Right names p.inside p.blocks p.names p.functions p.instructions (deeds_of names lines)
 
 next-is : (n : ℕ) → n < 4096 → next n ≡ n + 1
 next-is n h = omega arith
@@ -128,8 +165,8 @@ declared_by n f lines o = elim o [
   | Some m ↦ declaration m n f ∷ declarations_from (next n) (functions_with m.kind f) lines
 ]
 
-abbrev progress : Bool → List OpenLoop → ℕ → ℕ → ℕ → Progress
-progress inside open_loops n f k = record { inside = inside; loops = open_loops; names = n; functions = f; instructions = k }
+abbrev progress : Bool → List OpenBlock → ℕ → ℕ → ℕ → Progress
+progress inside blocks n f k = record { inside = inside; blocks = blocks; names = n; functions = f; instructions = k }
 
 abbrev with_deed : Option Deed → List Deed → List Deed
 with_deed o deeds = option_to_list o ++ deeds
@@ -141,12 +178,12 @@ record Says (names : Names) (line : NumberedLine) (deed : Deed) (naming : Option
 
 by-deed : (names : Names) (p : Progress) (line : NumberedLine) (rest : List NumberedLine) (deed : Deed) (naming : Option Naming) → Says names line deed naming
     → declared_by p.names p.functions rest naming ≡ names_in p.names p.functions (deed ∷ deeds_of names rest)
-    → Right names p.inside p.loops p.names p.functions p.instructions (deed ∷ deeds_of names rest) → Done names p (line ∷ rest)
+    → Right names p.inside p.blocks p.names p.functions p.instructions (deed ∷ deeds_of names rest) → Done names p (line ∷ rest)
 by-deed names p line rest deed naming says are right =
     let deeds : deeds_of names (line ∷ rest) ≡ deed ∷ deeds_of names rest = ap (λ o. with_deed o (deeds_of names rest)) says.deed_is in
     record {
       are = ap (declared_by p.names p.functions rest) says.naming_is ∙ are ∙ ap (names_in p.names p.functions) (sym deeds);
-      right = subst (Right names p.inside p.loops p.names p.functions p.instructions) (sym deeds) right;
+      right = subst (Right names p.inside p.blocks p.names p.functions p.instructions) (sym deeds) right;
     }
 
 starts-functions : (names : Names) (what : What) (f : ℕ) → Starts names what → functions_with (kind_in what) f ≡ f
@@ -164,56 +201,93 @@ or-second true b h = cc
 or-second false b h = h
 
 -- outside functions no loop is open
-abbrev NoneOutside : Bool → List OpenLoop → Type 0
-NoneOutside inside open_loops = inside ≡ false → open_loops ≡ []
+abbrev NoneOutside : Bool → List OpenBlock → Type 0
+NoneOutside inside blocks = inside ≡ false → blocks ≡ []
 
-are-none : (open_loops : List OpenLoop) → not (are_none_open open_loops) ≡ false → open_loops ≡ []
+are-none : (blocks : List OpenBlock) → not (are_none_open blocks) ≡ false → blocks ≡ []
 are-none [] h = refl
 are-none (inner ∷ outer) h = cc
 
-none-outside : (p : Progress) (role : Role) (count : ℕ) → stands p.inside role ≡ true → NoneOutside p.inside p.loops → NoneOutside (progress_with p role count).inside (progress_with p role count).loops
-none-outside p (Role.Declares kind) count here none = λ e. none (or-second (is_kind_function kind) p.inside e)
-none-outside p Role.Closes count here none = λ e. ap loop_ended (are-none p.loops e)
-none-outside p Role.Acts count here none = λ e. ap (holding Held.Entered) (none e)
-none-outside p Role.Loops count here none = λ e. absurd (both_ways p.inside e here)
+none-outside : (p : Progress) (role : Role) (count : ℕ) (awaits : Bool) → stands p.inside role ≡ true → NoneOutside p.inside p.blocks → NoneOutside (progress_with p role count awaits).inside (progress_with p role count awaits).blocks
+none-outside p (Role.Declares kind) count awaits here none = λ e. none (or-second (is_kind_function kind) p.inside e)
+none-outside p Role.Closes count awaits here none = λ e. ap block_ended (are-none p.blocks e)
+none-outside p Role.Acts count awaits here none = λ e. ap (holding Held.Entered) (none e)
+none-outside p Role.Loops count awaits here none = λ e. absurd (both_ways p.inside e here)
+none-outside p Role.Selects count awaits here none = λ e. absurd (both_ways p.inside e here)
+none-outside p Role.Chooses count awaits here none = λ e. ap (case_added awaits) (none e)
+none-outside p Role.Defaults count awaits here none = λ e. ap default_added (none e)
 
-done-declares : (names : Names) (inside : Bool) (open_loops : List OpenLoop) (n f k : ℕ) (line : NumberedLine) (rest : List NumberedLine) (name : List ℕ) (what : What) → Says names line (declares name what) (Some (naming_as name (kind_in what))) → not inside ≡ true → n < 4096 → IsNew names name n → Starts names what → Done names (progress inside open_loops (n + 1) f k) rest → Done names (progress inside open_loops n f k) (line ∷ rest)
-done-declares names true open_loops n f k line rest name what says here room new starts ih = cc
-done-declares names false open_loops n f k line rest name what says here room new starts ih =
+done-declares : (names : Names) (inside : Bool) (blocks : List OpenBlock) (n f k : ℕ) (line : NumberedLine) (rest : List NumberedLine) (name : List ℕ) (what : What) → Says names line (declares name what) (Some (naming_as name (kind_in what))) → not inside ≡ true → n < 4096 → IsNew names name n → Starts names what → Done names (progress inside blocks (n + 1) f k) rest → Done names (progress inside blocks n f k) (line ∷ rest)
+done-declares names true blocks n f k line rest name what says here room new starts ih = cc
+done-declares names false blocks n f k line rest name what says here room new starts ih =
     let x : Naming = naming_as name (kind_in what) in
-    by-deed names (progress false open_loops n f k) line rest (declares name what) (Some x) says
+    by-deed names (progress false blocks n f k) line rest (declares name what) (Some x) says
     (ap (λ m. declaration x n f ∷ declarations_from m (functions_with (kind_in what) f) rest) (next-is n room)
     ∙ ap (λ m. declaration x n f ∷ declarations_from (n + 1) m rest) (starts-functions names what f starts)
     ∙ ap (λ ds. declaration x n f ∷ ds) ih.are)
     (refl, room, new, starts, ih.right)
 
-done-opens : (names : Names) (inside : Bool) (open_loops : List OpenLoop) (n f k : ℕ) (line : NumberedLine) (rest : List NumberedLine) (name : List ℕ) (decl : ℕ) → Says names line (opens name decl) (Some (naming_as name Kind.Function)) → not inside ≡ true → n < 4096 → f < 256 → IsNew names name n → decl ≡ place_of (names name) → NoneOutside inside open_loops → Done names (progress true open_loops (n + 1) (f + 1) k) rest → Done names (progress inside open_loops n f k) (line ∷ rest)
-done-opens names true open_loops n f k line rest name decl says here room few new place none ih = cc
-done-opens names false open_loops n f k line rest name decl says here room few new place none ih =
+done-opens : (names : Names) (inside : Bool) (blocks : List OpenBlock) (n f k : ℕ) (line : NumberedLine) (rest : List NumberedLine) (name : List ℕ) (decl : ℕ) → Says names line (opens name decl) (Some (naming_as name Kind.Function)) → not inside ≡ true → n < 4096 → f < 256 → IsNew names name n → decl ≡ place_of (names name) → NoneOutside inside blocks → Done names (progress true blocks (n + 1) (f + 1) k) rest → Done names (progress inside blocks n f k) (line ∷ rest)
+done-opens names true blocks n f k line rest name decl says here room few new place none ih = cc
+done-opens names false blocks n f k line rest name decl says here room few new place none ih =
     let x : Naming = naming_as name Kind.Function in
-    let P : List OpenLoop → Type 0 = λ ls. Right names true ls (n + 1) (f + 1) k (deeds_of names rest) in
-    by-deed names (progress false open_loops n f k) line rest (opens name decl) (Some x) says
+    let P : List OpenBlock → Type 0 = λ ls. Right names true ls (n + 1) (f + 1) k (deeds_of names rest) in
+    by-deed names (progress false blocks n f k) line rest (opens name decl) (Some x) says
     (ap (λ m. declaration x n f ∷ declarations_from m (next f) rest) (next-is n room)
     ∙ ap (λ m. declaration x n f ∷ declarations_from (n + 1) m rest) (next-is f (omega arith))
     ∙ ap (λ ds. declaration x n f ∷ ds) ih.are)
     (refl, room, few, new, place, none refl, subst P (none refl) ih.right)
 
-done-does : (names : Names) (inside : Bool) (open_loops : List OpenLoop) (n f k : ℕ) (line : NumberedLine) (rest : List NumberedLine) (i : Instr) → Says names line (does i) None → inside ≡ true → k < 100000 → Refers names i → Done names (progress inside (holding Held.Entered open_loops) n f (k + 1)) rest → Done names (progress inside open_loops n f k) (line ∷ rest)
-done-does names false open_loops n f k line rest i says here room refers ih = cc
-done-does names true open_loops n f k line rest i says here room refers ih =
-    by-deed names (progress true open_loops n f k) line rest (does i) None says ih.are (refl, room, refers, ih.right)
+done-does : (names : Names) (inside : Bool) (blocks : List OpenBlock) (n f k : ℕ) (line : NumberedLine) (rest : List NumberedLine) (i : Instr) → Says names line (does i) None → inside ≡ true → k < 100000 → Refers names i → Done names (progress inside (holding Held.Entered blocks) n f (k + 1)) rest → Done names (progress inside blocks n f k) (line ∷ rest)
+done-does names false blocks n f k line rest i says here room refers ih = cc
+done-does names true blocks n f k line rest i says here room refers ih =
+    by-deed names (progress true blocks n f k) line rest (does i) None says ih.are (refl, room, refers, ih.right)
 
-done-loops : (names : Names) (inside : Bool) (open_loops : List OpenLoop) (n f k : ℕ) (line : NumberedLine) (rest : List NumberedLine) (count : ℕ) → Says names line (loops count) None → inside ≡ true → count ≤ 1000000 → length open_loops < 4 → Done names (progress inside (opened count open_loops) n f k) rest → Done names (progress inside open_loops n f k) (line ∷ rest)
-done-loops names false open_loops n f k line rest count says here few shallow ih = cc
-done-loops names true open_loops n f k line rest count says here few shallow ih =
-    by-deed names (progress true open_loops n f k) line rest (loops count) None says ih.are (refl, few, shallow, ih.right)
+done-loops : (names : Names) (inside : Bool) (blocks : List OpenBlock) (n f k : ℕ) (line : NumberedLine) (rest : List NumberedLine) (count : ℕ) → Says names line (loops count) None → inside ≡ true → count ≤ 1000000 → loop_count blocks < 4 → Done names (progress inside (opened count blocks) n f k) rest → Done names (progress inside blocks n f k) (line ∷ rest)
+done-loops names false blocks n f k line rest count says here few shallow ih = cc
+done-loops names true blocks n f k line rest count says here few shallow ih =
+    by-deed names (progress true blocks n f k) line rest (loops count) None says ih.are (refl, few, shallow, ih.right)
 
-done-closes : (names : Names) (inside : Bool) (open_loops : List OpenLoop) (n f k : ℕ) (line : NumberedLine) (rest : List NumberedLine) → Says names line closes None → ends_wrongly inside open_loops ≡ false → NoneOutside inside open_loops → Done names (progress (not (are_none_open open_loops)) (loop_ended open_loops) n f k) rest → Done names (progress inside open_loops n f k) (line ∷ rest)
+done-selects : (names : Names) (inside : Bool) (blocks : List OpenBlock) (n f k : ℕ) (line : NumberedLine) (rest : List NumberedLine) → Says names line selects None → inside ≡ true → k < 100000 → IsChosen (deeds_of names rest) → Done names (progress inside (chosen_in blocks) n f (k + 1)) rest → Done names (progress inside blocks n f k) (line ∷ rest)
+done-selects names false blocks n f k line rest says here room chosen ih = cc
+done-selects names true blocks n f k line rest says here room chosen ih =
+    by-deed names (progress true blocks n f k) line rest selects None says ih.are (refl, room, chosen, ih.right)
+
+may-choose : (blocks : List OpenBlock) → not (in_choice blocks) ≡ false → selects_wrongly blocks Role.Chooses ≡ false → MayChoose blocks
+may-choose [] h c = cc
+may-choose (OpenBlock.Loop repeats held ∷ outer) h c = cc
+may-choose (OpenBlock.Choice cases timers has_default ∷ outer) h c = (or-first has_default (leb 16 cases) c, leb-false 16 cases (or-second has_default (leb 16 cases) c))
+
+may-default : (blocks : List OpenBlock) → not (in_choice blocks) ≡ false → selects_wrongly blocks Role.Defaults ≡ false → MayDefault blocks
+may-default [] h c = cc
+may-default (OpenBlock.Loop repeats held ∷ outer) h c = cc
+may-default (OpenBlock.Choice cases timers has_default ∷ outer) h c = (or-first has_default (leb 2 timers) c, leb-false 2 timers (or-second has_default (leb 2 timers) c))
+
+-- outside functions no select is open
+choice-inside : (inside : Bool) (blocks : List OpenBlock) → not (in_choice blocks) ≡ false → NoneOutside inside blocks → inside ≡ true
+choice-inside true blocks h none = refl
+choice-inside false blocks h none = let e : not (in_choice []) ≡ false = ap (λ b. not (in_choice b)) (sym (none refl)) ∙ h in cc
+
+done-chooses : (names : Names) (inside : Bool) (blocks : List OpenBlock) (n f k : ℕ) (line : NumberedLine) (rest : List NumberedLine) (kind : CaseKind) (awaits : Bool) → Says names line (chooses kind) None → not (in_choice blocks) ≡ false → selects_wrongly blocks Role.Chooses ≡ false → RefersCase names awaits kind → NoneOutside inside blocks → Done names (progress inside (case_added awaits blocks) n f k) rest → Done names (progress inside blocks n f k) (line ∷ rest)
+done-chooses names inside blocks n f k line rest kind awaits says nested chosen refers none ih =
+    let here : inside ≡ true = choice-inside inside blocks nested none in
+    by-deed names (progress inside blocks n f k) line rest (chooses kind) None says ih.are
+    (here, may-choose blocks nested chosen, (awaits, refers, subst (λ b. Right names b (case_added awaits blocks) n f k (deeds_of names rest)) here ih.right))
+
+done-defaults : (names : Names) (inside : Bool) (blocks : List OpenBlock) (n f k : ℕ) (line : NumberedLine) (rest : List NumberedLine) → Says names line defaults None → not (in_choice blocks) ≡ false → selects_wrongly blocks Role.Defaults ≡ false → NoneOutside inside blocks → Done names (progress inside (default_added blocks) n f k) rest → Done names (progress inside blocks n f k) (line ∷ rest)
+done-defaults names inside blocks n f k line rest says nested chosen none ih =
+    let here : inside ≡ true = choice-inside inside blocks nested none in
+    by-deed names (progress inside blocks n f k) line rest defaults None says ih.are
+    (here, may-default blocks nested chosen, subst (λ b. Right names b (default_added blocks) n f k (deeds_of names rest)) here ih.right)
+
+done-closes : (names : Names) (inside : Bool) (blocks : List OpenBlock) (n f k : ℕ) (line : NumberedLine) (rest : List NumberedLine) → Says names line closes None → ends_wrongly inside blocks ≡ false → NoneOutside inside blocks → Done names (progress (not (are_none_open blocks)) (block_ended blocks) n f k) rest → Done names (progress inside blocks n f k) (line ∷ rest)
 done-closes names false [] n f k line rest says ended none ih = cc
 done-closes names true [] n f k line rest says ended none ih = by-deed names (progress true [] n f k) line rest closes None says ih.are (refl, ih.right)
 done-closes names false (inner ∷ outer) n f k line rest says ended none ih = let e = none refl in cc
-done-closes names true (inner ∷ outer) n f k line rest says ended none ih =
-    by-deed names (progress true (inner ∷ outer) n f k) line rest closes None says ih.are (refl, not-false (may_end inner.repeats inner.held) ended, ih.right)
+done-closes names true (OpenBlock.Loop repeats held ∷ outer) n f k line rest says ended none ih =
+    by-deed names (progress true (OpenBlock.Loop repeats held ∷ outer) n f k) line rest closes None says ih.are (refl, not-false (may_end repeats held) ended, ih.right)
+done-closes names true (OpenBlock.Choice cases timers has_default ∷ outer) n f k line rest says ended none ih =
+    by-deed names (progress true (OpenBlock.Choice cases timers has_default ∷ outer) n f k) line rest closes None says ih.are (refl, tt, ih.right)
 
 new-name : (names : Names) (name : List ℕ) (n a : ℕ) → IsFree names name a → ltb a n ≡ false → IsNew names name n
 new-name names name n a free late = record {
@@ -237,76 +311,160 @@ says names line name kind step naming d n e = record { deed_is = d; naming_is = 
 passes-are : (names : Names) (arg : Arg) (name : List ℕ) (a count : ℕ) → arg ≡ Arg.Passes → count ≡ a → value_of names arg name ≡ Some a → count_of name ≡ count
 passes-are names arg name a count e is h = ap (λ o. unwrap_or o 0) (ap (λ x. value_of names x name) (sym e) ∙ h) ∙ sym is
 
-done-role : (names : Names) (inside : Bool) (open_loops : List OpenLoop) (n f k : ℕ) (line : NumberedLine) (rest : List NumberedLine) (name : List ℕ) (role : Role) (arg : Arg) (a : ℕ) (step : Step)
+done-role : (names : Names) (inside : Bool) (blocks : List OpenBlock) (n f k : ℕ) (line : NumberedLine) (rest : List NumberedLine) (name : List ℕ) (role : Role) (arg : Arg) (a : ℕ) (awaits : Bool) (step : Step)
     → deed_at names line ≡ Some (deed_of name step) → naming_of line.words ≡ named name (declared_kind role) → value_of names arg name ≡ Some a
-    → stands inside role ≡ true → (is_declaring role && ltb a n) ≡ false → nests_wrongly (progress inside open_loops n f k) role ≡ false → brings_too_many (progress inside open_loops n f k) role ≡ false
-    → FitsRole names role arg a step → NoneOutside inside open_loops → Done names (progress_with (progress inside open_loops n f k) role (count_of name)) rest → Done names (progress inside open_loops n f k) (line ∷ rest)
-done-role names inside open_loops n f k line rest name (Role.Declares Kind.Timer) arg a (Step.Declare What.Timer) d m v here late nested room fit none ih =
+    → stands inside role ≡ true → (is_declaring role && ltb a n) ≡ false → nests_wrongly (progress inside blocks n f k) role ≡ false → selects_wrongly blocks role ≡ false → brings_too_many (progress inside blocks n f k) role ≡ false
+    → FitsRole names role arg a awaits step → NoneOutside inside blocks → (role ≡ Role.Selects → IsChosen (deeds_of names rest)) → Done names (progress_with (progress inside blocks n f k) role (count_of name) awaits) rest → Done names (progress inside blocks n f k) (line ∷ rest)
+done-role names inside blocks n f k line rest name (Role.Declares Kind.Timer) arg a awaits (Step.Declare What.Timer) d m v here late nested chosen room fit none next ih =
     let free : IsFree names name a = as-new names arg name a fit.0 v in
-    done-declares names inside open_loops n f k line rest name What.Timer (says names line name (Some Kind.Timer) (Step.Declare What.Timer) (Some (naming_as name Kind.Timer)) d m (naming-free name Kind.Timer free.free))
+    done-declares names inside blocks n f k line rest name What.Timer (says names line name (Some Kind.Timer) (Step.Declare What.Timer) (Some (naming_as name Kind.Timer)) d m (naming-free name Kind.Timer free.free))
     here (leb-false 4096 n (or-first (leb 4096 n) false (or-first (leb 4096 n || false) false room))) (new-name names name n a free late) tt ih
-done-role names inside open_loops n f k line rest name (Role.Declares Kind.AfterFunc) arg a (Step.Declare (What.AfterFunc g)) d m v here late nested room fit none ih =
+done-role names inside blocks n f k line rest name (Role.Declares Kind.AfterFunc) arg a awaits (Step.Declare (What.AfterFunc g)) d m v here late nested chosen room fit none next ih =
     let free : IsFree names name a = as-new names arg name a fit.0 v in
-    done-declares names inside open_loops n f k line rest name (What.AfterFunc g) (says names line name (Some Kind.AfterFunc) (Step.Declare (What.AfterFunc g)) (Some (naming_as name Kind.AfterFunc)) d m (naming-free name Kind.AfterFunc free.free))
+    done-declares names inside blocks n f k line rest name (What.AfterFunc g) (says names line name (Some Kind.AfterFunc) (Step.Declare (What.AfterFunc g)) (Some (naming_as name Kind.AfterFunc)) d m (naming-free name Kind.AfterFunc free.free))
     here (leb-false 4096 n (or-first (leb 4096 n) false (or-first (leb 4096 n || false) false room))) (new-name names name n a free late) fit.2 ih
-done-role names inside open_loops n f k line rest name (Role.Declares Kind.Chan) arg a (Step.Declare (What.Chan cap)) d m v here late nested room fit none ih =
+done-role names inside blocks n f k line rest name (Role.Declares Kind.Chan) arg a awaits (Step.Declare (What.Chan cap)) d m v here late nested chosen room fit none next ih =
     let free : IsFree names name a = as-new names arg name a fit.0 v in
-    done-declares names inside open_loops n f k line rest name (What.Chan cap) (says names line name (Some Kind.Chan) (Step.Declare (What.Chan cap)) (Some (naming_as name Kind.Chan)) d m (naming-free name Kind.Chan free.free))
+    done-declares names inside blocks n f k line rest name (What.Chan cap) (says names line name (Some Kind.Chan) (Step.Declare (What.Chan cap)) (Some (naming_as name Kind.Chan)) d m (naming-free name Kind.Chan free.free))
     here (leb-false 4096 n (or-first (leb 4096 n) false (or-first (leb 4096 n || false) false room))) (new-name names name n a free late) fit.2 ih
-done-role names inside open_loops n f k line rest name (Role.Declares Kind.Function) arg a (Step.Open decl) d m v here late nested room fit none ih =
+done-role names inside blocks n f k line rest name (Role.Declares Kind.Function) arg a awaits (Step.Open decl) d m v here late nested chosen room fit none next ih =
     let free : IsFree names name a = as-new names arg name a fit.0 v in
     let full = or-first (leb 4096 n || leb 256 f) false room in
-    done-opens names inside open_loops n f k line rest name decl (says names line name (Some Kind.Function) (Step.Open decl) (Some (naming_as name Kind.Function)) d m (naming-free name Kind.Function free.free))
+    done-opens names inside blocks n f k line rest name decl (says names line name (Some Kind.Function) (Step.Open decl) (Some (naming_as name Kind.Function)) d m (naming-free name Kind.Function free.free))
     here (leb-false 4096 n (or-first (leb 4096 n) (leb 256 f) full)) (leb-false 256 f (or-second (leb 4096 n) (leb 256 f) full)) (new-name names name n a free late) (new-place names name decl a free fit.2) none ih
-done-role names inside open_loops n f k line rest name Role.Closes arg a Step.Close d m v here late nested room fit none ih =
-    done-closes names inside open_loops n f k line rest (says names line name None Step.Close None d m (named-none name)) nested none ih
-done-role names inside open_loops n f k line rest name Role.Acts arg a (Step.Do instr) d m v here late nested room fit none ih =
-    done-does names inside open_loops n f k line rest instr (says names line name None (Step.Do instr) None d m (named-none name)) here (leb-false 100000 k room) fit ih
-done-role names inside open_loops n f k line rest name Role.Loops arg a (Step.Loop count) d m v here late nested room fit none ih =
-    let P : ℕ → Type 0 = λ passes. Done names (progress inside (opened passes open_loops) n f k) rest in
-    done-loops names inside open_loops n f k line rest count (says names line name None (Step.Loop count) None d m (named-none name))
-    here fit.2 (leb-false 4 (length open_loops) nested) (subst P (passes-are names arg name a count fit.0 fit.1 v) ih)
-done-role names inside open_loops n f k line rest name (Role.Declares Kind.Timer) arg a (Step.Declare (What.AfterFunc g)) d m v here late nested room fit none ih = let e = fit.1 in cc
-done-role names inside open_loops n f k line rest name (Role.Declares Kind.Timer) arg a (Step.Declare (What.Chan cap)) d m v here late nested room fit none ih = let e = fit.1 in cc
-done-role names inside open_loops n f k line rest name (Role.Declares Kind.Timer) arg a (Step.Declare What.Function) d m v here late nested room fit none ih = absurd fit.2
-done-role names inside open_loops n f k line rest name (Role.Declares Kind.AfterFunc) arg a (Step.Declare What.Timer) d m v here late nested room fit none ih = let e = fit.1 in cc
-done-role names inside open_loops n f k line rest name (Role.Declares Kind.AfterFunc) arg a (Step.Declare (What.Chan cap)) d m v here late nested room fit none ih = let e = fit.1 in cc
-done-role names inside open_loops n f k line rest name (Role.Declares Kind.AfterFunc) arg a (Step.Declare What.Function) d m v here late nested room fit none ih = absurd fit.2
-done-role names inside open_loops n f k line rest name (Role.Declares Kind.Chan) arg a (Step.Declare What.Timer) d m v here late nested room fit none ih = let e = fit.1 in cc
-done-role names inside open_loops n f k line rest name (Role.Declares Kind.Chan) arg a (Step.Declare (What.AfterFunc g)) d m v here late nested room fit none ih = let e = fit.1 in cc
-done-role names inside open_loops n f k line rest name (Role.Declares Kind.Chan) arg a (Step.Declare What.Function) d m v here late nested room fit none ih = absurd fit.2
-done-role names inside open_loops n f k line rest name (Role.Declares Kind.Function) arg a (Step.Declare What.Timer) d m v here late nested room fit none ih = let e = fit.1 in cc
-done-role names inside open_loops n f k line rest name (Role.Declares Kind.Function) arg a (Step.Declare (What.AfterFunc g)) d m v here late nested room fit none ih = let e = fit.1 in cc
-done-role names inside open_loops n f k line rest name (Role.Declares Kind.Function) arg a (Step.Declare (What.Chan cap)) d m v here late nested room fit none ih = let e = fit.1 in cc
-done-role names inside open_loops n f k line rest name (Role.Declares Kind.Function) arg a (Step.Declare What.Function) d m v here late nested room fit none ih = absurd fit.2
-done-role names inside open_loops n f k line rest name (Role.Declares Kind.Timer) arg a (Step.Open decl) d m v here late nested room fit none ih = let e = fit.1 in cc
-done-role names inside open_loops n f k line rest name (Role.Declares Kind.AfterFunc) arg a (Step.Open decl) d m v here late nested room fit none ih = let e = fit.1 in cc
-done-role names inside open_loops n f k line rest name (Role.Declares Kind.Chan) arg a (Step.Open decl) d m v here late nested room fit none ih = let e = fit.1 in cc
-done-role names inside open_loops n f k line rest name role arg a step d m v here late nested room fit none ih = absurd fit
+done-role names inside blocks n f k line rest name Role.Closes arg a awaits Step.Close d m v here late nested chosen room fit none next ih =
+    done-closes names inside blocks n f k line rest (says names line name None Step.Close None d m (named-none name)) nested none ih
+done-role names inside blocks n f k line rest name Role.Acts arg a awaits (Step.Do instr) d m v here late nested chosen room fit none next ih =
+    done-does names inside blocks n f k line rest instr (says names line name None (Step.Do instr) None d m (named-none name)) here (leb-false 100000 k room) fit ih
+done-role names inside blocks n f k line rest name Role.Loops arg a awaits (Step.Loop count) d m v here late nested chosen room fit none next ih =
+    let P : ℕ → Type 0 = λ passes. Done names (progress inside (opened passes blocks) n f k) rest in
+    done-loops names inside blocks n f k line rest count (says names line name None (Step.Loop count) None d m (named-none name))
+    here fit.2 (leb-false 4 (loop_count blocks) (or-first (leb 4 (loop_count blocks)) (leb 16 (length blocks)) nested)) (subst P (passes-are names arg name a count fit.0 fit.1 v) ih)
+done-role names inside blocks n f k line rest name Role.Selects arg a awaits Step.Select d m v here late nested chosen room fit none next ih =
+    done-selects names inside blocks n f k line rest (says names line name None Step.Select None d m (named-none name)) here (leb-false 100000 k room) (next refl) ih
+done-role names inside blocks n f k line rest name Role.Chooses arg a awaits (Step.Case kind) d m v here late nested chosen room fit none next ih =
+    done-chooses names inside blocks n f k line rest kind awaits (says names line name None (Step.Case kind) None d m (named-none name)) nested chosen fit none ih
+done-role names inside blocks n f k line rest name Role.Defaults arg a awaits Step.Default d m v here late nested chosen room fit none next ih =
+    done-defaults names inside blocks n f k line rest (says names line name None Step.Default None d m (named-none name)) nested chosen none ih
+done-role names inside blocks n f k line rest name (Role.Declares Kind.Timer) arg a awaits (Step.Declare (What.AfterFunc g)) d m v here late nested chosen room fit none next ih = let e = fit.1 in cc
+done-role names inside blocks n f k line rest name (Role.Declares Kind.Timer) arg a awaits (Step.Declare (What.Chan cap)) d m v here late nested chosen room fit none next ih = let e = fit.1 in cc
+done-role names inside blocks n f k line rest name (Role.Declares Kind.Timer) arg a awaits (Step.Declare What.Function) d m v here late nested chosen room fit none next ih = absurd fit.2
+done-role names inside blocks n f k line rest name (Role.Declares Kind.AfterFunc) arg a awaits (Step.Declare What.Timer) d m v here late nested chosen room fit none next ih = let e = fit.1 in cc
+done-role names inside blocks n f k line rest name (Role.Declares Kind.AfterFunc) arg a awaits (Step.Declare (What.Chan cap)) d m v here late nested chosen room fit none next ih = let e = fit.1 in cc
+done-role names inside blocks n f k line rest name (Role.Declares Kind.AfterFunc) arg a awaits (Step.Declare What.Function) d m v here late nested chosen room fit none next ih = absurd fit.2
+done-role names inside blocks n f k line rest name (Role.Declares Kind.Chan) arg a awaits (Step.Declare What.Timer) d m v here late nested chosen room fit none next ih = let e = fit.1 in cc
+done-role names inside blocks n f k line rest name (Role.Declares Kind.Chan) arg a awaits (Step.Declare (What.AfterFunc g)) d m v here late nested chosen room fit none next ih = let e = fit.1 in cc
+done-role names inside blocks n f k line rest name (Role.Declares Kind.Chan) arg a awaits (Step.Declare What.Function) d m v here late nested chosen room fit none next ih = absurd fit.2
+done-role names inside blocks n f k line rest name (Role.Declares Kind.Function) arg a awaits (Step.Declare What.Timer) d m v here late nested chosen room fit none next ih = let e = fit.1 in cc
+done-role names inside blocks n f k line rest name (Role.Declares Kind.Function) arg a awaits (Step.Declare (What.AfterFunc g)) d m v here late nested chosen room fit none next ih = let e = fit.1 in cc
+done-role names inside blocks n f k line rest name (Role.Declares Kind.Function) arg a awaits (Step.Declare (What.Chan cap)) d m v here late nested chosen room fit none next ih = let e = fit.1 in cc
+done-role names inside blocks n f k line rest name (Role.Declares Kind.Function) arg a awaits (Step.Declare What.Function) d m v here late nested chosen room fit none next ih = absurd fit.2
+done-role names inside blocks n f k line rest name (Role.Declares Kind.Timer) arg a awaits (Step.Open decl) d m v here late nested chosen room fit none next ih = let e = fit.1 in cc
+done-role names inside blocks n f k line rest name (Role.Declares Kind.AfterFunc) arg a awaits (Step.Open decl) d m v here late nested chosen room fit none next ih = let e = fit.1 in cc
+done-role names inside blocks n f k line rest name (Role.Declares Kind.Chan) arg a awaits (Step.Open decl) d m v here late nested chosen room fit none next ih = let e = fit.1 in cc
+done-role names inside blocks n f k line rest name role arg a awaits step d m v here late nested chosen room fit none next ih = absurd fit
 
-abbrev progress_by : Progress → Option Command → Progress
-progress_by p o = elim o [ None ↦ p | Some c ↦ progress_with p (role_in c.keyword) (count_of c.first) ]
+abbrev progress_by : Names → Progress → Option Command → Progress
+progress_by names p o = elim o [ None ↦ p | Some c ↦ progress_with p (role_in c.keyword) (count_of c.first) (awaits_timer names c) ]
 
 late-is : (names : Names) (role : Role) (n a : ℕ) (o : Option ℕ) → o ≡ Some a → (is_declaring role && is_before n o) ≡ false → (is_declaring role && ltb a n) ≡ false
 late-is names role n a o e h = ap (λ x. is_declaring role && is_before n x) (sym e) ∙ h
 
-done : (names : Names) (p : Progress) (lines : List NumberedLine) → AllRight names p lines → NoneOutside p.inside p.loops → Done names p lines
+-- behind the line of a select stands its first case: nothing else may stand there
+first-role : (names : Names) (p : Progress) (role : Role) (arg : Arg) (a : ℕ) (awaits : Bool) (name : List ℕ) (step : Step) (timers : ℕ) (has_default : Bool) (outer : List OpenBlock) → p.inside ≡ true → p.blocks ≡ OpenBlock.Choice 0 timers has_default ∷ outer
+    → stands p.inside role ≡ true → selects_wrongly p.blocks role ≡ false → FitsRole names role arg a awaits step
+    → (rest : List Deed) → (role ≡ Role.Defaults → has_default ≡ false → ⊥) → IsChosen (deed_of name step ∷ rest)
+first-role names p (Role.Declares kind) arg a awaits name step timers has_default outer inside are here chosen fit rest none = let e : not true ≡ true = ap not (sym inside) ∙ here in cc
+first-role names p Role.Closes arg a awaits name step timers has_default outer inside are here chosen fit rest none =
+    let e : selects_wrongly (OpenBlock.Choice 0 timers has_default ∷ outer) Role.Closes ≡ false = ap (λ b. selects_wrongly b Role.Closes) (sym are) ∙ chosen in cc
+first-role names p Role.Acts arg a awaits name step timers has_default outer inside are here chosen fit rest none =
+    let e : selects_wrongly (OpenBlock.Choice 0 timers has_default ∷ outer) Role.Acts ≡ false = ap (λ b. selects_wrongly b Role.Acts) (sym are) ∙ chosen in cc
+first-role names p Role.Loops arg a awaits name step timers has_default outer inside are here chosen fit rest none =
+    let e : selects_wrongly (OpenBlock.Choice 0 timers has_default ∷ outer) Role.Loops ≡ false = ap (λ b. selects_wrongly b Role.Loops) (sym are) ∙ chosen in cc
+first-role names p Role.Selects arg a awaits name step timers has_default outer inside are here chosen fit rest none =
+    let e : selects_wrongly (OpenBlock.Choice 0 timers has_default ∷ outer) Role.Selects ≡ false = ap (λ b. selects_wrongly b Role.Selects) (sym are) ∙ chosen in cc
+first-role names p Role.Defaults arg a awaits name step timers true outer inside are here chosen fit rest none =
+    let e : selects_wrongly (OpenBlock.Choice 0 timers true ∷ outer) Role.Defaults ≡ false = ap (λ b. selects_wrongly b Role.Defaults) (sym are) ∙ chosen in cc
+first-role names p Role.Defaults arg a awaits name step timers false outer inside are here chosen fit rest none = absurd (none refl refl)
+first-role names p Role.Chooses arg a awaits name (Step.Case kind) timers has_default outer inside are here chosen fit rest none = tt
+first-role names p Role.Chooses arg a awaits name (Step.Declare what) timers has_default outer inside are here chosen fit rest none = absurd fit
+first-role names p Role.Chooses arg a awaits name (Step.Open decl) timers has_default outer inside are here chosen fit rest none = absurd fit
+first-role names p Role.Chooses arg a awaits name (Step.Do instr) timers has_default outer inside are here chosen fit rest none = absurd fit
+first-role names p Role.Chooses arg a awaits name (Step.Loop count) timers has_default outer inside are here chosen fit rest none = absurd fit
+first-role names p Role.Chooses arg a awaits name Step.Select timers has_default outer inside are here chosen fit rest none = absurd fit
+first-role names p Role.Chooses arg a awaits name Step.Default timers has_default outer inside are here chosen fit rest none = absurd fit
+first-role names p Role.Chooses arg a awaits name Step.Close timers has_default outer inside are here chosen fit rest none = absurd fit
+
+-- a line with nothing wrong, and what it does
+record Line (names : Names) (p : Progress) (line : NumberedLine) : Type 0 where
+  c : Command
+  behind : progress_after names p line ≡ progress_with p (role_in c.keyword) (count_of c.first) (awaits_timer names c)
+  what : Doing names c
+  deed : deed_at names line ≡ Some (deed_of c.first what.step)
+  stands_here : stands p.inside (role_in c.keyword) ≡ true
+  chosen : selects_wrongly p.blocks (role_in c.keyword) ≡ false
+
+line-of : (names : Names) (is_last : Bool) (p : Progress) (line : NumberedLine) → RightLine names is_last p line → Line names p line
+line-of names is_last p line r =
+    let what : Doing names r.c = doing names r.c r.right.names r.right.counts in
+    record {
+      c = r.c;
+      behind = ap (progress_by names p) r.is;
+      what = what;
+      deed = ap (option_and_then (deed_with names)) r.is ∙ ap (option_map (deed_of r.c.first)) what.step_is;
+      stands_here = r.right.stands_here;
+      chosen = r.right.chosen;
+    }
+
+-- a select whose default stands in front of each case comes to no end
+no-case : (names : Names) (p : Progress) (timers : ℕ) (outer : List OpenBlock) (lines : List NumberedLine) → AllRight names p lines → p.inside ≡ true → p.blocks ≡ OpenBlock.Choice 0 timers true ∷ outer → ⊥
+no-case names p timers outer [] r inside are = both_ways p.inside r inside
+no-case names p timers outer (line ∷ lines) r inside are =
+    let l : Line names p line = line-of names (is_end lines) p line r.0 in
+    wrong (role_in l.c.keyword) l.stands_here (ap (λ b. selects_wrongly b (role_in l.c.keyword)) (sym are) ∙ l.chosen)
+  where
+    wrong : (role : Role) → stands p.inside role ≡ true → selects_wrongly (OpenBlock.Choice 0 timers true ∷ outer) role ≡ false → ⊥
+    wrong (Role.Declares kind) here chosen = let e : not true ≡ true = ap not (sym inside) ∙ here in cc
+    wrong Role.Closes here chosen = cc
+    wrong Role.Acts here chosen = cc
+    wrong Role.Loops here chosen = cc
+    wrong Role.Selects here chosen = cc
+    wrong Role.Chooses here chosen = cc
+    wrong Role.Defaults here chosen = cc
+
+first-case : (names : Names) (p : Progress) (outer : List OpenBlock) (lines : List NumberedLine) → AllRight names p lines → p.inside ≡ true → p.blocks ≡ OpenBlock.Choice 0 0 false ∷ outer → IsChosen (deeds_of names lines)
+first-case names p outer [] r inside are = absurd (both_ways p.inside r inside)
+first-case names p outer (line ∷ lines) r inside are =
+    let l : Line names p line = line-of names (is_end lines) p line r.0 in
+    let deeds : deeds_of names (line ∷ lines) ≡ deed_of l.c.first l.what.step ∷ deeds_of names lines = ap (λ o. with_deed o (deeds_of names lines)) l.deed in
+    subst IsChosen (sym deeds)
+    (first-role names p (role_in l.c.keyword) (form_of l.c.keyword).first l.what.first (awaits_timer names l.c) l.c.first l.what.step 0 false outer inside are l.stands_here l.chosen l.what.fits (deeds_of names lines)
+    (λ is e. no-case names (progress_after names p line) 0 outer lines r.1
+    (ap (λ (q : Progress). q.inside) (l.behind ∙ ap (λ role. progress_with p role (count_of l.c.first) (awaits_timer names l.c)) is) ∙ inside)
+    (ap (λ (q : Progress). q.blocks) (l.behind ∙ ap (λ role. progress_with p role (count_of l.c.first) (awaits_timer names l.c)) is) ∙ ap default_added are)))
+
+done : (names : Names) (p : Progress) (lines : List NumberedLine) → AllRight names p lines → NoneOutside p.inside p.blocks → Done names p lines
 done names p [] out none = record { are = refl; right = out }
 done names p (line ∷ lines) r none =
     let c : Command = r.0.c in
     let right = r.0.right in
     let P : Progress → Type 0 = λ q. Done names q lines in
-    let Q : Progress → Type 0 = λ q. NoneOutside q.inside q.loops in
-    let behind : progress_after p line ≡ progress_with p (role_in c.keyword) (count_of c.first) = ap (progress_by p) r.0.is in
-    let outside : Q (progress_after p line) = subst Q (sym behind) (none-outside p (role_in c.keyword) (count_of c.first) right.stands_here none) in
-    let ih : Done names (progress_with p (role_in c.keyword) (count_of c.first)) lines = subst P behind (done names (progress_after p line) lines r.1 outside) in
+    let Q : Progress → Type 0 = λ q. NoneOutside q.inside q.blocks in
+    let behind : progress_after names p line ≡ progress_with p (role_in c.keyword) (count_of c.first) (awaits_timer names c) = ap (progress_by names p) r.0.is in
+    let outside : Q (progress_after names p line) = subst Q (sym behind) (none-outside p (role_in c.keyword) (count_of c.first) (awaits_timer names c) right.stands_here none) in
+    let ih : Done names (progress_with p (role_in c.keyword) (count_of c.first) (awaits_timer names c)) lines = subst P behind (done names (progress_after names p line) lines r.1 outside) in
     let what : Doing names c = doing names c right.names right.counts in
-    done-role names p.inside p.loops p.names p.functions p.instructions line lines c.first (role_in c.keyword) (form_of c.keyword).first what.first what.step
+    done-role names p.inside p.blocks p.names p.functions p.instructions line lines c.first (role_in c.keyword) (form_of c.keyword).first what.first (awaits_timer names c) what.step
     (ap (option_and_then (deed_with names)) r.0.is ∙ ap (option_map (deed_of c.first)) what.step_is)
-    (naming-is line.words c r.0.is (wants-name names (role_in c.keyword) (form_of c.keyword).first what.first what.step what.fits))
+    (naming-is line.words c r.0.is (wants-name names (role_in c.keyword) (form_of c.keyword).first what.first (awaits_timer names c) what.step what.fits))
     what.first_is right.stands_here
     (late-is names (role_in c.keyword) p.names what.first (value_of names (form_of c.keyword).first c.first) what.first_is right.first)
-    right.nested right.room what.fits none ih
+    right.nested right.chosen right.room what.fits none
+    (λ is. let after = behind ∙ ap (λ role. progress_with p role (count_of c.first) (awaits_timer names c)) is in
+    first-case names (progress_after names p line) (holding Held.Entered p.blocks) lines r.1
+    (ap (λ (q : Progress). q.inside) after ∙ (ap (stands p.inside) (sym is) ∙ right.stands_here))
+    (ap (λ (q : Progress). q.blocks) after))
+    ih
 
 -- `main` is a function
 and-right : (a b : Bool) → a ≡ true → (a && not b) ≡ false → b ≡ true
@@ -317,7 +475,7 @@ and-right false b e h = cc
 main-body : (names : Names) (p : Progress) (lines : List NumberedLine) → AllRight names p lines → (is_end lines ≡ true → is_function (names (codes "main")) ≡ true) → is_function (names (codes "main")) ≡ true
 main-body names p [] r h = h refl
 main-body names p (line ∷ lines) r h =
-    main-body names (progress_after p line) lines r.1 (λ e. and-right (is_end lines) (is_function (names (codes "main"))) e r.0.right.main)
+    main-body names (progress_after names p line) lines r.1 (λ e. and-right (is_end lines) (is_function (names (codes "main"))) e r.0.right.main)
 
 -- what is declared as a function
 record Main (o : Option Declared) : Type 0 where

@@ -1,5 +1,8 @@
+pub mod Reversed
 pub mod Rightly
 pub mod OpenLoops
+pub mod Bodies
+pub mod Sizes
 pub mod LoopsGood
 pub mod DeedNames
 pub mod DeedsGood

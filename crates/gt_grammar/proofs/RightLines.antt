@@ -10,8 +10,8 @@ use Rattle.gt_grammar.specs.declared.fault.Why.{Why}
 use Rattle.gt_grammar.specs.declared.fault.ScriptFault.{ScriptFault}
 use Rattle.gt_grammar.specs.Progress.{Progress}
 use Rattle.gt_grammar.specs.declared.statement.Statement.{Statement}
-use Rattle.gt_grammar.specs.Statements.{Command, command_of, statement_of, value_of, step_by, step_with}
-use Rattle.gt_grammar.specs.Faults.{Test, test, first_cause, causes, role_of, stands, is_named, is_counted, names_rightly, declares_twice, inside_after, counts_rightly, nests_wrongly, brings_too_many, progress_after, progress_with, count_of, cause_with, cause_at, lacks_main, fault_or, fault_from}
+use Rattle.gt_grammar.specs.Statements.{Command, command_of, awaits_timer, statement_of, value_of, step_by, step_with}
+use Rattle.gt_grammar.specs.Faults.{Test, test, first_cause, causes, role_of, stands, is_named, is_counted, names_rightly, declares_twice, inside_after, counts_rightly, nests_wrongly, selects_wrongly, brings_too_many, progress_after, progress_with, count_of, cause_with, cause_at, lacks_main, fault_or, fault_from}
 use Rattle.gt_grammar.proofs.Fits.{FitsRole, fits}
 
 -- the first cause is none: no cause applies
@@ -40,6 +40,7 @@ pub record IsRight (is_last lacks_main : Bool) (p : Progress) (s : Statement) : 
   pub ends : (is_last && inside_after p (role_of s)) ≡ false
   pub counts : counts_rightly s ≡ true
   pub nested : nests_wrongly p (role_of s) ≡ false
+  pub chosen : selects_wrongly p.blocks (role_of s) ≡ false
   pub room : brings_too_many p (role_of s) ≡ false
   pub main : lacks_main ≡ false
 
@@ -53,8 +54,9 @@ is_right is_last lacks_main p s h =
       ends = none.1.1.1.0;
       counts = holds (counts_rightly s) none.1.1.1.1.0;
       nested = none.1.1.1.1.1.0;
-      room = none.1.1.1.1.1.1.0;
-      main = none.1.1.1.1.1.1.1.0;
+      chosen = none.1.1.1.1.1.1.0;
+      room = none.1.1.1.1.1.1.1.0;
+      main = none.1.1.1.1.1.1.1.1.0;
     }
 
 -- ---- a right statement does something
@@ -95,7 +97,7 @@ pub record Doing (names : Names) (c : Command) : Type 0 where
   pub first_is : value_of names (form_of c.keyword).first c.first ≡ Some first
   pub step : Step
   pub step_is : step_with (statement_of names c) ≡ Some step
-  pub fits : FitsRole names (form_of c.keyword).role (form_of c.keyword).first first step
+  pub fits : FitsRole names (form_of c.keyword).role (form_of c.keyword).first first (awaits_timer names c) step
 
 step-is : (names : Names) (c : Command) (a b : ℕ) (o u : Option ℕ) → o ≡ Some a → u ≡ Some b → step_by c.keyword o u ≡ Some (step_of c.keyword a b)
 step-is names c a b (Some x) (Some y) e h = cc
@@ -132,7 +134,7 @@ right_line names is_last p line h = right_line-by names is_last p line (command_
 -- all lines are right, and the last one leads outside
 abbrev pub AllRight : Names → Progress → List NumberedLine → Type 0
 AllRight names p [] = p.inside ≡ false
-AllRight names p (line ∷ lines) = RightLine names (is_end lines) p line × AllRight names (progress_after p line) lines
+AllRight names p (line ∷ lines) = RightLine names (is_end lines) p line × AllRight names (progress_after names p line) lines
 
 pub fault_or-None : (o : Option Why) (n : ℕ) (later : Option ScriptFault) → fault_or o n later ≡ None → (o ≡ None) × (later ≡ None)
 fault_or-None None n later h = (refl, h)
@@ -147,23 +149,23 @@ abbrev inside_by : Progress → Option Command → Bool
 inside_by p None = p.inside
 inside_by p (Some c) = inside_after p (form_of c.keyword).role
 
-abbrev progress_by : Progress → Option Command → Progress
-progress_by p o = elim o [ None ↦ p | Some c ↦ progress_with p (form_of c.keyword).role (count_of c.first) ]
+abbrev progress_by : Names → Progress → Option Command → Progress
+progress_by names p o = elim o [ None ↦ p | Some c ↦ progress_with p (form_of c.keyword).role (count_of c.first) (awaits_timer names c) ]
 
-inside-is : (p : Progress) (o : Option Command) → (progress_by p o).inside ≡ inside_by p o
-inside-is p None = refl
-inside-is p (Some c) = refl
+inside-is : (names : Names) (p : Progress) (o : Option Command) → (progress_by names p o).inside ≡ inside_by p o
+inside-is names p None = refl
+inside-is names p (Some c) = refl
 
 outside-by : (names : Names) (o : Option Command) (p : Progress) (is_last lacks : Bool) → is_last ≡ true → cause_with is_last lacks p (option_map (statement_of names) o) ≡ None → inside_by p o ≡ false
 outside-by names None p is_last lacks last h = cc
 outside-by names (Some c) p is_last lacks last h = false-right is_last _ last (is_right is_last lacks p (statement_of names c) h).ends
 
-pub outside : (names : Names) (p : Progress) (line : NumberedLine) (is_last : Bool) → is_last ≡ true → cause_at names is_last p line ≡ None → (progress_after p line).inside ≡ false
+pub outside : (names : Names) (p : Progress) (line : NumberedLine) (is_last : Bool) → is_last ≡ true → cause_at names is_last p line ≡ None → (progress_after names p line).inside ≡ false
 outside names p line is_last last h =
-    inside-is p (command_of line.words) ∙ outside-by names (command_of line.words) p is_last (lacks_main names is_last) last h
+    inside-is names p (command_of line.words) ∙ outside-by names (command_of line.words) p is_last (lacks_main names is_last) last h
 
 pub all_right : (names : Names) (p : Progress) (lines : List NumberedLine) → (is_end lines ≡ true → p.inside ≡ false) → fault_from names p lines ≡ None → AllRight names p lines
 all_right names p [] out h = out refl
 all_right names p (line ∷ lines) out h =
-    let both = fault_or-None (cause_at names (is_end lines) p line) line.number (fault_from names (progress_after p line) lines) h in
-    (right_line names (is_end lines) p line both.0, all_right names (progress_after p line) lines (λ e. outside names p line (is_end lines) e both.0) both.1)
+    let both = fault_or-None (cause_at names (is_end lines) p line) line.number (fault_from names (progress_after names p line) lines) h in
+    (right_line names (is_end lines) p line both.0, all_right names (progress_after names p line) lines (λ e. outside names p line (is_end lines) e both.0) both.1)

@@ -1,17 +1,18 @@
 -- When the deeds of lines follow one another rightly.
-use Rattle.std.proofs.Common.{◌≡◌, ℕ, ◌+◌, ◌<◌, ◌≤◌, Bool, true, false, List, [], ◌∷◌, Option, None, Some, ltb as nat_lt, length}
+use Rattle.std.proofs.Common.{◌≡◌, ℕ, ◌+◌, ◌<◌, ◌≤◌, Bool, true, false, List, [], ◌∷◌, Option, None, Some, ltb as nat_lt}
 use Rattle.gt_model.specs.declared.script.What.{What}
 use Rattle.gt_model.specs.declared.script.Instr.{Instr}
+use Rattle.gt_model.specs.declared.script.CaseKind.{CaseKind}
 use Rattle.gt_model.specs.Good.{most_capacity}
 use Rattle.gt_model.specs.Times.{greatest_time}
 use Rattle.gt_table.specs.declared.form.Kind.{Kind}
-use Rattle.gt_table.specs.Forms.{is_kind_function, is_kind_setting, is_kind_chan, is_kind_source}
+use Rattle.gt_table.specs.Forms.{is_kind_function, is_kind_setting, is_kind_timer, is_kind_chan, is_kind_source}
 use Rattle.gt_names.specs.declared.names.Declared.{Declared}
 use Rattle.gt_names.specs.Names.{Names, Naming, is_free_name, Declaration, declaration}
-use Rattle.gt_grammar.specs.declared.progress.OpenLoop.{OpenLoop}
+use Rattle.gt_grammar.specs.declared.progress.OpenBlock.{OpenBlock}
 use Rattle.gt_grammar.specs.declared.progress.Held.{Held}
-use Rattle.gt_grammar.specs.Faults.{holding, may_end, loop_ended}
-use Rattle.gt_grammar.specs.Deeds.{Deed, declares, opens, does, loops, closes}
+use Rattle.gt_grammar.specs.Faults.{holding, may_end, loop_count, block_ended, case_added, default_added}
+use Rattle.gt_grammar.specs.Deeds.{Deed, declares, opens, does, loops, selects, chooses, defaults, closes}
 
 abbrev pub kind_in : What → Kind
 kind_in What.Timer = Kind.Timer
@@ -37,6 +38,9 @@ names_in n f (declares name what ∷ rest) = declaration (naming_as name (kind_i
 names_in n f (opens name decl ∷ rest) = declaration (naming_as name Kind.Function) n f ∷ names_in (n + 1) (f + 1) rest
 names_in n f (does instr ∷ rest) = names_in n f rest
 names_in n f (loops count ∷ rest) = names_in n f rest
+names_in n f (selects ∷ rest) = names_in n f rest
+names_in n f (chooses kind ∷ rest) = names_in n f rest
+names_in n f (defaults ∷ rest) = names_in n f rest
 names_in n f (closes ∷ rest) = names_in n f rest
 
 -- a name that is declared
@@ -64,8 +68,15 @@ Refers names (Instr.Send c v) = IsPlace names is_kind_chan c
 Refers names (Instr.Close c) = IsPlace names is_kind_chan c
 Refers names (Instr.LoopTop depth count past) = ⊥
 Refers names (Instr.LoopEnd depth top) = ⊥
+Refers names (Instr.Select cases default_to) = ⊥
+Refers names (Instr.Jump to) = ⊥
 Refers names Instr.Finish = ⊥
 Refers names _ = Unit {0}
+
+-- what a case names is declared as such, and it receives from a timer or does not
+abbrev pub RefersCase : Names → Bool → CaseKind → Type 0
+RefersCase names awaits (CaseKind.Recv o) = (p : IsPlace names is_kind_source o) × (awaits ≡ is_kind_timer p.ref.declared.kind)
+RefersCase names awaits (CaseKind.Send c v) = IsPlace names is_kind_chan c × (awaits ≡ false)
 
 -- what a declaration starts is declared as such, and its capacity is in range
 abbrev pub Starts : Names → What → Type 0
@@ -80,21 +91,51 @@ pub record IsNew (names : Names) (name : List ℕ) (n : ℕ) : Type 0 where
   pub first : is_declared_before n (names name) ≡ false
 
 -- a loop with so many passes opens in these
-abbrev pub opened : ℕ → List OpenLoop → List OpenLoop
-opened count outer = (record { repeats = nat_lt 0 count; held = Held.Nothing }) ∷ outer
+abbrev pub opened : ℕ → List OpenBlock → List OpenBlock
+opened count outer = OpenBlock.Loop (nat_lt 0 count) Held.Nothing ∷ outer
 
--- deeds that follow one another rightly, behind so many names, functions and instructions, where these loops are open, the innermost first
-abbrev pub Right : Names → Bool → List OpenLoop → ℕ → ℕ → ℕ → List Deed → Type 0
-Right names inside open_loops n f k [] = inside ≡ false
-Right names inside open_loops n f k (declares name what ∷ rest) =
-    (inside ≡ false) × (n < 4096) × IsNew names name n × Starts names what × Right names false open_loops (n + 1) f k rest
-Right names inside open_loops n f k (opens name decl ∷ rest) =
-    (inside ≡ false) × (n < 4096) × (f < 256) × IsNew names name n × (decl ≡ place_of (names name)) × (open_loops ≡ []) × Right names true [] (n + 1) (f + 1) k rest
-Right names inside open_loops n f k (does instr ∷ rest) =
-    (inside ≡ true) × (k < 100000) × Refers names instr × Right names true (holding Held.Entered open_loops) n f (k + 1) rest
-Right names inside open_loops n f k (loops count ∷ rest) =
-    (inside ≡ true) × (count ≤ 1000000) × (length open_loops < 4)
-    × Right names true (opened count open_loops) n f k rest
+-- a select opens in these
+abbrev pub chosen_in : List OpenBlock → List OpenBlock
+chosen_in outer = OpenBlock.Choice 0 0 false ∷ holding Held.Entered outer
+
+-- the next deed is the first case of a select
+abbrev pub IsChosen : List Deed → Type 0
+IsChosen (chooses kind ∷ rest) = Unit {0}
+IsChosen _ = ⊥
+
+-- a block may end, and a select may have a case more, or its default
+abbrev pub MayEnd : OpenBlock → Type 0
+MayEnd (OpenBlock.Loop repeats held) = may_end repeats held ≡ true
+MayEnd (OpenBlock.Choice cases timers has_default) = Unit {0}
+
+abbrev pub MayChoose : List OpenBlock → Type 0
+MayChoose [] = ⊥
+MayChoose (OpenBlock.Loop repeats held ∷ outer) = ⊥
+MayChoose (OpenBlock.Choice cases timers has_default ∷ outer) = (has_default ≡ false) × (cases < 16)
+
+abbrev pub MayDefault : List OpenBlock → Type 0
+MayDefault [] = ⊥
+MayDefault (OpenBlock.Loop repeats held ∷ outer) = ⊥
+MayDefault (OpenBlock.Choice cases timers has_default ∷ outer) = (has_default ≡ false) × (timers < 2)
+
+-- deeds that follow one another rightly, behind so many names, functions and instructions, where these blocks are open, the innermost first
+abbrev pub Right : Names → Bool → List OpenBlock → ℕ → ℕ → ℕ → List Deed → Type 0
+Right names inside blocks n f k [] = inside ≡ false
+Right names inside blocks n f k (declares name what ∷ rest) =
+    (inside ≡ false) × (n < 4096) × IsNew names name n × Starts names what × Right names false blocks (n + 1) f k rest
+Right names inside blocks n f k (opens name decl ∷ rest) =
+    (inside ≡ false) × (n < 4096) × (f < 256) × IsNew names name n × (decl ≡ place_of (names name)) × (blocks ≡ []) × Right names true [] (n + 1) (f + 1) k rest
+Right names inside blocks n f k (does instr ∷ rest) =
+    (inside ≡ true) × (k < 100000) × Refers names instr × Right names true (holding Held.Entered blocks) n f (k + 1) rest
+Right names inside blocks n f k (loops count ∷ rest) =
+    (inside ≡ true) × (count ≤ 1000000) × (loop_count blocks < 4)
+    × Right names true (opened count blocks) n f k rest
+Right names inside blocks n f k (selects ∷ rest) =
+    (inside ≡ true) × (k < 100000) × IsChosen rest × Right names true (chosen_in blocks) n f (k + 1) rest
+Right names inside blocks n f k (chooses kind ∷ rest) =
+    (inside ≡ true) × MayChoose blocks × ((awaits : Bool) × RefersCase names awaits kind × Right names true (case_added awaits blocks) n f k rest)
+Right names inside blocks n f k (defaults ∷ rest) =
+    (inside ≡ true) × MayDefault blocks × Right names true (default_added blocks) n f k rest
 Right names inside [] n f k (closes ∷ rest) = (inside ≡ true) × Right names false [] n f k rest
 Right names inside (inner ∷ outer) n f k (closes ∷ rest) =
-    (inside ≡ true) × (may_end inner.repeats inner.held ≡ true) × Right names true (loop_ended (inner ∷ outer)) n f k rest
+    (inside ≡ true) × MayEnd inner × Right names true (block_ended (inner ∷ outer)) n f k rest

@@ -10,8 +10,8 @@ use Rattle.gt_lines.specs.Number.{number_of}
 use Rattle.gt_table.specs.declared.form.Arg.{Arg}
 use Rattle.gt_table.specs.declared.form.Step.{Step}
 use Rattle.gt_table.specs.declared.table.Keyword.{Keyword}
-use Rattle.gt_table.specs.Forms.{is_wanted, is_kind_function, is_kind_setting, is_kind_chan, is_kind_source}
-use Rattle.gt_table.specs.Table.{keyword_of, form_of, step_of}
+use Rattle.gt_table.specs.Forms.{is_wanted, is_kind_function, is_kind_setting, is_kind_timer, is_kind_chan, is_kind_source}
+use Rattle.gt_table.specs.Table.{keyword_of, case_keyword_of, form_of, step_of}
 use Rattle.gt_names.specs.declared.names.Declared.{Declared}
 use Rattle.gt_names.specs.Names.{Names, is_free_name}
 use Rattle.gt_grammar.specs.declared.statement.Statement.{Statement}
@@ -59,9 +59,17 @@ command_by k first second words =
 abbrev pub command_with : Keyword → Words → Option Command
 command_with k words = command_by k (is_wanted (form_of k).first) (is_wanted (form_of k).second) words
 
+abbrev pub command_in : Option Keyword → Words → Option Command
+command_in k words = option_and_then (λ (k : Keyword). command_with k words) k
+
+-- the words behind `case`: what the case does, and what follows it
+abbrev pub case_of : Words → Option Command
+case_of [] = None
+case_of (word ∷ words) = command_in (case_keyword_of word) words
+
 abbrev pub command_of : Words → Option Command
 command_of [] = None
-command_of (word ∷ words) = option_and_then (λ (k : Keyword). command_with k words) (keyword_of word)
+command_of (word ∷ words) = if bytes_eq word (codes "case") then case_of words else command_in (keyword_of word) words
 
 -- the place of what a name is declared as
 abbrev pub setting_place : Declared → Option ℕ
@@ -97,12 +105,26 @@ value_of names Arg.Number word = number_of word
 value_of names Arg.Passes word = passes_of word
 value_of names Arg.Capacity word = number_to most_capacity word
 
+-- whether a name is declared as a channel timer
+abbrev pub is_ticking : Option Declared → Bool
+is_ticking None = false
+is_ticking (Some d) = is_kind_timer d.kind
+
+abbrev pub is_case_recv : Keyword → Bool
+is_case_recv Keyword.CaseRecv = true
+is_case_recv _ = false
+
+-- whether a command is a case that receives from a timer
+abbrev pub awaits_timer : Names → Command → Bool
+awaits_timer names c = is_case_recv c.keyword && is_ticking (names c.first)
+
 -- a command, with its names looked up and its amounts read
 abbrev pub statement_of : Names → Command → Statement
 statement_of names c = record {
   keyword = c.keyword;
   first = value_of names (form_of c.keyword).first c.first;
   second = value_of names (form_of c.keyword).second c.second;
+  awaits = awaits_timer names c;
 }
 
 abbrev pub step_by : Keyword → Option ℕ → Option ℕ → Option Step

@@ -25,9 +25,13 @@ pub enum Why {
     Missing,
     /// A number or a duration is spelled wrongly or out of range.
     Number,
-    /// An `end` without its loop or function, a fifth loop inside four others, or the `end` of a loop that holds nothing, or has passes
-    /// and holds only loops without passes.
+    /// An `end` without its block or function, a fifth loop inside four others, a seventeenth block inside sixteen others, a `case` or a
+    /// `default` whose innermost block is no select, or the `end` of a loop that holds nothing, or has passes and holds only loops
+    /// without passes.
     Nest,
+    /// Of a select: a second `default`, a `case` behind the `default`, a seventeenth case, an instruction or a block in front of the
+    /// first case, the `end` without a case, or a `default` behind two or more cases that receive from timers.
+    Select,
     /// The line brings the declared names above 4,096, the functions above 256, or the instructions above 100,000.
     Many,
     /// There is no function `main`.

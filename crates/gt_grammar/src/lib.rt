@@ -7,5 +7,5 @@ mod progress;
 mod statement;
 
 pub use fault::{ScriptFault, Why};
-pub use progress::{Held, OpenLoop, Progress};
+pub use progress::{Held, OpenBlock, Progress};
 pub use statement::Statement;

@@ -13,6 +13,8 @@ pub struct Statement {
     pub first: Option<u64>,
     /// The same for the second word.
     pub second: Option<u64>,
+    /// Whether it is a case that receives from a timer.
+    pub awaits: bool,
 }
 
 fn is_named(arg: Arg, value: Option<u64>) -> bool

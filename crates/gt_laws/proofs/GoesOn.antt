@@ -4,6 +4,7 @@ use Rattle.std.proofs.lemmas.Bool.{ltb-true, lt-ltb}
 use Rattle.std.specs.List.{filter_map, list_any, enumerate_from, cons_option}
 use Rattle.gt_model.specs.declared.script.Script.{Script}
 use Rattle.gt_model.specs.declared.script.Instr.{Instr}
+use Rattle.gt_model.specs.declared.script.Case.{Case}
 use Rattle.gt_model.specs.declared.script.CaseKind.{CaseKind}
 use Rattle.gt_model.specs.declared.script.What.{What}
 use Rattle.gt_model.specs.declared.entry.Entry.{Entry}
@@ -16,16 +17,15 @@ use Rattle.gt_model.specs.Good.{IsGood}
 use Rattle.gt_model.specs.Script.{instr_at, what_at, is_func, is_chan, capacity_of}
 use Rattle.gt_model.specs.Tables.{flatten}
 use Rattle.gt_rules.specs.State.{State, clock, goroutine_at, timer_at, due_of, stands, channel_at, item_count, is_closed, is_made}
-use Rattle.gt_rules.specs.Panics.{fault, fault_at, open_fault, or_else, when}
-use Rattle.gt_rules.specs.Ready.{is_due, is_ready, is_ready_in, is_ready_at, is_ready_instr, is_ready_case, is_ready_recv, is_partner, partner_waits, has_partner, has_come, everyone}
-use Rattle.gt_rules.specs.Operations.{receives_from, offers}
-use Rattle.gt_rules.specs.Operations as ops
+use Rattle.gt_rules.specs.Panics.{fault, fault_at, fault_case, case_fault, choice_fault, faulty_case, open_fault, or_else, when}
+use Rattle.gt_rules.specs.Ready.{is_due, is_ready, is_ready_in, is_ready_at, is_ready_instr, is_ready_case, is_ready_alone, is_ready_recv, is_partner, partner_waits, has_partner, has_come, everyone}
+use Rattle.gt_rules.specs.Operations.{receives_from, sends_to, offers, polls}
 use Rattle.gt_rules.specs.Counted.{sleep_of, awaits, is_awaited, counted_timer, counted}
 use Rattle.gt_rules.specs.After.{first_state, timer_world}
 use Rattle.gt_rules.specs.History.{AllLegal, state_after}
 use Rattle.gt_facts.specs.Still.{IsStill}
 use Rattle.gt_laws.specs.Told.{world_in, place_of, wait_of, ToldGoroutine, Everyone, clock_told, due_told, made_told, opened_told, closed_told, sent_told, taken_told, owner_told, stands_in}
-use Rattle.gt_laws.specs.GoesOn.{misuse_told, sends_to, meets_at, is_partner_told, partner_told, gives_told, can_receive, can_send, can_be_done, goes_on_at, goes_on_in, goes_on_told, IsStillTold, waits_for, waits_at, waited_told, sleep_in, due_counted, counted_told, IsStuckTold}
+use Rattle.gt_laws.specs.GoesOn.{case_misuse, choice_misuse, misused_from, misuse_told, misused_case, meets_at, is_partner_told, partner_told, gives_told, alone_told, meets_told, can_operate, can_be_done, goes_on_at, goes_on_in, goes_on_told, IsStillTold, waits_at, waited_told, sleep_in, due_counted, counted_told, IsStuckTold}
 use Rattle.gt_laws.proofs.Shown.{clock-told, due-told, made-told}
 use Rattle.gt_laws.proofs.Channels.{opened-told, closed-told, count-told}
 use Rattle.gt_laws.proofs.Everyone.{shown, place_in, wait_in, owner_in, until-shown, stands-shown, everyone-told, goroutine-told, owner-told}
@@ -58,6 +58,27 @@ has-told script limits h o good legal =
     ap (λ b. b || is_some (channel_at (reached script h) o)) (made-told script limits o h good legal)
     ∙ ap (λ b. made_told o h || b) (opened-told script limits o h good legal)
 
+case-told : (script : Script) (limits : Limits) (h : List Entry) (kind : CaseKind) → IsGood script → AllLegal script limits (first_state script) h
+    → case_fault (reached script h) kind ≡ case_misuse h kind
+case-told script limits h (CaseKind.Recv o) good legal = ap (λ b. when (not b) Reason.Unmade) (has-told script limits h o good legal)
+case-told script limits h (CaseKind.Send c v) good legal =
+    ap (λ b. when b Reason.Unmade) (none-not (channel_at (reached script h) c) ∙ ap not (opened-told script limits c h good legal))
+
+choice-told : (script : Script) (limits : Limits) (h : List Entry) (cases : List Case) → IsGood script → AllLegal script limits (first_state script) h
+    → choice_fault (reached script h) cases ≡ choice_misuse h cases
+choice-told script limits h [] good legal = refl
+choice-told script limits h (c ∷ cases) good legal =
+    ap (λ (o : Option Reason). or_else o (choice_fault (reached script h) cases)) (case-told script limits h c.kind good legal)
+    ∙ ap (λ (o : Option Reason). or_else (case_misuse h c.kind) o) (choice-told script limits h cases good legal)
+
+-- and the number of the first case with a misuse
+number-told : (script : Script) (limits : Limits) (h : List Entry) (n : ℕ) (cases : List Case) → IsGood script → AllLegal script limits (first_state script) h
+    → faulty_case (reached script h) n cases ≡ misused_from h n cases
+number-told script limits h n [] good legal = refl
+number-told script limits h n (c ∷ cases) good legal =
+    ap (λ (o : Option Reason). cond (is_some o) n (faulty_case (reached script h) (n + 1) cases)) (case-told script limits h c.kind good legal)
+    ∙ ap (λ m. cond (is_some (case_misuse h c.kind)) n m) (number-told script limits h (n + 1) cases good legal)
+
 pub misuse-told : (script : Script) (limits : Limits) (h : List Entry) (i : Instr) → IsGood script → AllLegal script limits (first_state script) h
     → fault script (reached script h) i ≡ misuse_told h i
 misuse-told script limits h (Instr.New t d) good legal = ap (λ b. when b Reason.Twice) (made-told script limits t h good legal)
@@ -67,50 +88,47 @@ misuse-told script limits h (Instr.Recv o) good legal = ap (λ b. when (not b) R
 misuse-told script limits h (Instr.Make c) good legal = ap (λ b. when b Reason.Twice) (opened-told script limits c h good legal)
 misuse-told script limits h (Instr.Send c v) good legal = unopened-told script limits h c good legal
 misuse-told script limits h (Instr.Close c) good legal = unopened-told script limits h c good legal
+misuse-told script limits h (Instr.Select cases default_to) good legal = choice-told script limits h cases good legal
 misuse-told script limits h _ good legal = refl
+
+pub misused-told : (script : Script) (limits : Limits) (h : List Entry) (i : Instr) → IsGood script → AllLegal script limits (first_state script) h
+    → fault_case (reached script h) i ≡ misused_case h i
+misused-told script limits h (Instr.Select cases default_to) good legal = number-told script limits h 1 cases good legal
+misused-told script limits h _ good legal = refl
 
 -- ---- the partner of who stands at a channel that keeps no values
 
-recv-waits : (t : ℕ) (i : Instr) → offers (receives_from t) i ≡ waits_for t i
-recv-waits t (Instr.Recv o) = refl
-recv-waits t (Instr.Send c v) = refl
-recv-waits t _ = refl
-
-send-sends : (k : ℕ) (i : Instr) → offers (ops.sends_to k) i ≡ sends_to k i
-send-sends k (Instr.Recv o) = refl
-send-sends k (Instr.Send c v) = refl
-send-sends k _ = refl
-
 -- no panic is no misuse
-calm-told : (o : Option Reason) → is_none (elim o as (λ o. Option (ℕ × Reason)) [ None ↦ None | Some reason ↦ Some (0, reason) ]) ≡ is_none o
-calm-told None = refl
-calm-told (Some reason) = refl
+calm-told : (n : ℕ) (o : Option Reason) → is_none (elim o as (λ o. Option (ℕ × Reason)) [ None ↦ None | Some reason ↦ Some (n, reason) ]) ≡ is_none o
+calm-told n None = refl
+calm-told n (Some reason) = refl
 
 none-there : (b : Bool) → (((b && true) && true) && false) ≡ (b && false)
 none-there true = refl
 none-there false = refl
 
-some-there : (b c d : Bool) → (((b && true) && c) && d) ≡ (b && (c && d))
-some-there true c d = refl
-some-there false c d = refl
+some-there : (b c p d : Bool) → (((b && true) && c) && (p && d)) ≡ (b && ((c && p) && d))
+some-there true true p d = refl
+some-there true false p d = refl
+some-there false c p d = refl
 
 -- who stands at an instruction, in the words of the state and of the entries
-partner-at : (script : Script) (limits : Limits) (h : List Entry) (b : Bool) (test : CaseKind → Bool) (told : Instr → Bool) (o : Option Instr) → IsGood script
-    → AllLegal script limits (first_state script) h → ((i : Instr) → offers test i ≡ told i)
+partner-at : (script : Script) (limits : Limits) (h : List Entry) (b : Bool) (test : CaseKind → Bool) (o : Option Instr) → IsGood script
+    → AllLegal script limits (first_state script) h
     → (b && true && is_none (elim o as (λ o. Option (ℕ × Reason)) [ None ↦ None | Some i ↦ fault_at script (reached script h) i ])
-    && (elim o as (λ o. Bool) [ None ↦ false | Some i ↦ offers test i ])) ≡ (b && meets_at h told o)
-partner-at script limits h b test told None good legal same = none-there b
-partner-at script limits h b test told (Some i) good legal same =
-    some-there b (is_none (fault_at script (reached script h) i)) (offers test i)
-    ∙ (ap (λ c. b && (c && offers test i)) (calm-told (fault script (reached script h) i) ∙ ap is_none (misuse-told script limits h i good legal))
-    ∙ ap (λ c. b && (is_none (misuse_told h i) && c)) (same i))
+    && (elim o as (λ o. Bool) [ None ↦ false | Some i ↦ not (polls i) && offers test i ])) ≡ (b && meets_at h (offers test) o)
+partner-at script limits h b test None good legal = none-there b
+partner-at script limits h b test (Some i) good legal =
+    some-there b (is_none (fault_at script (reached script h) i)) (not (polls i)) (offers test i)
+    ∙ ap (λ c. b && ((c && not (polls i)) && offers test i))
+    (calm-told (fault_case (reached script h) i) (fault script (reached script h) i) ∙ ap is_none (misuse-told script limits h i good legal))
 
-partner-one : (script : Script) (limits : Limits) (h : List Entry) (me : ℕ) (test : CaseKind → Bool) (told : Instr → Bool) → IsGood script
-    → AllLegal script limits (first_state script) h → ((i : Instr) → offers test i ≡ told i) → (g : ℕ) (r : Goroutine)
-    → is_partner script (reached script h) everyone me test (g, r) ≡ is_partner_told script h me told (g, shown r)
-partner-one script limits h me test told good legal same g r =
-    partner-at script limits h (not (g == me)) test told (stands script r) good legal same
-    ∙ ap (λ (o : Option Instr). not (g == me) && meets_at h told o) (stands-shown script r.place r.mode)
+partner-one : (script : Script) (limits : Limits) (h : List Entry) (me : ℕ) (test : CaseKind → Bool) → IsGood script
+    → AllLegal script limits (first_state script) h → (g : ℕ) (r : Goroutine)
+    → is_partner script (reached script h) everyone me test (g, r) ≡ is_partner_told script h me (offers test) (g, shown r)
+partner-one script limits h me test good legal g r =
+    partner-at script limits h (not (g == me)) test (stands script r) good legal
+    ∙ ap (λ (o : Option Instr). not (g == me) && meets_at h (offers test) o) (stands-shown script r.place r.mode)
 
 any-enumerated_map : {X Y : Type 0} (f : ℕ × X → Bool) (k : ℕ × Y → Bool) (m : X → Y) (n : ℕ) (xs : List X) → ((i : ℕ) (x : X) → f (i, x) ≡ k (i, m x))
     → list_any f (enumerate_from n xs) ≡ list_any k (enumerate_from n (map m xs))
@@ -118,13 +136,13 @@ any-enumerated_map f k m n [] same = refl
 any-enumerated_map f k m n (x ∷ xs) same =
     ap (λ b. b || list_any f (enumerate_from (n + 1) xs)) (same n x) ∙ ap (λ b. k (n, m x) || b) (any-enumerated_map f k m (n + 1) xs same)
 
-waits-told : (script : Script) (limits : Limits) (h : List Entry) (me : ℕ) (test : CaseKind → Bool) (told : Instr → Bool) → IsGood script
-    → AllLegal script limits (first_state script) h → ((i : Instr) → offers test i ≡ told i)
-    → partner_waits script (reached script h) everyone me test ≡ partner_told script h me told
-waits-told script limits h me test told good legal same =
-    any-enumerated_map (is_partner script (reached script h) everyone me test) (is_partner_told script h me told) shown 1 (reached script h).goroutines
-    (partner-one script limits h me test told good legal same)
-    ∙ ap (λ (all : Everyone). list_any (is_partner_told script h me told) (enumerate_from 1 all.goroutines)) (everyone-told script limits h good legal)
+waits-told : (script : Script) (limits : Limits) (h : List Entry) (me : ℕ) (test : CaseKind → Bool) → IsGood script
+    → AllLegal script limits (first_state script) h
+    → partner_waits script (reached script h) everyone me test ≡ partner_told script h me (offers test)
+waits-told script limits h me test good legal =
+    any-enumerated_map (is_partner script (reached script h) everyone me test) (is_partner_told script h me (offers test)) shown 1 (reached script h).goroutines
+    (partner-one script limits h me test good legal)
+    ∙ ap (λ (all : Everyone). list_any (is_partner_told script h me (offers test)) (enumerate_from 1 all.goroutines)) (everyone-told script limits h good legal)
 
 -- ---- what can be done
 
@@ -166,28 +184,40 @@ gives-told script limits h w o (Some (What.Chan cap)) good legal =
     ∙ ap (λ b. nat_lt (taken_told o h) (length (sent_told o h)) || b) (closed-told script limits o h good legal)
 gives-told script limits h w o (Some What.Function) good legal = refl
 
-receive-told : (script : Script) (limits : Limits) (h : List Entry) (g w o : ℕ) → IsGood script → AllLegal script limits (first_state script) h
-    → is_ready_case script (reached script h) (has_come (reached script h) w) everyone g (CaseKind.Recv o) ≡ can_receive script h g (clock_told w h) o
-receive-told script limits h g w o good legal =
-    ap (λ b. b || has_partner script (reached script h) everyone g (CaseKind.Recv o)) (gives-told script limits h w o (what_at script o) good legal)
-    ∙ ap (λ b. gives_told h (clock_told w h) o (what_at script o) || (is_chan script o && capacity_of script o == 0 && b))
-    (waits-told script limits h g (ops.sends_to o) (sends_to o) good legal (send-sends o))
+pub alone-told : (script : Script) (limits : Limits) (h : List Entry) (w : ℕ) (kind : CaseKind) → IsGood script → AllLegal script limits (first_state script) h
+    → is_ready_alone script (reached script h) (has_come (reached script h) w) kind ≡ alone_told script h (clock_told w h) kind
+alone-told script limits h w (CaseKind.Recv o) good legal = gives-told script limits h w o (what_at script o) good legal
+alone-told script limits h w (CaseKind.Send c v) good legal =
+    ap (λ b. b || nat_lt (item_count (reached script h) c) (capacity_of script c)) (closed-told script limits c h good legal)
+    ∙ ap (λ b. closed_told c h || b) (room-told script limits h c (capacity_of script c) good legal)
 
-send-told : (script : Script) (limits : Limits) (h : List Entry) (g w c v : ℕ) → IsGood script → AllLegal script limits (first_state script) h
-    → is_ready_case script (reached script h) (has_come (reached script h) w) everyone g (CaseKind.Send c v) ≡ can_send script h g c
-send-told script limits h g w c v good legal =
-    ap (λ b. (b || nat_lt (item_count (reached script h) c) (capacity_of script c)) || has_partner script (reached script h) everyone g (CaseKind.Send c v))
-    (closed-told script limits c h good legal)
-    ∙ (ap (λ b. (closed_told c h || b) || has_partner script (reached script h) everyone g (CaseKind.Send c v)) (room-told script limits h c (capacity_of script c) good legal)
-    ∙ ap (λ b. (closed_told c h || nat_lt (length (sent_told c h)) (capacity_of script c + taken_told c h)) || (capacity_of script c == 0 && b))
-    (waits-told script limits h g (receives_from c) (waits_for c) good legal (recv-waits c)))
+pair-told : (script : Script) (limits : Limits) (h : List Entry) (g : ℕ) (kind : CaseKind) → IsGood script → AllLegal script limits (first_state script) h
+    → has_partner script (reached script h) everyone g kind ≡ meets_told script h g kind
+pair-told script limits h g (CaseKind.Recv o) good legal =
+    ap (λ b. is_chan script o && capacity_of script o == 0 && b) (waits-told script limits h g (sends_to o) good legal)
+pair-told script limits h g (CaseKind.Send c v) good legal = ap (λ b. capacity_of script c == 0 && b) (waits-told script limits h g (receives_from c) good legal)
+
+operate-told : (script : Script) (limits : Limits) (h : List Entry) (g w : ℕ) (kind : CaseKind) → IsGood script → AllLegal script limits (first_state script) h
+    → is_ready_case script (reached script h) (has_come (reached script h) w) everyone g kind ≡ can_operate script h g (clock_told w h) kind
+operate-told script limits h g w kind good legal =
+    ap (λ b. b || has_partner script (reached script h) everyone g kind) (alone-told script limits h w kind good legal)
+    ∙ ap (λ b. alone_told script h (clock_told w h) kind || b) (pair-told script limits h g kind good legal)
+
+any-same : {X : Type 0} (f k : X → Bool) (xs : List X) → ((x : X) → f x ≡ k x) → list_any f xs ≡ list_any k xs
+any-same f k [] same = refl
+any-same f k (x ∷ xs) same = ap (λ b. b || list_any f xs) (same x) ∙ ap (λ b. k x || b) (any-same f k xs same)
 
 done-told : (script : Script) (limits : Limits) (h : List Entry) (g w : ℕ) (i : Instr) → IsGood script → AllLegal script limits (first_state script) h
     → is_ready_instr script (reached script h) (has_come (reached script h) w) everyone g i ≡ can_be_done script h g (clock_told w h) i
-done-told script limits h g w (Instr.Recv o) good legal = receive-told script limits h g w o good legal
-done-told script limits h g w (Instr.Send c v) good legal = send-told script limits h g w c v good legal
+done-told script limits h g w (Instr.Recv o) good legal = operate-told script limits h g w (CaseKind.Recv o) good legal
+done-told script limits h g w (Instr.Send c v) good legal = operate-told script limits h g w (CaseKind.Send c v) good legal
+done-told script limits h g w (Instr.Select cases default_to) good legal =
+    ap (λ b. is_some default_to || b)
+    (any-same (λ (c : Case). is_ready_case script (reached script h) (has_come (reached script h) w) everyone g c.kind)
+    (λ (c : Case). can_operate script h g (clock_told w h) c.kind) cases (λ c. operate-told script limits h g w c.kind good legal))
 done-told script limits h g w (Instr.LoopTop depth count past) good legal = refl
 done-told script limits h g w (Instr.LoopEnd depth top) good legal = refl
+done-told script limits h g w (Instr.Jump to) good legal = refl
 done-told script limits h g w _ good legal = refl
 
 -- ---- who goes on
@@ -285,7 +315,7 @@ sleep-told w r = ap (λ (o : Option ℕ). if r.world == w then o else None) (unt
 
 waits-there : (t : ℕ) (o : Option Instr) → (elim o as (λ o. Bool) [ None ↦ false | Some i ↦ offers (receives_from t) i ]) ≡ waits_at t o
 waits-there t None = refl
-waits-there t (Some i) = recv-waits t i
+waits-there t (Some i) = refl
 
 abbrev waits_of : Script → ℕ → ℕ → ToldGoroutine → Bool
 waits_of script w t r = r.world == w && waits_at t (stands_in script r.place r.wait)

@@ -8,7 +8,7 @@ use Rattle.gt_model.specs.Good.{IsGood}
 use Rattle.gt_rules.specs.State.{State}
 use Rattle.gt_rules.specs.Finish.{Legal}
 use Rattle.gt_rules.specs.History.{History}
-use Rattle.gt_laws.specs.Laws.{AtEach, InOrder, InTime, IsFresh, PassesOn, UsesRightly}
+use Rattle.gt_laws.specs.Laws.{AtEach, InOrder, InTime, IsFresh, PassesOn, UsesRightly, ChoosesRightly}
 use Rattle.gt_laws.proofs.GoesOn.{reached}
 use Rattle.gt_laws.proofs.Rows.{Behind, Obeys, Rule, row}
 use Rattle.gt_laws.proofs.Comes.{Comes, each}
@@ -40,3 +40,7 @@ each-uses_rightly = each (λ script limits. UsesRightly script) (λ script limit
 pub each-passes_on : (script : Script) (limits : Limits) (h : List Entry) (outcome : Outcome) → IsGood script → History script limits h outcome
     → AtEach (PassesOn script) h
 each-passes_on = each (λ script limits. PassesOn script) (λ script limits front e c. (obeys script limits front e c).passes)
+
+pub each-chooses_rightly : (script : Script) (limits : Limits) (h : List Entry) (outcome : Outcome) → IsGood script → History script limits h outcome
+    → AtEach (ChoosesRightly script) h
+each-chooses_rightly = each (λ script limits. ChoosesRightly script) (λ script limits front e c. (obeys script limits front e c).chooses)

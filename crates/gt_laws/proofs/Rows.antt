@@ -1,8 +1,10 @@
 -- At each entry but a finish the laws ask what the machine's rules ask, no more and no less: of what is shown of the laws here alone each kind of entry has a clause.
-use Rattle.std.proofs.Common.{◌≡◌, ℕ, zero, suc, ◌+◌, ◌<◌, ◌≤◌, List, [], length, slice_get, refl, sym, ap, subst, ◌∙◌, arith, Option, None, Some, Bool, true, false, not, is_some, IsSome, IsSomeAnd, IsTrue}
-use Rattle.std.proofs.lemmas.Bool.{leb-true, le-leb, or_left, or_right}
+use Rattle.std.proofs.Common.{◌≡◌, ℕ, zero, suc, ◌+◌, ◌<◌, ◌≤◌, List, [], ◌∷◌, ◌&&◌, length, slice_get, refl, sym, ap, subst, ◌∙◌, arith, Option, None, Some, Bool, true, false, not, is_some, IsSome, IsSomeAnd, IsTrue}
+use Rattle.std.proofs.lemmas.Bool.{leb-true, le-leb, or_parts, or_from}
+use Rattle.std.specs.List.{All, list_any}
 use Rattle.std.proofs.lemmas.List.{drop_all}
 use Rattle.gt_model.specs.declared.script.Script.{Script}
+use Rattle.gt_model.specs.declared.script.Case.{Case}
 use Rattle.gt_model.specs.declared.script.CaseKind.{CaseKind}
 use Rattle.gt_model.specs.declared.script.Instr.{Instr}
 use Rattle.gt_model.specs.declared.entry.Entry.{Entry}
@@ -12,26 +14,25 @@ use Rattle.gt_model.specs.declared.entry.Reason.{Reason}
 use Rattle.gt_model.specs.declared.state.Timer.{Timer}
 use Rattle.gt_model.specs.Good.{IsGood}
 use Rattle.gt_model.specs.Script.{capacity_of}
-use Rattle.gt_rules.specs.State.{State, Channel, clock, clock_of, stands_at, sleeps_until, timer_at, due_of, next_number, channel_at, items_of, item_count, is_closed, is_open}
-use Rattle.gt_rules.specs.Operations.{operation}
-use Rattle.gt_rules.specs.Panics.{fault_at, panic_at, when, or_else}
-use Rattle.gt_rules.specs.Ready.{is_due}
+use Rattle.gt_rules.specs.State.{State, Channel, clock, clock_of, world_of, stands_at, sleeps_until, timer_at, due_of, next_number, channel_at, items_of, item_count, is_closed, is_open}
+use Rattle.gt_rules.specs.Operations.{polls}
+use Rattle.gt_rules.specs.Panics.{panic_at, when, or_else}
+use Rattle.gt_rules.specs.Ready.{is_due, is_ready_alone}
+use Rattle.gt_rules.specs.Ready as ready
 use Rattle.gt_rules.specs.declared.change.Setting.{Setting}
 use Rattle.gt_rules.specs.declared.change.Trade.{Trade}
 use Rattle.gt_rules.specs.After.{first_state, timer_world}
-use Rattle.gt_rules.specs.Legal.{May, Does, Operates, due_at, sleep_end, was_set}
+use Rattle.gt_rules.specs.Legal.{May, Does, Defaults, Operates, is_polling, due_at, sleep_end, was_set}
 use Rattle.gt_rules.specs.History.{AllLegal}
-use Rattle.gt_facts.proofs.Lookups.{AtOperation, at_operation, is_plain, stands_recv, stands_send}
 use Rattle.gt_facts.proofs.Makers.{Sets, sets, was_made, Trades, trades-May, IsOpened, is_open-IsOpened}
-use Rattle.gt_facts.proofs.Still.{panic_stands}
-use Rattle.gt_laws.specs.Told.{clock_told, due_told, made_told, opened_told, closed_told, sent_told, taken_told, now_told, owner_told, started_told, stands_told, until_told}
-use Rattle.gt_laws.specs.GoesOn.{misuse_told}
-use Rattle.gt_laws.specs.Laws.{InOrder, InTime, IsFresh, PassesOn, UsesRightly}
+use Rattle.gt_laws.specs.Told.{clock_told, due_told, made_told, opened_told, closed_told, sent_told, taken_told, now_told, owner_told, started_told, stands_told, operation_told, polls_in, polls_told, until_told}
+use Rattle.gt_laws.specs.GoesOn.{alone_told, misuse_in, misuse_told}
+use Rattle.gt_laws.specs.Laws.{InOrder, InTime, IsFresh, PassesOn, UsesRightly, ChoosesRightly, IsNoMisuse, gives_some}
 use Rattle.gt_laws.proofs.Shown.{clock-told, due-told, made-told, started-told}
 use Rattle.gt_laws.proofs.Channels.{closed_in, opened-told, closed-told, kept-told, count-told, drop-first}
-use Rattle.gt_laws.proofs.Everyone.{now-told, owner-told, stands-told, until-told}
-use Rattle.gt_laws.proofs.GoesOn.{reached, misuse-told}
-use Rattle.gt_laws.proofs.Panics.{Panics, panics}
+use Rattle.gt_laws.proofs.Everyone.{now-told, owner-told, stands-told, until-told, world-told}
+use Rattle.gt_laws.proofs.GoesOn.{reached, alone-told}
+use Rattle.gt_laws.proofs.Panics.{panic-told, operation-told, calm-in, in-calm, Misuses, may-told, told-may}
 
 -- entries that are legal
 pub record Behind (script : Script) (limits : Limits) (front : List Entry) : Type 0 where
@@ -45,6 +46,7 @@ pub record Obeys (script : Script) (front : List Entry) (e : Entry) : Type 0 whe
   pub fresh : IsFresh front e
   pub uses : UsesRightly script front e
   pub passes : PassesOn script front e
+  pub chooses : ChoosesRightly script front e
 
 -- the rule of an entry: that of a finish is no row of May
 abbrev pub Rule : Script → State → Entry → Type 0
@@ -72,42 +74,24 @@ made {script} {limits} {front} b t x h = sym (made-told script limits t front b.
 
 -- ---- who makes no misuse
 
-abbrev plain_fault : Option Reason → Option (ℕ × Reason)
-plain_fault None = None
-plain_fault (Some reason) = Some (0, reason)
+calm-told : {script : Script} {limits : Limits} {front : List Entry} (b : Behind script limits front) (g : ℕ) → panic_at script (reached script front) g ≡ None
+    → IsNoMisuse script front g
+calm-told {script} {limits} {front} b g calm = calm-in front (stands_told script g front) (sym (panic-told script limits g front b.good b.before) ∙ calm)
 
-fault-plain : (o : Option Reason) → (elim o as (λ o. Option (ℕ × Reason)) [ None ↦ None | Some reason ↦ Some (0, reason) ]) ≡ plain_fault o
-fault-plain None = refl
-fault-plain (Some reason) = refl
-
-stands : {script : Script} {limits : Limits} {front : List Entry} (b : Behind script limits front) (g : ℕ) (i : Instr) → stands_told script g front ≡ Some i
-    → stands_at script (reached script front) g ≡ Some i
-stands {script} {limits} {front} b g i h = stands-told script limits g front b.good b.before ∙ h
-
--- the panic of who stands at an instruction
-panic-told : {script : Script} {limits : Limits} {front : List Entry} (b : Behind script limits front) (g : ℕ) (i : Instr) → stands_told script g front ≡ Some i
-    → panic_at script (reached script front) g ≡ plain_fault (misuse_told front i)
-panic-told {script} {limits} {front} b g i h =
-    sym (panic_stands script (reached script front) g)
-    ∙ (ap (λ (o : Option Instr). elim o as (λ x. Option (ℕ × Reason)) [ None ↦ None | Some i ↦ fault_at script (reached script front) i ]) (stands b g i h)
-    ∙ (fault-plain _ ∙ ap plain_fault (misuse-told script limits front i b.good b.before)))
+told-calm : {script : Script} {limits : Limits} {front : List Entry} (b : Behind script limits front) (g : ℕ) → IsNoMisuse script front g
+    → panic_at script (reached script front) g ≡ None
+told-calm {script} {limits} {front} b g none = panic-told script limits g front b.good b.before ∙ in-calm front (stands_told script g front) none
 
 does : {script : Script} {limits : Limits} {front : List Entry} (b : Behind script limits front) (g : ℕ) (i : Instr) → stands_told script g front ≡ Some i
     → misuse_told front i ≡ None → Does script (reached script front) g i
-does b g i h none = record { stands = stands b g i h; calm = panic-told b g i h ∙ ap plain_fault none }
+does {script} {limits} {front} b g i h none =
+    record { stands = stands-told script limits g front b.good b.before ∙ h; calm = told-calm b g (ap (misuse_in front) h ∙ none) }
 
 made-once : (front : List Entry) (t : ℕ) → made_told t front ≡ false → when (made_told t front) Reason.Twice ≡ None
 made-once front t h = ap (λ b. when b Reason.Twice) h
 
 used-made : (front : List Entry) (t : ℕ) → made_told t front ≡ true → when (not (made_told t front)) Reason.Unmade ≡ None
 used-made front t h = ap (λ b. when (not b) Reason.Unmade) h
-
--- the receive from a timer that was made, and from a channel that was
-recv-made : (front : List Entry) (t : ℕ) → made_told t front ≡ true → misuse_told front (Instr.Recv t) ≡ None
-recv-made front t h = ap (λ b. when (not b) Reason.Unmade) (or_left (made_told t front) (opened_told t front) h)
-
-recv-opened : (front : List Entry) (c : ℕ) → opened_told c front ≡ true → misuse_told front (Instr.Recv c) ≡ None
-recv-opened front c h = ap (λ b. when (not b) Reason.Unmade) (or_right (made_told c front) (opened_told c front) h)
 
 -- the use of a channel that was made and not closed
 used-open : (front : List Entry) (c : ℕ) → opened_told c front ≡ true → closed_told c front ≡ false
@@ -176,37 +160,87 @@ told-drained {script} {limits} {front} b c h =
 
 -- ---- who is a party of an operation
 
-operates : (script : Script) (s : State) (p : Party) (i : Instr) (kind : CaseKind) → operation i 0 ≡ Some kind → Does script s p.g i → p.case_no ≡ 0 → Operates script s p kind
-operates script s p i kind has call plain = record {
-  stands = ap (λ (o : Option Instr). elim o as (λ o. Option CaseKind) [ None ↦ None | Some i ↦ operation i p.case_no ]) call.stands ∙ (ap (operation i) plain ∙ has);
-  calm = call.calm;
-}
+operates-told : {script : Script} {limits : Limits} {front : List Entry} (b : Behind script limits front) (p : Party) (kind : CaseKind)
+    → Operates script (reached script front) p kind → operation_told script p front ≡ Some kind
+operates-told {script} {limits} {front} b p kind call = sym (operation-told script limits p front b.good b.before) ∙ call.stands
 
--- a plain call of an instruction
-abbrev Plainly : Script → List Entry → Party → Instr → Type 0
-Plainly script front p i = (stands_told script p.g front ≡ Some i) × (p.case_no ≡ 0)
+told-operates : {script : Script} {limits : Limits} {front : List Entry} (b : Behind script limits front) (p : Party) (kind : CaseKind) → IsNoMisuse script front p.g
+    → operation_told script p front ≡ Some kind → Operates script (reached script front) p kind
+told-operates {script} {limits} {front} b p kind calm has =
+    record { stands = operation-told script limits p front b.good b.before ∙ has; calm = told-calm b p.g calm }
 
-recv-told : {script : Script} {limits : Limits} {front : List Entry} (b : Behind script limits front) (p : Party) (o : ℕ) → Operates script (reached script front) p (CaseKind.Recv o)
-    → Plainly script front p (Instr.Recv o)
-recv-told {script} {limits} {front} b p o call =
-    let at : AtOperation script (reached script front) p (CaseKind.Recv o) = at_operation script (reached script front) p (CaseKind.Recv o) call.stands in
-    (told b p.g (Instr.Recv o) (stands_recv script (reached script front) p o call.stands), is_plain at.instr p.case_no (CaseKind.Recv o) at.has)
+-- ---- who stands at a choice with a default
 
-send-told : {script : Script} {limits : Limits} {front : List Entry} (b : Behind script limits front) (p : Party) (c v : ℕ)
-    → Operates script (reached script front) p (CaseKind.Send c v) → Plainly script front p (Instr.Send c v)
-send-told {script} {limits} {front} b p c v call =
-    let at : AtOperation script (reached script front) p (CaseKind.Send c v) = at_operation script (reached script front) p (CaseKind.Send c v) call.stands in
-    (told b p.g (Instr.Send c v) (stands_send script (reached script front) p c v call.stands), is_plain at.instr p.case_no (CaseKind.Send c v) at.has)
+polls-there : (o : Option Instr) → (elim o as (λ o. Bool) [ None ↦ false | Some i ↦ polls i ]) ≡ polls_in o
+polls-there None = refl
+polls-there (Some i) = refl
 
-told-recv : {script : Script} {limits : Limits} {front : List Entry} (b : Behind script limits front) (p : Party) (o : ℕ) → misuse_told front (Instr.Recv o) ≡ None
-    → stands_told script p.g front ≡ Some (Instr.Recv o) → p.case_no ≡ 0 → Operates script (reached script front) p (CaseKind.Recv o)
-told-recv {script} {limits} {front} b p o calm on plain =
-    operates script (reached script front) p (Instr.Recv o) (CaseKind.Recv o) refl (does b p.g (Instr.Recv o) on calm) plain
+polls-told : {script : Script} {limits : Limits} {front : List Entry} (b : Behind script limits front) (g : ℕ) → is_polling script (reached script front) g ≡ polls_told script g front
+polls-told {script} {limits} {front} b g =
+    polls-there (stands_at script (reached script front) g) ∙ ap polls_in (stands-told script limits g front b.good b.before)
 
-told-send : {script : Script} {limits : Limits} {front : List Entry} (b : Behind script limits front) (p : Party) (c v : ℕ) → misuse_told front (Instr.Send c v) ≡ None
-    → stands_told script p.g front ≡ Some (Instr.Send c v) → p.case_no ≡ 0 → Operates script (reached script front) p (CaseKind.Send c v)
-told-send {script} {limits} {front} b p c v calm on plain =
-    operates script (reached script front) p (Instr.Send c v) (CaseKind.Send c v) refl (does b p.g (Instr.Send c v) on calm) plain
+both-told : {script : Script} {limits : Limits} {front : List Entry} (b : Behind script limits front) (g k : ℕ)
+    → (is_polling script (reached script front) g && is_polling script (reached script front) k) ≡ (polls_told script g front && polls_told script k front)
+both-told {script} {limits} {front} b g k =
+    ap (λ x. x && is_polling script (reached script front) k) (polls-told b g) ∙ ap (λ x. polls_told script g front && x) (polls-told b k)
+
+not-true : (b : Bool) → not b ≡ true → b ≡ false
+not-true true h = cc
+not-true false h = refl
+
+-- a choice with a default
+record HasDefault (o : Option Instr) : Type 0 where
+  cases : List Case
+  to : ℕ
+  is : o ≡ Some (Instr.Select cases (Some to))
+
+has-default : (o : Option Instr) → polls_in o ≡ true → HasDefault o
+has-default None h = cc
+has-default (Some (Instr.Select cases None)) h = cc
+has-default (Some (Instr.Select cases (Some to))) h = record { cases = cases; to = to; is = refl }
+has-default (Some i) h = cc
+
+-- what holds of no case
+none-any : (p : Case → Bool) (cases : List Case) → All (λ (c : Case). p c ≡ false) cases → list_any p cases ≡ false
+none-any p [] none = refl
+none-any p (c ∷ cases) none = or_from (p c) (list_any p cases) (none 0 c (omega arith)) (none-any p cases (λ k d h. none (suc k) d (omega arith)))
+
+any-none : (p : Case → Bool) (cases : List Case) → list_any p cases ≡ false → All (λ (c : Case). p c ≡ false) cases
+any-none p [] none k d h = absurd (omega arith)
+any-none p (c ∷ cases) none zero d h = (or_parts (p c) (list_any p cases) none).0
+any-none p (c ∷ cases) none (suc k) d h = any-none p cases (or_parts (p c) (list_any p cases) none).1 k d (omega arith)
+
+-- whether a case goes on by itself
+alone : {script : Script} {limits : Limits} {front : List Entry} (b : Behind script limits front) (g : ℕ) (kind : CaseKind)
+    → is_ready_alone script (reached script front) (ready.has_come (reached script front) (world_of (reached script front) g)) kind ≡ alone_told script front (now_told script g front) kind
+alone {script} {limits} {front} b g kind =
+    alone-told script limits front (world_of (reached script front) g) kind b.good b.before
+    ∙ ap (λ w. alone_told script front (clock_told w front) kind) (world-told script limits g front b.good b.before)
+
+defaults-told : {script : Script} {limits : Limits} {front : List Entry} (b : Behind script limits front) (g : ℕ) → Defaults script (reached script front) g → Obeys script front (Entry.Default g)
+defaults-told {script} {limits} {front} b g d =
+    let on : stands_told script g front ≡ Some (Instr.Select d.cases (Some d.to)) = told b g (Instr.Select d.cases (Some d.to)) d.does.stands in
+    record {
+      order = ap polls_in on;
+      time = tt;
+      fresh = tt;
+      uses = calm-told b g d.does.calm;
+      passes = tt;
+      chooses = ap (λ (o : Option Instr). gives_some script front (now_told script g front) o) on
+          ∙ none-any (λ (c : Case). alone_told script front (now_told script g front) c.kind) d.cases (λ k x h. sym (alone b g _) ∙ d.none k x h);
+    }
+
+told-defaults : {script : Script} {limits : Limits} {front : List Entry} (b : Behind script limits front) (g : ℕ) → Obeys script front (Entry.Default g) → Defaults script (reached script front) g
+told-defaults {script} {limits} {front} b g o =
+    let has : HasDefault (stands_told script g front) = has-default (stands_told script g front) o.order in
+    let none : list_any (λ (c : Case). alone_told script front (now_told script g front) c.kind) has.cases ≡ false =
+    sym (ap (λ (o : Option Instr). gives_some script front (now_told script g front) o) has.is) ∙ o.chooses in
+    record {
+      cases = has.cases;
+      to = has.to;
+      does = record { stands = stands-told script limits g front b.good b.before ∙ has.is; calm = told-calm b g o.uses };
+      none = λ k x h. alone b g _ ∙ any-none (λ (c : Case). alone_told script front (now_told script g front) c.kind) has.cases none k x h;
+    }
 
 -- ---- whose time has come
 
@@ -285,9 +319,9 @@ Row script front e = (Rule script (reached script front) e → Obeys script fron
 pub row : {script : Script} {limits : Limits} {front : List Entry} (b : Behind script limits front) (e : Entry) → Row script front e
 row b (Entry.Say g n) = (λ may. assumption (told b g (Instr.Say n) may.stands), λ o. does b g (Instr.Say n) o.order refl)
 row b (Entry.Now g at) =
-    (λ may. record { order = told b g Instr.Now may.0.stands; time = may.1 ∙ now b g; fresh = tt; uses = tt; passes = tt }, λ o. (does b g Instr.Now o.order refl, o.time ∙ sym (now b g)))
+    (λ may. record { order = told b g Instr.Now may.0.stands; time = may.1 ∙ now b g; fresh = tt; uses = tt; passes = tt; chooses = tt }, λ o. (does b g Instr.Now o.order refl, o.time ∙ sym (now b g)))
 row b (Entry.Go g child f) = (
-  λ may. record { order = (told b g (Instr.Go f) may.0.stands, may.1 ∙ next b); time = tt; fresh = tt; uses = tt; passes = tt },
+  λ may. record { order = (told b g (Instr.Go f) may.0.stands, may.1 ∙ next b); time = tt; fresh = tt; uses = tt; passes = tt; chooses = tt },
   λ o. (does b g (Instr.Go f) o.order.0 refl, o.order.1 ∙ sym (next b)),
 )
 row b (Entry.End g) = (λ may. assumption (told b g Instr.Finish may.stands), λ o. does b g Instr.Finish o.order refl)
@@ -298,11 +332,12 @@ row b (Entry.Sleep g until) = (
     fresh = tt;
     uses = tt;
     passes = tt;
+    chooses = tt;
   },
   λ o. (o.order.0, does b g (Instr.Sleep o.order.0) o.order.1 refl, o.order.2 ∙ ap (λ time. sleep_end time o.order.0) (sym (now b g))),
 )
 row {script} {limits} {front} b (Entry.Wake g) = (
-  λ may. record { order = some-and (until_told script g front) _ (wakes-told b g may); time = wakes-told b g may; fresh = tt; uses = tt; passes = tt },
+  λ may. record { order = some-and (until_told script g front) _ (wakes-told b g may); time = wakes-told b g may; fresh = tt; uses = tt; passes = tt; chooses = tt },
   λ o. told-wakes b g o.time,
 )
 row {script} {limits} {front} b (Entry.New g t due) = (
@@ -312,6 +347,7 @@ row {script} {limits} {front} b (Entry.New g t due) = (
     fresh = tt;
     uses = made b t (Setting.Made due) (sets script (reached script front) (Entry.New g t due) b.good may);
     passes = tt;
+    chooses = tt;
   },
   λ o. (o.order.0, does b g (Instr.New t o.order.0) o.order.1 (made-once front t o.uses), o.order.2 ∙ ap (λ time. due_at time o.order.0) (sym (now b g))),
 )
@@ -322,6 +358,7 @@ row {script} {limits} {front} b (Entry.Stop g t answer) = (
     fresh = may.1 ∙ was b t;
     uses = made b t (Setting.Ended None) (sets script (reached script front) (Entry.Stop g t answer) b.good may);
     passes = tt;
+    chooses = tt;
   },
   λ o. (does b g (Instr.Stop t) o.order (used-made front t o.uses), o.fresh ∙ sym (was b t)),
 )
@@ -332,6 +369,7 @@ row {script} {limits} {front} b (Entry.Reset g t answer due) = (
     fresh = may.2 ∙ was b t;
     uses = made b t (Setting.SetAnew due) (sets script (reached script front) (Entry.Reset g t answer due) b.good may);
     passes = tt;
+    chooses = tt;
   },
   λ o. (
     o.order.0,
@@ -341,18 +379,17 @@ row {script} {limits} {front} b (Entry.Reset g t answer due) = (
   ),
 )
 row {script} {limits} {front} b (Entry.TRecv p t due later) = (
-  λ may.
-      let at : Plainly script front p (Instr.Recv t) = recv-told b p t may.0 in
-      record {
-        order = (at.0, at.1, may.1);
-        time = subst (λ time. due ≤ time) (now b p.g) may.3;
-        fresh = (sym (due-told script limits t front b.good b.before) ∙ may.2, may.4);
-        uses = made b t (Setting.Ended later) (sets script (reached script front) (Entry.TRecv p t due later) b.good may);
-        passes = tt;
-      },
+  λ may. record {
+    order = (operates-told b p (CaseKind.Recv t) may.0, may.1);
+    time = subst (λ time. due ≤ time) (now b p.g) may.3;
+    fresh = (sym (due-told script limits t front b.good b.before) ∙ may.2, may.4);
+    uses = (made b t (Setting.Ended later) (sets script (reached script front) (Entry.TRecv p t due later) b.good may), calm-told b p.g may.0.calm);
+    passes = tt;
+    chooses = tt;
+  },
   λ o. (
-    told-recv b p t (recv-made front t o.uses) o.order.0 o.order.1,
-    o.order.2,
+    told-operates b p (CaseKind.Recv t) o.uses.1 o.order.0,
+    o.order.1,
     due-told script limits t front b.good b.before ∙ o.fresh.0,
     subst (λ time. due ≤ time) (sym (now b p.g)) o.time,
     o.fresh.1,
@@ -365,6 +402,7 @@ row {script} {limits} {front} b (Entry.FireFunc t child) = (
     fresh = some-and (due_told t front) _ (fires-told b t may.1);
     uses = made b t (Setting.Ended None) (sets script (reached script front) (Entry.FireFunc t child) b.good may);
     passes = tt;
+    chooses = tt;
   },
   λ o. (o.order.0, told-fires b t o.time, o.order.1 ∙ sym (next b)),
 )
@@ -377,6 +415,7 @@ row {script} {limits} {front} b (Entry.Make g c) = (
         fresh = tt;
         uses = sym (opened-told script limits c front b.good b.before) ∙ new.has;
         passes = tt;
+        chooses = tt;
       },
   λ o. does b g (Instr.Make c) o.order (ap (λ b. when b Reason.Twice) o.uses),
 )
@@ -384,33 +423,41 @@ row {script} {limits} {front} b (Entry.Send p c v) = (
   λ may.
       let is : IsOpened (reached script front) c = is_open-IsOpened (reached script front) c may.1 in
       let unshut : closed_told c front ≡ false = closed-there b c false is.unshut in
-      record { order = send-told b p c v may.0; time = tt; fresh = tt; uses = (opened-there b c is.made, unshut); passes = (unshut, room-told b c may.2) },
-  λ o. (
-    told-send b p c v (used-open front c o.uses.0 o.uses.1) o.order.0 o.order.1,
-    open-there b c o.uses.0 o.uses.1,
-    told-room b c o.passes.1,
-  ),
+      record {
+        order = operates-told b p (CaseKind.Send c v) may.0;
+        time = tt;
+        fresh = tt;
+        uses = (opened-there b c is.made, unshut, calm-told b p.g may.0.calm);
+        passes = (unshut, room-told b c may.2);
+        chooses = tt;
+      },
+  λ o. (told-operates b p (CaseKind.Send c v) o.uses.2 o.order, open-there b c o.uses.0 o.uses.1, told-room b c o.passes.1),
 )
 row {script} {limits} {front} b (Entry.Recv p c (Some v)) = (
   λ may.
-      let at : Plainly script front p (Instr.Recv c) = recv-told b p c may.0 in
       let takes : Trades script (reached script front) c Trade.Takes = trades-May script (reached script front) (Entry.Recv p c (Some v)) b.good may in
-      record { order = (at.0, at.1, may.1); time = tt; fresh = tt; uses = opened-there b c takes.has.0; passes = sym (next-told b c) ∙ may.2 },
-  λ o. (told-recv b p c (recv-opened front c o.uses) o.order.0 o.order.1, o.order.2, next-told b c ∙ o.passes),
-)
-row {script} {limits} {front} b (Entry.Recv p c None) = (
-  λ may.
-      let at : Plainly script front p (Instr.Recv c) = recv-told b p c may.0 in
       record {
-        order = (at.0, at.1, may.1);
+        order = (operates-told b p (CaseKind.Recv c) may.0, may.1);
         time = tt;
         fresh = tt;
-        uses = opened-there b c (closed-made (channel_at (reached script front) c) may.2.1);
-        passes = (closed-there b c true may.2.1, drained-told b c may.2.0);
+        uses = (opened-there b c takes.has.0, calm-told b p.g may.0.calm);
+        passes = sym (next-told b c) ∙ may.2;
+        chooses = tt;
       },
+  λ o. (told-operates b p (CaseKind.Recv c) o.uses.1 o.order.0, o.order.1, next-told b c ∙ o.passes),
+)
+row {script} {limits} {front} b (Entry.Recv p c None) = (
+  λ may. record {
+    order = (operates-told b p (CaseKind.Recv c) may.0, may.1);
+    time = tt;
+    fresh = tt;
+    uses = (opened-there b c (closed-made (channel_at (reached script front) c) may.2.1), calm-told b p.g may.0.calm);
+    passes = (closed-there b c true may.2.1, drained-told b c may.2.0);
+    chooses = tt;
+  },
   λ o. (
-    told-recv b p c (recv-opened front c o.uses) o.order.0 o.order.1,
-    o.order.2,
+    told-operates b p (CaseKind.Recv c) o.uses.1 o.order.0,
+    o.order.1,
     (told-drained b c o.passes.1, closed-told script limits c front b.good b.before ∙ o.passes.0),
   ),
 )
@@ -418,15 +465,21 @@ row {script} {limits} {front} b (Entry.Pair from to c v) = (
   λ may.
       let is : IsOpened (reached script front) c = is_open-IsOpened (reached script front) c may.2 in
       let unshut : closed_told c front ≡ false = closed-there b c false is.unshut in
-      let gives : Plainly script front from (Instr.Send c v) = send-told b from c v may.0 in
-      let gets : Plainly script front to (Instr.Recv c) = recv-told b to c may.1 in
-      record { order = (gives.0, gives.1, gets.0, gets.1, may.4); time = tt; fresh = tt; uses = (opened-there b c is.made, unshut); passes = (unshut, may.3) },
+      record {
+        order = (operates-told b from (CaseKind.Send c v) may.0, operates-told b to (CaseKind.Recv c) may.1, may.4);
+        time = tt;
+        fresh = tt;
+        uses = (opened-there b c is.made, unshut, calm-told b from.g may.0.calm, calm-told b to.g may.1.calm);
+        passes = (unshut, may.3);
+        chooses = sym (both-told b from.g to.g) ∙ not-true _ may.5;
+      },
   λ o. (
-    told-send b from c v (used-open front c o.uses.0 o.uses.1) o.order.0 o.order.1,
-    told-recv b to c (recv-opened front c o.uses.0) o.order.2 o.order.3,
+    told-operates b from (CaseKind.Send c v) o.uses.2 o.order.0,
+    told-operates b to (CaseKind.Recv c) o.uses.3 o.order.1,
     open-there b c o.uses.0 o.uses.1,
     o.passes.1,
-    o.order.4,
+    o.order.2,
+    ap not (both-told b from.g to.g ∙ o.chooses),
   ),
 )
 row {script} {limits} {front} b (Entry.Close g c) = (
@@ -438,25 +491,20 @@ row {script} {limits} {front} b (Entry.Close g c) = (
         fresh = tt;
         uses = (opened-there b c shuts.has.0, closed-there b c false shuts.has.1);
         passes = tt;
+        chooses = tt;
       },
   λ o. does b g (Instr.Close c) o.order (used-open front c o.uses.0 o.uses.1),
 )
+row b (Entry.Default g) = (λ may. defaults-told b g may, λ o. told-defaults b g o)
 row {script} {limits} {front} b (Entry.Clock zero to) = (
-  λ may. record { order = tt; time = (subst (λ time. time < to) (clock-told script limits 0 front b.good b.before) may.0, may.1); fresh = tt; uses = tt; passes = tt },
+  λ may. record { order = tt; time = (subst (λ time. time < to) (clock-told script limits 0 front b.good b.before) may.0, may.1); fresh = tt; uses = tt; passes = tt; chooses = tt },
   λ o. (subst (λ time. time < to) (sym (clock-told script limits 0 front b.good b.before)) o.time.0, o.time.1),
 )
 row b (Entry.Clock (suc world) to) = (λ may. absurd may, λ o. o.time)
 row {script} {limits} {front} b (Entry.Panic p reason) = (
   λ may.
-      let at : Panics script (reached script front) p.g p.case_no reason = panics script (reached script front) p.g p.case_no reason may in
-      let on : stands_told script p.g front ≡ Some at.instr = told b p.g at.instr at.stands in
-      record {
-        order = (ap (λ (o : Option Instr). is_some o) on, at.plain);
-        time = tt;
-        fresh = tt;
-        uses = (at.instr, on, sym (misuse-told script limits front at.instr b.good b.before) ∙ at.faulty, at.plain);
-        passes = tt;
-      },
-  λ o. panic-told b p.g o.uses.0 o.uses.1 ∙ (ap plain_fault o.uses.2 ∙ ap (λ n. Some (n, reason)) (sym o.uses.3)),
+      let at : Misuses front (stands_told script p.g front) p.case_no reason = may-told script limits p reason front b.good b.before may in
+      record { order = ap (λ (o : Option Instr). is_some o) at.stands; time = tt; fresh = tt; uses = (at.instr, at.stands, at.is); passes = tt; chooses = tt },
+  λ o. told-may script limits p reason front b.good b.before (record { instr = o.uses.0; stands = o.uses.1; is = o.uses.2 }),
 )
-row b (Entry.Finish outcome) = (λ may. record { order = tt; time = tt; fresh = tt; uses = tt; passes = tt }, λ o. tt)
+row b (Entry.Finish outcome) = (λ may. record { order = tt; time = tt; fresh = tt; uses = tt; passes = tt; chooses = tt }, λ o. tt)

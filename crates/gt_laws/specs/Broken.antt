@@ -3,6 +3,7 @@ use Rattle.std.specs.Prelude.{List, [], ◌∷◌, ◌++◌, true, false, codes}
 use Rattle.std.specs.declared.option.Option.TheVariants.{None, Some}
 use Rattle.gt_model.specs.declared.script.Script.{Script}
 use Rattle.gt_model.specs.declared.script.Instr.{Instr}
+use Rattle.gt_model.specs.declared.script.CaseKind.{CaseKind}
 use Rattle.gt_model.specs.declared.script.What.{What}
 use Rattle.gt_model.specs.declared.entry.Entry.{Entry}
 use Rattle.gt_model.specs.declared.entry.Outcome.{Outcome}
@@ -57,16 +58,13 @@ one_stop = record {
   main = 0;
 }
 
--- func main / loop 2 / say 1 / end / end; what it makes with its loop written out
+-- func main / loop 2 / say 1 / end / end
 abbrev pub two_passes : Script
 two_passes = record {
   decls = (record { name = codes "main"; what = What.Function }) ∷ [];
   funcs = (record { decl = 0; code = Instr.LoopTop 0 2 3 ∷ Instr.Say 1 ∷ Instr.LoopEnd 0 0 ∷ Instr.Finish ∷ [] }) ∷ [];
   main = 0;
 }
-
-abbrev pub written_out : List Instr
-written_out = Instr.Say 1 ∷ Instr.Say 1 ∷ Instr.Finish ∷ []
 
 -- the loop of two is passed once, and three times
 abbrev pub one_pass : List Entry
@@ -233,3 +231,100 @@ nothing_while_open = Entry.Make 1 1 ∷ Entry.Recv (record { g = 1; case_no = 0 
 
 abbrev pub sent_after_close : List Entry
 sent_after_close = Entry.Make 1 1 ∷ Entry.Close 1 1 ∷ Entry.Send (record { g = 1; case_no = 0 }) 1 1 ∷ []
+
+-- ---- choices
+
+-- func main / chan c 1 / make c / send c 7 / select / case recv c / say 1 / default / say 2 / end / end
+abbrev pub one_choice : Script
+one_choice = record {
+  decls = (record { name = codes "main"; what = What.Function }) ∷ (record { name = codes "c"; what = What.Chan 1 }) ∷ [];
+  funcs = (record {
+    decl = 0;
+    code = Instr.Make 1 ∷ Instr.Send 1 7 ∷ Instr.Select ((record { kind = CaseKind.Recv 1; to = 3 }) ∷ []) (Some 5) ∷ Instr.Say 1 ∷ Instr.Jump 7 ∷ Instr.Say 2
+        ∷ Instr.Jump 7 ∷ Instr.Finish ∷ [];
+  }) ∷ [];
+  main = 0;
+}
+
+-- func main / chan c 1 / make c / loop 2 / select / case recv c / say 1 / default / say 2 / end / end / end
+abbrev pub choice : Instr
+choice = Instr.Select ((record { kind = CaseKind.Recv 1; to = 3 }) ∷ []) (Some 5)
+
+abbrev pub two_choices : Script
+two_choices = record {
+  decls = (record { name = codes "main"; what = What.Function }) ∷ (record { name = codes "c"; what = What.Chan 1 }) ∷ [];
+  funcs = (record {
+    decl = 0;
+    code = Instr.Make 1 ∷ Instr.LoopTop 0 2 8 ∷ choice ∷ Instr.Say 1 ∷ Instr.Jump 7 ∷ Instr.Say 2 ∷ Instr.Jump 7 ∷ Instr.LoopEnd 0 1 ∷ Instr.Finish ∷ [];
+  }) ∷ [];
+  main = 0;
+}
+
+-- func main / chan c 1 / make c / close c / select / case recv c / default / end / end
+abbrev pub one_shut : Script
+one_shut = record {
+  decls = (record { name = codes "main"; what = What.Function }) ∷ (record { name = codes "c"; what = What.Chan 1 }) ∷ [];
+  funcs = (record {
+    decl = 0;
+    code = Instr.Make 1 ∷ Instr.Close 1 ∷ Instr.Select ((record { kind = CaseKind.Recv 1; to = 3 }) ∷ []) (Some 4) ∷ Instr.Jump 5 ∷ Instr.Jump 5 ∷ Instr.Finish ∷ [];
+  }) ∷ [];
+  main = 0;
+}
+
+-- func main / chan c 0 / make c / go f / select / case recv c / default / end / end; func f / select / case send c 1 / default / end / end
+abbrev pub two_polls : Script
+two_polls = record {
+  decls = (record { name = codes "main"; what = What.Function }) ∷ (record { name = codes "c"; what = What.Chan 0 }) ∷ (record { name = codes "f"; what = What.Function }) ∷ [];
+  funcs = (record {
+    decl = 0;
+    code = Instr.Make 1 ∷ Instr.Go 1 ∷ Instr.Select ((record { kind = CaseKind.Recv 1; to = 3 }) ∷ []) (Some 4) ∷ Instr.Jump 5 ∷ Instr.Jump 5 ∷ Instr.Finish ∷ [];
+  })
+      ∷ (record { decl = 2; code = Instr.Select ((record { kind = CaseKind.Send 1 1; to = 1 }) ∷ []) (Some 2) ∷ Instr.Jump 3 ∷ Instr.Jump 3 ∷ Instr.Finish ∷ [] }) ∷ [];
+  main = 0;
+}
+
+-- func main / chan c 1 / chan d 1 / make c / select / case send c 7 / case recv d / end / end
+abbrev pub one_unmade : Script
+one_unmade = record {
+  decls = (record { name = codes "main"; what = What.Function }) ∷ (record { name = codes "c"; what = What.Chan 1 }) ∷ (record { name = codes "d"; what = What.Chan 1 }) ∷ [];
+  funcs = (record {
+    decl = 0;
+    code = Instr.Make 1 ∷ Instr.Select ((record { kind = CaseKind.Send 1 7; to = 2 }) ∷ (record { kind = CaseKind.Recv 2; to = 3 }) ∷ []) None ∷ Instr.Jump 4 ∷ Instr.Jump 4
+        ∷ Instr.Finish ∷ [];
+  }) ∷ [];
+  main = 0;
+}
+
+-- a value waits in main's channel; the body of the default comes after the case; the case has the number of a plain call; the default is taken over the value
+abbrev pub value_waits : List Entry
+value_waits = Entry.Make 1 1 ∷ Entry.Send (record { g = 1; case_no = 0 }) 1 7 ∷ []
+
+abbrev pub case_taken : List Entry
+case_taken = value_waits ++ Entry.Recv (record { g = 1; case_no = 1 }) 1 (Some 7) ∷ []
+
+abbrev pub other_body : List Entry
+other_body = case_taken ++ Entry.Say 1 2 ∷ []
+
+abbrev pub other_case : List Entry
+other_case = value_waits ++ Entry.Recv (record { g = 1; case_no = 0 }) 1 (Some 7) ∷ []
+
+abbrev pub over_a_value : List Entry
+over_a_value = value_waits ++ Entry.Default 1 ∷ []
+
+-- a default over a channel that was closed; a value that passes between two who both stand at choices with defaults
+abbrev pub over_a_close : List Entry
+over_a_close = Entry.Make 1 1 ∷ Entry.Close 1 1 ∷ Entry.Default 1 ∷ []
+
+abbrev pub neither_waits : List Entry
+neither_waits = Entry.Make 1 1 ∷ Entry.Go 1 2 1 ∷ Entry.Pair (record { g = 2; case_no = 1 }) (record { g = 1; case_no = 1 }) 1 1 ∷ []
+
+-- the send is chosen, while the other case receives from a channel that was not made
+abbrev pub beside_a_misuse : List Entry
+beside_a_misuse = Entry.Make 1 1 ∷ Entry.Send (record { g = 1; case_no = 1 }) 1 7 ∷ []
+
+-- a panic that has the number of the other case; one that has chosen the send, for a close, while its channel is open
+abbrev pub for_another_case : List Entry
+for_another_case = Entry.Make 1 1 ∷ Entry.Panic (record { g = 1; case_no = 1 }) Reason.Unmade ∷ []
+
+abbrev pub for_no_close : List Entry
+for_no_close = Entry.Make 1 1 ∷ Entry.Go 1 2 1 ∷ Entry.Panic (record { g = 2; case_no = 1 }) Reason.Closed ∷ []

@@ -1,5 +1,5 @@
 -- Who can go on, and where nobody can: told by the entries and the script alone.
-use Rattle.std.specs.Prelude.{ℕ, ◌+◌, nat_le, nat_lt, ◌==◌, ◌≡◌, cond, if◌then◌else◌, Bool, true, false, ◌&&◌, ◌||◌, not, is_some, is_none, IsTrue, List, [], ◌++◌, length}
+use Rattle.std.specs.Prelude.{ℕ, ◌+◌, nat_le, nat_lt, ◌==◌, ◌≡◌, cond, if◌then◌else◌, Bool, true, false, ◌&&◌, ◌||◌, not, is_some, is_none, IsTrue, List, [], ◌∷◌, ◌++◌, length}
 use Rattle.std.specs.List.{filter_map, list_any, enumerate_from}
 use Rattle.std.specs.declared.option.Option.{Option}
 use Rattle.std.specs.declared.option.Option.TheVariants.{None, Some}
@@ -11,9 +11,26 @@ use Rattle.gt_model.specs.declared.script.What.{What}
 use Rattle.gt_model.specs.declared.entry.Entry.{Entry}
 use Rattle.gt_model.specs.declared.entry.Reason.{Reason}
 use Rattle.gt_model.specs.Script.{is_func, is_chan, instr_at, what_at, capacity_of}
+use Rattle.gt_model.specs.declared.script.Case.{Case}
+use Rattle.gt_model.specs.declared.script.CaseKind.{CaseKind}
+use Rattle.gt_rules.specs.Operations.{offers, polls, receives_from, sends_to}
 use Rattle.gt_rules.specs.Panics.{when, or_else}
 use Rattle.gt_rules.specs.Ready.{is_due}
 use Rattle.gt_laws.specs.Told.{ToldGoroutine, Wait, awake, asleep, clock_told, due_told, made_told, opened_told, closed_told, sent_told, taken_told, everyone_told, now_told, place_told, wait_told, owner_told, until_in, stands_in}
+
+-- the misuse of a case's object, which was not made. That a channel is closed is none before its send is chosen
+abbrev pub case_misuse : List Entry → CaseKind → Option Reason
+case_misuse front (CaseKind.Recv o) = when (not (made_told o front || opened_told o front)) Reason.Unmade
+case_misuse front (CaseKind.Send c v) = when (not (opened_told c front)) Reason.Unmade
+
+-- that of the first case with a misuse, and the number of that case, where the first one has the number n
+abbrev pub choice_misuse : List Entry → List Case → Option Reason
+choice_misuse front [] = None
+choice_misuse front (c ∷ cases) = or_else (case_misuse front c.kind) (choice_misuse front cases)
+
+abbrev pub misused_from : List Entry → ℕ → List Case → ℕ
+misused_from front n [] = n
+misused_from front n (c ∷ cases) = cond (is_some (case_misuse front c.kind)) n (misused_from front (n + 1) cases)
 
 -- the misuse of an instruction here: a timer or a channel is made once, and used where it was made; nothing is sent to a channel that was closed, and
 -- it is closed once
@@ -29,49 +46,35 @@ misuse_told front (Instr.Recv o) = when (not (made_told o front || opened_told o
 misuse_told front (Instr.Make c) = when (opened_told c front) Reason.Twice
 misuse_told front (Instr.Send c v) = or_else (when (not (opened_told c front)) Reason.Unmade) (when (closed_told c front) Reason.Closed)
 misuse_told front (Instr.Close c) = or_else (when (not (opened_told c front)) Reason.Unmade) (when (closed_told c front) Reason.Closed)
+misuse_told front (Instr.Select cases default_to) = choice_misuse front cases
 misuse_told front (Instr.LoopTop depth count past) = None
 misuse_told front (Instr.LoopEnd depth top) = None
+misuse_told front (Instr.Jump to) = None
 misuse_told front Instr.Finish = None
+
+-- that of who stands there, where somebody does
+abbrev pub misuse_in : List Entry → Option Instr → Option Reason
+misuse_in front None = None
+misuse_in front (Some i) = misuse_told front i
+
+-- the case number of a misuse: 0 but at a choice
+abbrev pub misused_case : List Entry → Instr → ℕ
+misused_case front (Instr.Select cases default_to) = misused_from front 1 cases
+misused_case front _ = 0
 
 -- ---- the partner of who stands at a channel that keeps no values
 
--- whether an instruction receives from this object, or sends to it
+-- whether an operation of an instruction is a receive from this object, or a send to it
 abbrev pub waits_for : ℕ → Instr → Bool
-waits_for t (Instr.Say n) = false
-waits_for t Instr.Now = false
-waits_for t (Instr.Sleep d) = false
-waits_for t (Instr.Go f) = false
-waits_for t (Instr.New u d) = false
-waits_for t (Instr.Stop u) = false
-waits_for t (Instr.Reset u d) = false
-waits_for t (Instr.Recv o) = o == t
-waits_for t (Instr.Make c) = false
-waits_for t (Instr.Send c v) = false
-waits_for t (Instr.Close c) = false
-waits_for t (Instr.LoopTop depth count past) = false
-waits_for t (Instr.LoopEnd depth top) = false
-waits_for t Instr.Finish = false
+waits_for t i = offers (receives_from t) i
 
-abbrev pub sends_to : ℕ → Instr → Bool
-sends_to k (Instr.Say n) = false
-sends_to k Instr.Now = false
-sends_to k (Instr.Sleep d) = false
-sends_to k (Instr.Go f) = false
-sends_to k (Instr.New t d) = false
-sends_to k (Instr.Stop t) = false
-sends_to k (Instr.Reset t d) = false
-sends_to k (Instr.Recv o) = false
-sends_to k (Instr.Make c) = false
-sends_to k (Instr.Send c v) = c == k
-sends_to k (Instr.Close c) = false
-sends_to k (Instr.LoopTop depth count past) = false
-sends_to k (Instr.LoopEnd depth top) = false
-sends_to k Instr.Finish = false
+abbrev pub sends_for : ℕ → Instr → Bool
+sends_for k i = offers (sends_to k) i
 
--- whether an instruction passes a test and is no misuse
+-- whether an instruction passes a test, would wait, and is no misuse
 abbrev pub meets_at : List Entry → (Instr → Bool) → Option Instr → Bool
 meets_at front test None = false
-meets_at front test (Some i) = is_none (misuse_told front i) && test i
+meets_at front test (Some i) = is_none (misuse_told front i) && not (polls i) && test i
 
 -- whether goroutine e.0, which is e.1, is another one than g, and stands at such an instruction
 abbrev pub is_partner_told : Script → List Entry → ℕ → (Instr → Bool) → ℕ × ToldGoroutine → Bool
@@ -90,15 +93,17 @@ gives_told front now o (Some (What.AfterFunc func)) = false
 gives_told front now o (Some (What.Chan cap)) = nat_lt (taken_told o front) (length (sent_told o front)) || closed_told o front
 gives_told front now o (Some What.Function) = false
 
--- whether goroutine g can receive from an object at this time, and send to a channel: by itself, or with a partner
-abbrev pub can_receive : Script → List Entry → ℕ → ℕ → ℕ → Bool
-can_receive script front g now o =
-    gives_told front now o (what_at script o) || (is_chan script o && capacity_of script o == 0 && partner_told script front g (sends_to o))
+-- whether an operation can go on by itself at this time, with a partner, and at all, by goroutine g
+abbrev pub alone_told : Script → List Entry → ℕ → CaseKind → Bool
+alone_told script front now (CaseKind.Recv o) = gives_told front now o (what_at script o)
+alone_told script front now (CaseKind.Send c v) = closed_told c front || nat_lt (length (sent_told c front)) (capacity_of script c + taken_told c front)
 
-abbrev pub can_send : Script → List Entry → ℕ → ℕ → Bool
-can_send script front g c =
-    (closed_told c front || nat_lt (length (sent_told c front)) (capacity_of script c + taken_told c front))
-    || (capacity_of script c == 0 && partner_told script front g (waits_for c))
+abbrev pub meets_told : Script → List Entry → ℕ → CaseKind → Bool
+meets_told script front g (CaseKind.Recv o) = is_chan script o && capacity_of script o == 0 && partner_told script front g (sends_for o)
+meets_told script front g (CaseKind.Send c v) = capacity_of script c == 0 && partner_told script front g (waits_for c)
+
+abbrev pub can_operate : Script → List Entry → ℕ → ℕ → CaseKind → Bool
+can_operate script front g now kind = alone_told script front now kind || meets_told script front g kind
 
 -- whether goroutine g can do an instruction that is no misuse at this time
 abbrev pub can_be_done : Script → List Entry → ℕ → ℕ → Instr → Bool
@@ -109,12 +114,14 @@ can_be_done script front g now (Instr.Go f) = true
 can_be_done script front g now (Instr.New t d) = true
 can_be_done script front g now (Instr.Stop t) = true
 can_be_done script front g now (Instr.Reset t d) = true
-can_be_done script front g now (Instr.Recv o) = can_receive script front g now o
+can_be_done script front g now (Instr.Recv o) = can_operate script front g now (CaseKind.Recv o)
 can_be_done script front g now (Instr.Make c) = true
-can_be_done script front g now (Instr.Send c v) = can_send script front g c
+can_be_done script front g now (Instr.Send c v) = can_operate script front g now (CaseKind.Send c v)
 can_be_done script front g now (Instr.Close c) = true
 can_be_done script front g now (Instr.LoopTop depth count past) = false
 can_be_done script front g now (Instr.LoopEnd depth top) = false
+can_be_done script front g now (Instr.Jump to) = false
+can_be_done script front g now (Instr.Select cases default_to) = is_some default_to || list_any (λ (c : Case). can_operate script front g now c.kind) cases
 can_be_done script front g now Instr.Finish = true
 
 abbrev pub goes_on_at : Script → List Entry → ℕ → ℕ → Option Instr → Bool

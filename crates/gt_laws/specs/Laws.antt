@@ -1,5 +1,6 @@
 -- What each complete history keeps, read from its entries and its script alone. Each law says of each kind of entry what it asks: Unit {0} where nothing.
-use Rattle.std.specs.Prelude.{ℕ, zero, suc, ◌+◌, ◌≡◌, ◌≢◌, ◌<◌, ◌≤◌, List, ◌∷◌, ◌++◌, length, slice_get, true, false, is_some, IsTrue, IsSome, IsSomeAnd}
+use Rattle.std.specs.Prelude.{ℕ, zero, suc, ◌+◌, ◌≡◌, ◌≢◌, ◌<◌, ◌≤◌, List, ◌∷◌, ◌++◌, length, slice_get, Bool, true, false, ◌&&◌, is_some, IsTrue, IsSome, IsSomeAnd}
+use Rattle.std.specs.declared.option.Option.{Option}
 use Rattle.std.specs.declared.option.Option.TheVariants.{None, Some}
 use Rattle.gt_model.specs.declared.script.Script.{Script}
 use Rattle.gt_model.specs.declared.script.Instr.{Instr}
@@ -7,8 +8,11 @@ use Rattle.gt_model.specs.declared.entry.Entry.{Entry}
 use Rattle.gt_model.specs.Script.{is_timer, is_func, is_chan, capacity_of}
 use Rattle.gt_model.specs.Times.{greatest_time}
 use Rattle.gt_rules.specs.Legal.{due_at, sleep_end}
-use Rattle.gt_laws.specs.Told.{clock_told, due_told, made_told, opened_told, closed_told, sent_told, taken_told, now_told, owner_told, stands_told, started_told, until_told}
-use Rattle.gt_laws.specs.GoesOn.{misuse_told}
+use Rattle.gt_laws.specs.Told.{clock_told, due_told, made_told, opened_told, closed_told, sent_told, taken_told, now_told, owner_told, stands_told, operation_told, polls_told, started_told, until_told}
+use Rattle.gt_model.specs.declared.entry.Reason.{Reason}
+use Rattle.gt_model.specs.declared.script.CaseKind.{CaseKind}
+use Rattle.gt_rules.specs.Operations.{operation, offers}
+use Rattle.gt_laws.specs.GoesOn.{misuse_in, misuse_told, misused_case, alone_told}
 
 -- it holds of each entry of a history, with the entries before it
 abbrev pub AtEach : (List Entry → Entry → Type 0) → List Entry → Type 0
@@ -33,6 +37,7 @@ InTime script front (Entry.Send p c v) = Unit {0}
 InTime script front (Entry.Recv p c v) = Unit {0}
 InTime script front (Entry.Pair from to c v) = Unit {0}
 InTime script front (Entry.Close g c) = Unit {0}
+InTime script front (Entry.Default g) = Unit {0}
 InTime script front (Entry.Clock zero to) = (clock_told 0 front < to) × (to ≤ greatest_time)
 InTime script front (Entry.Clock (suc world) to) = ⊥
 InTime script front (Entry.Panic p reason) = Unit {0}
@@ -57,14 +62,16 @@ IsFresh front (Entry.Send p c v) = Unit {0}
 IsFresh front (Entry.Recv p c v) = Unit {0}
 IsFresh front (Entry.Pair from to c v) = Unit {0}
 IsFresh front (Entry.Close g c) = Unit {0}
+IsFresh front (Entry.Default g) = Unit {0}
 IsFresh front (Entry.Clock world to) = Unit {0}
 IsFresh front (Entry.Panic p reason) = Unit {0}
 IsFresh front (Entry.Finish outcome) = Unit {0}
 
 -- Each goroutine's calls, once and in order: an entry is the call of the instruction to which the goroutine's earlier entries have led it, made by one
 -- that is awake, and who wakes was asleep. Only AfterFunc timers fire. Who is started has the next number, so no number is given twice. A sleep ends,
--- and a setting is due, as long after the goroutine's clock as the instruction says. A plain call has the case number 0. The value of a timer comes from a
--- timer, that of a channel from a channel. Where a value passes from one goroutine to another, these are two, who stand at the send and at the receive
+-- and a setting is due, as long after the goroutine's clock as the instruction says. A plain call has the case number 0, and the call of a case the number
+-- of the case, from 1. A default is that of a choice. The value of a timer comes from a timer, that of a channel from a channel. Where a value passes from
+-- one goroutine to another, these are two, who stand at the send and at the receive
 abbrev pub InOrder : Script → List Entry → Entry → Type 0
 InOrder script front (Entry.Say g n) = stands_told script g front ≡ Some (Instr.Say n)
 InOrder script front (Entry.Now g at) = stands_told script g front ≡ Some Instr.Now
@@ -75,20 +82,37 @@ InOrder script front (Entry.Wake g) = IsSome (until_told script g front)
 InOrder script front (Entry.New g t due) = (d : ℕ) × (stands_told script g front ≡ Some (Instr.New t d)) × (due ≡ due_at (now_told script g front) d)
 InOrder script front (Entry.Stop g t was) = stands_told script g front ≡ Some (Instr.Stop t)
 InOrder script front (Entry.Reset g t was due) = (d : ℕ) × (stands_told script g front ≡ Some (Instr.Reset t d)) × (due ≡ due_at (now_told script g front) d)
-InOrder script front (Entry.TRecv p t due next) = (stands_told script p.g front ≡ Some (Instr.Recv t)) × (p.case_no ≡ 0) × IsTrue (is_timer script t)
+InOrder script front (Entry.TRecv p t due next) = (operation_told script p front ≡ Some (CaseKind.Recv t)) × IsTrue (is_timer script t)
 InOrder script front (Entry.FireFunc t child) = IsTrue (is_func script t) × (child ≡ started_told front + 1)
 InOrder script front (Entry.Make g c) = stands_told script g front ≡ Some (Instr.Make c)
-InOrder script front (Entry.Send p c v) = (stands_told script p.g front ≡ Some (Instr.Send c v)) × (p.case_no ≡ 0)
-InOrder script front (Entry.Recv p c v) = (stands_told script p.g front ≡ Some (Instr.Recv c)) × (p.case_no ≡ 0) × IsTrue (is_chan script c)
+InOrder script front (Entry.Send p c v) = operation_told script p front ≡ Some (CaseKind.Send c v)
+InOrder script front (Entry.Recv p c v) = (operation_told script p front ≡ Some (CaseKind.Recv c)) × IsTrue (is_chan script c)
 InOrder script front (Entry.Pair from to c v) =
-    (stands_told script from.g front ≡ Some (Instr.Send c v)) × (from.case_no ≡ 0) × (stands_told script to.g front ≡ Some (Instr.Recv c)) × (to.case_no ≡ 0) × (from.g ≢ to.g)
+    (operation_told script from front ≡ Some (CaseKind.Send c v)) × (operation_told script to front ≡ Some (CaseKind.Recv c)) × (from.g ≢ to.g)
 InOrder script front (Entry.Close g c) = stands_told script g front ≡ Some (Instr.Close c)
+InOrder script front (Entry.Default g) = IsTrue (polls_told script g front)
 InOrder script front (Entry.Clock world to) = Unit {0}
-InOrder script front (Entry.Panic p reason) = IsSome (stands_told script p.g front) × (p.case_no ≡ 0)
+InOrder script front (Entry.Panic p reason) = IsSome (stands_told script p.g front)
 InOrder script front (Entry.Finish outcome) = Unit {0}
 
--- A call is no misuse, and a panic is one: its goroutine stands at an instruction that is a misuse for this reason. So a timer and a channel are made
--- once, and used where they were made; a channel is closed once, and nothing is sent to it then
+-- the choice of a case that sends to a closed channel
+abbrev pub ChoosesMisuse : List Entry → Option CaseKind → Reason → Type 0
+ChoosesMisuse front (Some (CaseKind.Send c v)) reason = (closed_told c front ≡ true) × (reason ≡ Reason.Closed)
+ChoosesMisuse front (Some (CaseKind.Recv o)) reason = ⊥
+ChoosesMisuse front None reason = ⊥
+
+-- the misuse of an instruction, with its case number; or, where it is none, the choice of a case that is one
+abbrev pub IsMisuse : List Entry → Instr → ℕ → Reason → Option Reason → Type 0
+IsMisuse front i case_no reason (Some why) = (why ≡ reason) × (case_no ≡ misused_case front i)
+IsMisuse front i case_no reason None = ChoosesMisuse front (operation i case_no) reason
+
+-- goroutine g stands at no misuse: at a choice no case has one
+abbrev pub IsNoMisuse : Script → List Entry → ℕ → Type 0
+IsNoMisuse script front g = misuse_in front (stands_told script g front) ≡ None
+
+-- A call is no misuse, and a panic is one: its goroutine stands at an instruction that is a misuse for this reason, or chooses a case that sends to a
+-- closed channel. So a timer and a channel are made once, and used where they were made; a channel is closed once, and nothing is sent to it then. Where a
+-- choice goes on, each of its cases names what was made
 abbrev pub UsesRightly : Script → List Entry → Entry → Type 0
 UsesRightly script front (Entry.Say g n) = Unit {0}
 UsesRightly script front (Entry.Now g at) = Unit {0}
@@ -99,16 +123,18 @@ UsesRightly script front (Entry.Wake g) = Unit {0}
 UsesRightly script front (Entry.New g t due) = made_told t front ≡ false
 UsesRightly script front (Entry.Stop g t was) = made_told t front ≡ true
 UsesRightly script front (Entry.Reset g t was due) = made_told t front ≡ true
-UsesRightly script front (Entry.TRecv p t due next) = made_told t front ≡ true
+UsesRightly script front (Entry.TRecv p t due next) = (made_told t front ≡ true) × IsNoMisuse script front p.g
 UsesRightly script front (Entry.FireFunc t child) = made_told t front ≡ true
 UsesRightly script front (Entry.Make g c) = opened_told c front ≡ false
-UsesRightly script front (Entry.Send p c v) = (opened_told c front ≡ true) × (closed_told c front ≡ false)
-UsesRightly script front (Entry.Recv p c v) = opened_told c front ≡ true
-UsesRightly script front (Entry.Pair from to c v) = (opened_told c front ≡ true) × (closed_told c front ≡ false)
+UsesRightly script front (Entry.Send p c v) = (opened_told c front ≡ true) × (closed_told c front ≡ false) × IsNoMisuse script front p.g
+UsesRightly script front (Entry.Recv p c v) = (opened_told c front ≡ true) × IsNoMisuse script front p.g
+UsesRightly script front (Entry.Pair from to c v) =
+    (opened_told c front ≡ true) × (closed_told c front ≡ false) × IsNoMisuse script front from.g × IsNoMisuse script front to.g
 UsesRightly script front (Entry.Close g c) = (opened_told c front ≡ true) × (closed_told c front ≡ false)
+UsesRightly script front (Entry.Default g) = IsNoMisuse script front g
 UsesRightly script front (Entry.Clock world to) = Unit {0}
 UsesRightly script front (Entry.Panic p reason) =
-    (i : Instr) × (stands_told script p.g front ≡ Some i) × (misuse_told front i ≡ Some reason) × (p.case_no ≡ 0)
+    (i : Instr) × (stands_told script p.g front ≡ Some i) × IsMisuse front i p.case_no reason (misuse_told front i)
 UsesRightly script front (Entry.Finish outcome) = Unit {0}
 
 -- The values of a channel come out in the order in which they were sent, each once and none invented, and there are never more in it than its capacity.
@@ -132,6 +158,35 @@ PassesOn script front (Entry.Recv p c (Some v)) = slice_get (sent_told c front) 
 PassesOn script front (Entry.Recv p c None) = (closed_told c front ≡ true) × (taken_told c front ≡ length (sent_told c front))
 PassesOn script front (Entry.Pair from to c v) = (closed_told c front ≡ false) × (capacity_of script c ≡ 0)
 PassesOn script front (Entry.Close g c) = Unit {0}
+PassesOn script front (Entry.Default g) = Unit {0}
 PassesOn script front (Entry.Clock world to) = Unit {0}
 PassesOn script front (Entry.Panic p reason) = Unit {0}
 PassesOn script front (Entry.Finish outcome) = Unit {0}
+
+-- whether a case of an instruction could go on by itself
+abbrev pub gives_some : Script → List Entry → ℕ → Option Instr → Bool
+gives_some script front now None = false
+gives_some script front now (Some i) = offers (alone_told script front now) i
+
+-- A default is taken only where no case could go on by another cause than a partner, and where two meet, one of them would wait
+abbrev pub ChoosesRightly : Script → List Entry → Entry → Type 0
+ChoosesRightly script front (Entry.Say g n) = Unit {0}
+ChoosesRightly script front (Entry.Now g at) = Unit {0}
+ChoosesRightly script front (Entry.Go g child f) = Unit {0}
+ChoosesRightly script front (Entry.End g) = Unit {0}
+ChoosesRightly script front (Entry.Sleep g until) = Unit {0}
+ChoosesRightly script front (Entry.Wake g) = Unit {0}
+ChoosesRightly script front (Entry.New g t due) = Unit {0}
+ChoosesRightly script front (Entry.Stop g t was) = Unit {0}
+ChoosesRightly script front (Entry.Reset g t was due) = Unit {0}
+ChoosesRightly script front (Entry.TRecv p t due next) = Unit {0}
+ChoosesRightly script front (Entry.FireFunc t child) = Unit {0}
+ChoosesRightly script front (Entry.Make g c) = Unit {0}
+ChoosesRightly script front (Entry.Send p c v) = Unit {0}
+ChoosesRightly script front (Entry.Recv p c v) = Unit {0}
+ChoosesRightly script front (Entry.Pair from to c v) = (polls_told script from.g front && polls_told script to.g front) ≡ false
+ChoosesRightly script front (Entry.Close g c) = Unit {0}
+ChoosesRightly script front (Entry.Default g) = gives_some script front (now_told script g front) (stands_told script g front) ≡ false
+ChoosesRightly script front (Entry.Clock world to) = Unit {0}
+ChoosesRightly script front (Entry.Panic p reason) = Unit {0}
+ChoosesRightly script front (Entry.Finish outcome) = Unit {0}

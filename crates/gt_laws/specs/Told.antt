@@ -12,7 +12,10 @@ use Rattle.gt_model.specs.declared.entry.Entry.{Entry}
 use Rattle.gt_model.specs.declared.state.Ending.{Ending}
 use Rattle.gt_model.specs.Tables.{numbered, at, change_numbered}
 use Rattle.gt_model.specs.Script.{instr_at, func_of}
+use Rattle.gt_model.specs.declared.script.CaseKind.{CaseKind}
+use Rattle.gt_model.specs.declared.entry.Party.{Party}
 use Rattle.gt_rules.specs.Places.{first_place, place_after}
+use Rattle.gt_rules.specs.Operations.{operation, polls}
 use Rattle.gt_rules.specs.declared.change.Move.{Move}
 use Rattle.gt_rules.specs.declared.change.Setting.{Setting}
 use Rattle.gt_rules.specs.declared.change.Start.{Start}
@@ -148,9 +151,9 @@ abbrev pub world_in : Option ToldGoroutine → ℕ
 world_in None = 0
 world_in (Some r) = r.world
 
--- a call leads a goroutine to the place after its instruction, a panic nowhere
+-- a call leads a goroutine to the place after its instruction, at a choice to the body of its case; a panic leads nowhere
 abbrev pub led : Script → Move → ToldGoroutine → ToldGoroutine
-led script (Move.GoesOn case_no) r = record r { place = option_map (place_after script) r.place; wait = awake }
+led script (Move.GoesOn case_no) r = record r { place = option_map (place_after script case_no) r.place; wait = awake }
 led script (Move.FallsAsleep until) r = record r { wait = asleep until }
 led script Move.Ends r = record r { place = None; wait = awake }
 led script Move.Panics r = r
@@ -236,3 +239,19 @@ stands_in script place (asleep until) = None
 
 abbrev pub stands_told : Script → ℕ → List Entry → Option Instr
 stands_told script g h = stands_in script (place_told script g h) (wait_told script g h)
+
+-- the operation at which a party stands, by its case number
+abbrev pub operation_in : Option Instr → ℕ → Option CaseKind
+operation_in None n = None
+operation_in (Some i) n = operation i n
+
+abbrev pub operation_told : Script → Party → List Entry → Option CaseKind
+operation_told script p h = operation_in (stands_told script p.g h) p.case_no
+
+-- whether a goroutine stands at a choice with a default
+abbrev pub polls_in : Option Instr → Bool
+polls_in None = false
+polls_in (Some i) = polls i
+
+abbrev pub polls_told : Script → ℕ → List Entry → Bool
+polls_told script g h = polls_in (stands_told script g h)

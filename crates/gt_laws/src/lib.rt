@@ -1,7 +1,9 @@
 //! What each complete history keeps, read from its entries alone, and where a program is idle: each function's contract is a law.
 #![tactic(auto)]
 
-ghost use Rattle.std.specs.Prelude.{ℕ, ◌<◌, ◌≡◌, List, []};
+ghost use Rattle.std.specs.Prelude.{ℕ, ◌<◌, ◌≡◌, List, [], ◌∷◌};
+ghost use Rattle.std.specs.declared.option.Option.TheVariants.{None, Some};
+ghost use Rattle.gt_model.specs.declared.script.Instr.{Instr};
 ghost use Rattle.gt_model.specs.declared.script.Script.{Script};
 ghost use Rattle.gt_model.specs.declared.entry.Entry.{Entry};
 ghost use Rattle.gt_model.specs.declared.entry.Limits.{Limits};
@@ -17,8 +19,8 @@ ghost use Rattle.gt_facts.specs.Quiet.{IsQuiet};
 ghost use Rattle.gt_rules.specs.Finish.{IsIdle};
 ghost use Rattle.gt_facts.specs.Still.{IsStill};
 ghost use Rattle.gt_laws.specs.Told.{ending_told};
-ghost use Rattle.gt_laws.specs.Laws.{AtEach, InOrder, InTime, IsFresh, PassesOn, UsesRightly};
-ghost use Rattle.gt_laws.specs.Unrolled.{InTurn, unrolled_code};
+ghost use Rattle.gt_laws.specs.Laws.{AtEach, InOrder, InTime, IsFresh, PassesOn, UsesRightly, ChoosesRightly};
+ghost use Rattle.gt_laws.specs.Unrolled.{InTurn, turn_of};
 ghost use Rattle.gt_laws.specs.Ends.{EndsRightly, EndsWhereStuck, JumpsToLeast};
 ghost use Rattle.gt_laws.specs.GoesOn.{counted_told, IsStillTold, IsStuckTold};
 ghost use Rattle.gt_laws.specs.Broken as broken;
@@ -29,8 +31,8 @@ pub fn calls_come_in_order()
         → IsGood script → History script limits h outcome → AtEach (InOrder script) h }
 {}
 
-/// Loops repeat their bodies exactly as often as they say: each goroutine stands, or sleeps, at the instruction whose turn it is in its function's code
-/// with the loops written out.
+/// Loops repeat their bodies exactly as often as they say, and a choice leads into the body of its case: each goroutine stands, or sleeps, at the
+/// instruction to which its moves lead through its function's code.
 pub fn loops_repeat_as_they_say()
     ensures { (script : Script) (limits : Limits) (h : List Entry) (outcome : Outcome)
         → IsGood script → History script limits h outcome → AtEach (InTurn script) h }
@@ -49,7 +51,8 @@ pub fn no_value_is_stale()
 {}
 
 /// A timer or a channel is made once and used where it was made, and a channel is closed once, with nothing sent to it after: a call that would be a misuse
-/// is never made, and each panic is one, for the reason that it gives.
+/// is never made, and each panic is one, for the reason that it gives. A choice is a misuse where a case of it is, and so is the choice of a case that sends to
+/// a closed channel.
 pub fn a_panic_is_a_misuse()
     ensures { (script : Script) (limits : Limits) (h : List Entry) (outcome : Outcome)
         → IsGood script → History script limits h outcome → AtEach (UsesRightly script) h }
@@ -61,6 +64,13 @@ pub fn a_panic_is_a_misuse()
 pub fn values_pass_in_order()
     ensures { (script : Script) (limits : Limits) (h : List Entry) (outcome : Outcome)
         → IsGood script → History script limits h outcome → AtEach (PassesOn script) h }
+{}
+
+/// A default is taken only where no case of its choice could go on but by a partner, and where a value passes from one goroutine to another, one of them
+/// stood where it would wait.
+pub fn defaults_are_taken_rightly()
+    ensures { (script : Script) (limits : Limits) (h : List Entry) (outcome : Outcome)
+        → IsGood script → History script limits h outcome → AtEach (ChoosesRightly script) h }
 {}
 
 /// A run ends for its cause: with an exit after the end of main's function, with a panic after a misuse, at its limit, or with a deadlock where
@@ -89,7 +99,7 @@ pub fn a_clock_jumps_to_the_least_time()
 pub fn what_keeps_the_laws_is_a_history()
     ensures { (script : Script) (limits : Limits) (h : List Entry) (outcome : Outcome)
         → IsGood script → AtEach (InOrder script) h → AtEach (InTime script) h → AtEach IsFresh h → AtEach (UsesRightly script) h
-        → AtEach (PassesOn script) h → AtEach (EndsRightly script limits) h → ending_told h ≡ Ending.Finished outcome → History script limits h outcome }
+        → AtEach (PassesOn script) h → AtEach (ChoosesRightly script) h → AtEach (EndsRightly script limits) h → ending_told h ≡ Ending.Finished outcome → History script limits h outcome }
 {}
 
 /// Where nothing can go on is told by the entries and the script alone: it is where the machine's state after them stands still and counts no time.
@@ -118,7 +128,7 @@ pub fn a_quiet_program_is_idle()
 {}
 
 /// Calls in another order, calls made twice and calls left out are no histories. Nor is a wake-up of who is awake, a sleep within a
-/// sleep, one that is cut short, or a number given twice.
+/// sleep, one that is cut short, or a number given twice. Nor is a call of another case's body, or a case that has another number.
 pub fn calls_out_of_order_break_the_law()
     ensures swapped { ¬ AtEach (InOrder broken.two_calls) broken.swapped }
     ensures twice { ¬ AtEach (InOrder broken.two_calls) broken.twice }
@@ -127,14 +137,27 @@ pub fn calls_out_of_order_break_the_law()
     ensures asleep_twice { ¬ AtEach (InOrder broken.one_sleep) broken.asleep_twice }
     ensures cut_short { ¬ AtEach (InOrder broken.one_sleep) broken.cut_short }
     ensures number_twice { ¬ AtEach (InOrder broken.one_start) broken.number_twice }
+    ensures other_body { ¬ AtEach (InOrder broken.one_choice) broken.other_body }
+    ensures other_case { ¬ AtEach (InOrder broken.one_choice) broken.other_case }
 {}
 
 /// A loop of two that is passed once or three times is no history. Nor is a call of a goroutine that is started later: it is not where its turn is.
 pub fn a_third_pass_breaks_the_law()
-    ensures written_out { unrolled_code (code_of broken.two_passes 0) ≡ broken.written_out }
+    ensures first { turn_of (code_of broken.two_passes 0) [] ≡ Some (Instr.Say 1) }
+    ensures again { turn_of (code_of broken.two_passes 0) (0 ∷ []) ≡ Some (Instr.Say 1) }
+    ensures over { turn_of (code_of broken.two_passes 0) (0 ∷ 0 ∷ []) ≡ Some Instr.Finish }
+    ensures behind { turn_of (code_of broken.two_passes 0) (0 ∷ 0 ∷ 0 ∷ []) ≡ None }
     ensures one_pass { ¬ AtEach (InOrder broken.two_passes) broken.one_pass }
     ensures third_pass { ¬ AtEach (InOrder broken.two_passes) broken.third_pass }
     ensures unstarted { ¬ AtEach (InTurn broken.one_start) broken.unstarted }
+{}
+
+/// In a loop of two passes a choice is made twice: once for its case, and once for its default, whose bodies come.
+pub fn a_choice_leads_into_a_body()
+    ensures case { turn_of (code_of broken.two_choices 0) (0 ∷ 1 ∷ []) ≡ Some (Instr.Say 1) }
+    ensures again { turn_of (code_of broken.two_choices 0) (0 ∷ 1 ∷ 0 ∷ []) ≡ Some broken.choice }
+    ensures default { turn_of (code_of broken.two_choices 0) (0 ∷ 1 ∷ 0 ∷ 0 ∷ []) ≡ Some (Instr.Say 2) }
+    ensures over { turn_of (code_of broken.two_choices 0) (0 ∷ 1 ∷ 0 ∷ 0 ∷ 0 ∷ []) ≡ Some Instr.Finish }
 {}
 
 /// A sleep that ends early is no history, nor is a clock that falls or passes the greatest time, or a look at it that sees another time.
@@ -163,12 +186,24 @@ pub fn a_value_out_of_order_breaks_the_law()
     ensures sent_after_close { ¬ AtEach (PassesOn broken.one_close) broken.sent_after_close }
 {}
 
-/// A timer that is made twice or stopped before it was made, and a panic without a misuse or for another reason, are no histories.
+/// A default that is taken over a value that waits, or over a channel that was closed, is none of a history, nor is a value that passes between two
+/// goroutines neither of which would wait.
+pub fn a_default_over_a_value_breaks_the_law()
+    ensures over_a_value { ¬ AtEach (ChoosesRightly broken.one_choice) broken.over_a_value }
+    ensures over_a_close { ¬ AtEach (ChoosesRightly broken.one_shut) broken.over_a_close }
+    ensures neither_waits { ¬ AtEach (ChoosesRightly broken.two_polls) broken.neither_waits }
+{}
+
+/// A timer that is made twice or stopped before it was made, a panic without a misuse, for another reason or with the number of another case, and a choice
+/// that goes on beside a case which is a misuse, are no histories.
 pub fn a_misuse_without_a_panic_breaks_the_law()
     ensures made_twice { ¬ AtEach (UsesRightly broken.two_calls) broken.made_twice }
     ensures unmade { ¬ AtEach (UsesRightly broken.one_stop) broken.unmade }
     ensures for_nothing { ¬ AtEach (UsesRightly broken.two_calls) broken.for_nothing }
     ensures for_another_reason { ¬ AtEach (UsesRightly broken.one_stop) broken.for_another_reason }
+    ensures beside_a_misuse { ¬ AtEach (UsesRightly broken.one_unmade) broken.beside_a_misuse }
+    ensures for_another_case { ¬ AtEach (UsesRightly broken.one_unmade) broken.for_another_case }
+    ensures for_no_close { ¬ AtEach (UsesRightly broken.two_polls) broken.for_no_close }
 {}
 
 /// A deadlock while somebody sleeps is no end of a history, an exit or a limit before its time is none, and nothing comes after main's function has ended.

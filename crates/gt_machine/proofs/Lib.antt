@@ -2,3 +2,4 @@ pub mod Machines
 pub mod Codes
 pub mod Channels
 pub mod Applied
+pub mod Faults

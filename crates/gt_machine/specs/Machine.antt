@@ -1,11 +1,16 @@
 -- The state that a machine's fields mean.
-use Rattle.std.specs.Prelude.{◌≡◌, ℕ, ◌<◌, ◌-◌, ◌^◌, Bool, false, IsSome, IsSomeAnd, List, [], ◌∷◌, ◌++◌, length, map, slice_get}
+use Rattle.std.specs.Prelude.{◌≡◌, ℕ, ◌<◌, ◌≤◌, ◌+◌, ◌-◌, ◌^◌, Bool, false, IsSome, IsSomeAnd, List, [], ◌∷◌, ◌++◌, length, map, slice_get}
 use Rattle.std.specs.Option.{option_map}
 use Rattle.std.specs.declared.option.Option.{Option}
 use Rattle.std.specs.declared.option.Option.TheVariants.{None, Some}
 use Rattle.gt_model.specs.declared.script.Script.{Script}
 use Rattle.gt_model.specs.declared.script.Decl.{Decl}
 use Rattle.gt_model.specs.declared.script.What.{What}
+use Rattle.gt_model.specs.declared.script.Instr.{Instr}
+use Rattle.gt_model.specs.declared.script.Case.{Case}
+use Rattle.gt_model.specs.declared.entry.Reason.{Reason}
+use Rattle.gt_model.specs.Good.{most_cases}
+use Rattle.gt_rules.specs.Panics.{case_fault}
 use Rattle.gt_model.specs.declared.state.Goroutine.{Goroutine}
 use Rattle.gt_model.specs.declared.state.Timer.{Timer}
 use Rattle.gt_rules.specs.declared.change.Setting.{Setting}
@@ -75,3 +80,13 @@ IsTradable chs c trade = IsSomeAnd (slice_get chs c) (MayTrade trade)
 -- the channel that a look-up found, if it is made
 abbrev pub made_in : Option chan.Channel → Option Channel
 made_in ch = flatten (option_map channel_of ch)
+
+-- an instruction has no more cases than a choice may have
+abbrev pub HasFewCases : Instr → Type 0
+HasFewCases (Instr.Select cases default_to) = length cases ≤ most_cases
+HasFewCases _ = Unit {0}
+
+-- the place of the first faulty case, and why it is faulty, where the first case has the place k
+abbrev pub first_fault : State → ℕ → List Case → Option (ℕ × Reason)
+first_fault s k [] = None
+first_fault s k (c ∷ cases) = elim (case_fault s c.kind) [ None ↦ first_fault s (k + 1) cases | Some reason ↦ Some (k, reason) ]

@@ -29,8 +29,8 @@ pub fn move_goroutine(script: &Script, r: &mut Goroutine, how: Move)
     ensures { r.new ≡ after.moved script.now how r.old }
 {
     match how {
-        Move::GoesOn { .. } => {
-            r.place = place_after(script, r.place);
+        Move::GoesOn { case_no } => {
+            r.place = place_after(script, r.place, case_no);
             r.mode = Mode::At;
         }
         Move::FallsAsleep { until } => r.mode = Mode::Sleeping { until },

@@ -1,6 +1,6 @@
 //! What is looked up in a script.
 
-ghost use Rattle.std.specs.Prelude.{◌≡◌, [], MatchOption};
+ghost use Rattle.std.specs.Prelude.{◌≡◌, MatchOption, None, slice_get};
 ghost use Rattle.std.specs.Option.{option_copied, option_map};
 ghost use Rattle.gt_model.specs.Script.{code_of, instr_at, func_of, capacity_of};
 ghost use Rattle.gt_model.specs.Script as names;
@@ -8,9 +8,9 @@ ghost use Rattle.gt_machine.specs.Machine.{capacity_in};
 
 use gt_model::{Decl, Instr, Place, Script, What};
 
-/// The code of a function; None where no function has that place, which has no code.
+/// The code of a function; None exactly where no function has that place.
 pub fn code_of(script: &Script, f: u32) -> Option<&[Instr]>
-    ensures { MatchOption result (code_of script.now f ≡ []) (λ code. code.now ≡ code_of script.now f) }
+    ensures { MatchOption result (slice_get script.now.funcs f ≡ None) (λ code. code.now ≡ code_of script.now f) }
 {
     match script.funcs.as_slice().get(f as usize) {
         Some(func) => Some(func.code.as_slice()),

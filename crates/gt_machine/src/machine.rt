@@ -13,7 +13,7 @@ ghost use Rattle.gt_rules.specs.Legal.{May};
 ghost use Rattle.gt_rules.specs.Change.{started};
 ghost use Rattle.gt_facts.specs.Formed.{IsFormed};
 ghost use Rattle.gt_chan.specs.Channel as chan;
-ghost use Rattle.gt_machine.specs.Machine.{state_of, IsInside, IsTradable, HasChannels, with_new, made_in, capacity_in, capacities};
+ghost use Rattle.gt_machine.specs.Machine.{state_of, IsInside, IsTradable, HasChannels, with_new, made_in, capacity_in, capacities, HasFewCases, first_fault};
 ghost use Rattle.gt_machine.specs.Outcomes as outcomes;
 ghost use Rattle.gt_machine.specs.Places.{placed_at};
 
@@ -21,7 +21,8 @@ use crate::changes::{begun, move_goroutine, retimed, trade_channel};
 use crate::lookups::{capacity, declared_capacity, function_of, instr_at};
 use gt_chan::Chan;
 use gt_model::{
-    Decl, Ending, Entry, Goroutine, Instr, Limits, Mode, NoMemory, Outcome, Reason, Script, Timer,
+    Case, CaseKind, Decl, Ending, Entry, Goroutine, Instr, Limits, Mode, NoMemory, Outcome, Reason,
+    Script, Timer,
 };
 use gt_room::Room;
 use gt_rules::{
@@ -388,7 +389,51 @@ impl Machine {
             Instr::Recv { o } => when(!self.is_made(o), Reason::Unmade),
             Instr::Make { c } => when(self.channel(c).is_some(), Reason::Twice),
             Instr::Send { c, .. } | Instr::Close { c } => self.open_fault(c),
+            Instr::Select { ref cases, .. } => match self.faulty_case(cases.as_slice()) {
+                Some((_, reason)) => Some(reason),
+                None => None,
+            },
             _ => None,
+        }
+    }
+
+    /// Why a goroutine panics that stands at this instruction, and the number of the case: that of the first faulty one of a choice, and 0 of a plain
+    /// instruction. None where it does not panic.
+    pub fn fault_at(&self, i: &Instr) -> Option<(u32, Reason)>
+        requires { HasFewCases i.now }
+        ensures { (script : _) → result ≡ panics.fault_at script (state_of self.now) i.now }
+    {
+        match i {
+            Instr::Select { cases, .. } => match self.faulty_case(cases.as_slice()) {
+                Some((k, reason)) => Some((k as u32 + 1, reason)),
+                None => None,
+            },
+            _ => match self.fault(i) {
+                Some(reason) => Some((0, reason)),
+                None => None,
+            },
+        }
+    }
+
+    /// The place of the first faulty case of a choice, and why it is faulty; none where none is.
+    fn faulty_case(&self, cases: &[Case]) -> Option<(usize, Reason)>
+        ensures { result ≡ first_fault (state_of self.now) 0 cases.now }
+    {
+        for k in 0..cases.len() {
+            if let Some(reason) = self.case_fault(cases[k].kind) {
+                return Some((k, reason));
+            }
+        }
+        None
+    }
+
+    /// Why the use of a case's object panics: it was not made; none where it was. That a channel is closed is no misuse before the case is chosen.
+    fn case_fault(&self, kind: CaseKind) -> Option<Reason>
+        ensures { result ≡ panics.case_fault (state_of self.now) kind }
+    {
+        match kind {
+            CaseKind::Recv(o) => when(!self.is_made(o), Reason::Unmade),
+            CaseKind::Send(c, _) => when(self.channel(c).is_none(), Reason::Unmade),
         }
     }
 

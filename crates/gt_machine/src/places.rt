@@ -1,12 +1,13 @@
-//! Where a goroutine begins, and where it goes on: over the bounds of loops.
+//! Where a goroutine begins, and where it goes on: over the bounds of loops, and over jumps.
 
 ghost use Rattle.std.specs.Prelude.{◌≡◌, ◌+◌, ◌-◌, ◌<◌, ◌^◌, None, is_some, length, slice_get};
 ghost use Rattle.gt_model.specs.Good.{IsGood};
+ghost use Rattle.gt_model.specs.declared.script.Instr.{Instr};
 ghost use Rattle.gt_rules.specs.Places as places;
 ghost use Rattle.gt_machine.specs.Places.{LeadsRightly, IsWalkable};
 
 use crate::lookups::code_of;
-use gt_model::{Instr, Place, Script};
+use gt_model::{Case, Instr, Place, Script};
 
 /// At the top of a loop.
 fn at_top(place: Place, depth: u8, count: u32, past: u32) -> Place
@@ -49,6 +50,7 @@ fn silent(place: Place, instr: &Instr) -> Option<Place>
     match *instr {
         Instr::LoopTop { depth, count, past } => Some(at_top(place, depth, count, past)),
         Instr::LoopEnd { depth, top } => Some(at_end(place, depth, top)),
+        Instr::Jump { to } => Some(Place { at: to, ..place }),
         _ => None,
     }
 }
@@ -79,26 +81,23 @@ fn walked(code: &[Instr], place: Place) -> Place
     here
 }
 
-/// Whether a loop begins or ends at a place of a code.
-fn is_bound(code: &[Instr], place: Place) -> bool
+/// Whether an instruction that makes no entry stands at a place of a code.
+fn is_silent(code: &[Instr], place: Place) -> bool
     ensures { result ≡ is_some (places.silent_at code.now place) }
 {
     matches!(
         code.get(place.at as usize),
-        Some(Instr::LoopTop { .. } | Instr::LoopEnd { .. })
+        Some(Instr::LoopTop { .. } | Instr::LoopEnd { .. } | Instr::Jump { .. })
     )
 }
 
 // Most instructions are followed by one that makes an entry, so each entry comes here and few go further.
 #[inline(always)]
-fn settled(script: &Script, place: Place) -> Place
-    requires { IsGood script.now }
-    ensures { result ≡ places.settled script.now place }
+fn settled_in(code: &[Instr], place: Place) -> Place
+    requires { IsWalkable code.now }
+    ensures { result ≡ places.settled_in code.now place }
 {
-    let Some(code) = code_of(script, place.func) else {
-        return place;
-    };
-    if is_bound(code, place) {
+    if is_silent(code, place) {
         walked(code, place)
     } else {
         place
@@ -110,28 +109,62 @@ pub fn first_place(script: &Script, f: u32) -> Place
     requires { IsGood script.now }
     ensures { result ≡ places.first_place script.now f }
 {
-    let loops = [0, 0, 0, 0];
-    settled(
-        script,
-        Place {
-            func: f,
-            at: 0,
-            loops,
-        },
-    )
+    let first = Place {
+        func: f,
+        at: 0,
+        loops: [0, 0, 0, 0],
+    };
+    match code_of(script, f) {
+        Some(code) => settled_in(code, first),
+        None => first,
+    }
 }
 
-/// The place after an instruction.
-pub fn place_after(script: &Script, place: Place) -> Place
+/// The index at which a choice goes on: at the body of its case with this number, or of its default for number 0.
+fn chosen(cases: &[Case], default_to: Option<u32>, case_no: u32, behind: u32) -> u32
+    ensures { result ≡ places.next_index (Instr.Select cases.now default_to) case_no behind }
+{
+    match case_no.checked_sub(1) {
+        None => default_to.unwrap_or(behind),
+        Some(k) => match cases.get(k as usize) {
+            Some(case) => case.to,
+            None => behind,
+        },
+    }
+}
+
+// Most instructions are no choice: they are followed by the next one.
+#[inline(always)]
+fn next_in(code: &[Instr], at: u32, case_no: u32) -> u32
+    requires { at < 2 ^ 32 - 1 }
+    ensures { result ≡ places.next_of (slice_get code.now at) case_no (at + 1) }
+{
+    match code.get(at as usize) {
+        Some(Instr::Select { cases, default_to }) => chosen(
+            cases.as_slice(),
+            *default_to,
+            case_no,
+            at + 1,
+        ),
+        _ => at + 1,
+    }
+}
+
+/// The place after an operation of an instruction: behind a plain one, and at the body of the case of a choice with this number, or of its default for
+/// number 0.
+pub fn place_after(script: &Script, place: Place, case_no: u32) -> Place
     requires good { IsGood script.now }
     requires inside { place.at < 2 ^ 32 - 1 }
-    ensures { result ≡ places.place_after script.now place }
+    ensures { result ≡ places.place_after script.now case_no place }
 {
-    settled(
-        script,
-        Place {
+    match code_of(script, place.func) {
+        Some(code) => {
+            let at = next_in(code, place.at, case_no);
+            settled_in(code, Place { at, ..place })
+        }
+        None => Place {
             at: place.at + 1,
             ..place
         },
-    )
+    }
 }

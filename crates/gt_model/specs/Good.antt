@@ -1,5 +1,5 @@
 -- What a script keeps to that the reader accepts.
-use Rattle.std.specs.Prelude.{ℕ, zero, suc, ◌+◌, ◌-◌, ◌^◌, ◌<◌, ◌≤◌, ◌≡◌, ◌≢◌, ◌==◌, nat_le, Bool, true, false, cond, if◌then◌else◌, ◌&&◌, ◌||◌, IsTrue, List, [], ◌∷◌, ◌++◌, length, map, filter, slice_get, sum_by, codes}
+use Rattle.std.specs.Prelude.{ℕ, zero, suc, ◌+◌, ◌-◌, ◌^◌, ◌<◌, ◌≤◌, ◌≡◌, ◌≢◌, ◌==◌, nat_le, Bool, true, false, cond, if◌then◌else◌, ◌&&◌, ◌||◌, IsTrue, List, [], ◌∷◌, ◌++◌, length, map, filter, slice_get, sum_by, codes, IsSome, IfSome}
 use Rattle.std.specs.List.{All, list_all}
 use Rattle.std.specs.Option.{option_map, option_and_then}
 use Rattle.std.specs.declared.option.Option.{Option}
@@ -9,6 +9,8 @@ use Rattle.gt_model.specs.declared.script.Decl.{Decl}
 use Rattle.gt_model.specs.declared.script.Func.{Func}
 use Rattle.gt_model.specs.declared.script.What.{What}
 use Rattle.gt_model.specs.declared.script.Instr.{Instr}
+use Rattle.gt_model.specs.declared.script.Case.{Case}
+use Rattle.gt_model.specs.declared.script.CaseKind.{CaseKind}
 use Rattle.gt_model.specs.Times.{greatest_time}
 use Rattle.gt_model.specs.declared.entry.Limits.{Limits}
 use Rattle.gt_model.specs.Script.{is_timer, is_func, is_chan}
@@ -48,6 +50,27 @@ most_loops = 4
 abbrev pub gives_values : Script → ℕ → Bool
 gives_values script o = is_timer script o || is_chan script o
 
+-- an operation is on what gives values, or on what takes them
+abbrev pub OperatesRightly : Script → CaseKind → Type 0
+OperatesRightly script (CaseKind.Recv o) = IsTrue (gives_values script o)
+OperatesRightly script (CaseKind.Send c v) = IsTrue (is_chan script c)
+
+-- the receive of a timer
+abbrev pub awaits_timer : Script → CaseKind → Bool
+awaits_timer script (CaseKind.Recv o) = is_timer script o
+awaits_timer script (CaseKind.Send c v) = false
+
+-- the greatest number of cases of a choice
+abbrev pub most_cases : ℕ
+most_cases = 16
+
+-- a choice has some cases, and with a default at most one that receives from a timer
+pub record IsGoodChoice (script : Script) (cases : List Case) (default_to : Option ℕ) : Type 0 where
+  pub some : 1 ≤ length cases
+  pub few : length cases ≤ most_cases
+  pub each : All (λ (c : Case). OperatesRightly script c.kind) cases
+  pub polls : IsSome default_to → length (filter (λ (c : Case). awaits_timer script c.kind) cases) ≤ 1
+
 -- What an instruction names is declared as such, and its times are at most the greatest
 abbrev pub NamesRightly : Script → Instr → Type 0
 NamesRightly script (Instr.Say n) = Unit {0}
@@ -57,12 +80,14 @@ NamesRightly script (Instr.Go f) = f < length script.funcs
 NamesRightly script (Instr.New t d) = IsTrue (is_setting script t) × (d ≤ greatest_time)
 NamesRightly script (Instr.Stop t) = IsTrue (is_setting script t)
 NamesRightly script (Instr.Reset t d) = IsTrue (is_setting script t) × (d ≤ greatest_time)
-NamesRightly script (Instr.Recv o) = IsTrue (gives_values script o)
+NamesRightly script (Instr.Recv o) = OperatesRightly script (CaseKind.Recv o)
 NamesRightly script (Instr.Make c) = IsTrue (is_chan script c)
-NamesRightly script (Instr.Send c v) = IsTrue (is_chan script c)
+NamesRightly script (Instr.Send c v) = OperatesRightly script (CaseKind.Send c v)
 NamesRightly script (Instr.Close c) = IsTrue (is_chan script c)
 NamesRightly script (Instr.LoopTop depth count past) = count ≤ most_passes
 NamesRightly script (Instr.LoopEnd depth top) = Unit {0}
+NamesRightly script (Instr.Select cases default_to) = IsGoodChoice script cases default_to
+NamesRightly script (Instr.Jump to) = Unit {0}
 NamesRightly script Instr.Finish = Unit {0}
 
 -- whether an instruction is the end of a function
@@ -76,7 +101,7 @@ pub record IsGoodInstr (script : Script) (n i : ℕ) (instr : Instr) : Type 0 wh
   pub last : is_finish instr ≡ i + 1 == n
 
 -- whether a goroutine that goes on from the index i meets an instruction that makes an entry before it meets the end of a loop; it looks at no more than so many
--- instructions. It passes over the loops with a count of 0, and enters the others
+-- instructions. It passes over the loops with a count of 0, and enters the others; it follows jumps
 abbrev pub meets_instr : ℕ → List Instr → ℕ → Bool
 meets_instr zero code i = false
 meets_instr (suc more) code i = elim (slice_get code i) [
@@ -84,6 +109,7 @@ meets_instr (suc more) code i = elim (slice_get code i) [
   | Some x ↦ elim x [
     | Instr.LoopTop depth count past ↦ meets_instr more code (if count == 0 then past else i + 1)
     | Instr.LoopEnd depth top ↦ false
+    | Instr.Jump to ↦ meets_instr more code to
     | _ ↦ true
   ]
 ]
@@ -104,12 +130,26 @@ pub record IsGoodEnd (code : List Instr) (i depth top : ℕ) : Type 0 where
   pub count : ℕ
   pub begin : slice_get code top ≡ Some (Instr.LoopTop depth count (i + 1))
 
+-- Who goes from one index to another one goes ahead, leaves no loop, and comes into no loop but at its top
+pub record IsGoodTarget (code : List Instr) (i to : ℕ) : Type 0 where
+  pub ahead : i < to
+  pub within : to < length code
+  pub stays : (top depth count past : ℕ) → slice_get code top ≡ Some (Instr.LoopTop depth count past) → top < i → i < past → to < past
+  pub clear : (top depth count past : ℕ) → slice_get code top ≡ Some (Instr.LoopTop depth count past) → i < top → top < to → past ≤ to
+
+-- a choice goes on at the bodies of its cases and of its default
+pub record HasGoodTargets (code : List Instr) (i : ℕ) (cases : List Case) (default_to : Option ℕ) : Type 0 where
+  pub each : All (λ (c : Case). IsGoodTarget code i c.to) cases
+  pub otherwise : IfSome default_to (IsGoodTarget code i)
+
 pub record IsGoodCode (script : Script) (code : List Instr) : Type 0 where
   pub some : 0 < length code
   pub short : length code < 2 ^ 32
   pub each : (i : ℕ) (x : Instr) → slice_get code i ≡ Some x → IsGoodInstr script (length code) i x
   pub loops : (i depth count past : ℕ) → slice_get code i ≡ Some (Instr.LoopTop depth count past) → IsGoodLoop code i depth count past
   pub ends : (i depth top : ℕ) → slice_get code i ≡ Some (Instr.LoopEnd depth top) → IsGoodEnd code i depth top
+  pub choices : (i : ℕ) (cases : List Case) (default_to : Option ℕ) → slice_get code i ≡ Some (Instr.Select cases default_to) → HasGoodTargets code i cases default_to
+  pub jumps : (i to : ℕ) → slice_get code i ≡ Some (Instr.Jump to) → IsGoodTarget code i to
 
 -- a declaration names what it starts, and a channel has a capacity that it may have
 abbrev pub DeclaresRightly : Script → What → Type 0
@@ -132,10 +172,11 @@ most_instructions = 100000
 abbrev pub most_entries : ℕ
 most_entries = 200000
 
--- whether an instruction stands for a line with an instruction: the bounds of a loop and the end of a function do not
+-- whether an instruction stands for a line with an instruction: the bounds of a loop, the ends of bodies and the end of a function do not
 abbrev pub is_line : Instr → Bool
 is_line (Instr.LoopTop depth count past) = false
 is_line (Instr.LoopEnd depth top) = false
+is_line (Instr.Jump to) = false
 is_line Instr.Finish = false
 is_line _ = true
 

@@ -43,6 +43,7 @@ parts_of (Entry.Send p c v) = keyword (codes "send") ∷ party p ∷ channel c �
 parts_of (Entry.Recv p c v) = keyword (codes "recv") ∷ party p ∷ channel c ∷ maybe_number v ∷ []
 parts_of (Entry.Pair from to c v) = keyword (codes "pair") ∷ party from ∷ party to ∷ channel c ∷ number v ∷ []
 parts_of (Entry.Close g c) = keyword (codes "close") ∷ goroutine g ∷ channel c ∷ []
+parts_of (Entry.Default g) = keyword (codes "default") ∷ goroutine g ∷ []
 parts_of (Entry.Clock world at) = keyword (codes "clock") ∷ number world ∷ number at ∷ []
 parts_of (Entry.Panic p why) = keyword (codes "panic") ∷ party p ∷ reason why ∷ []
 parts_of (Entry.Finish how) = outcome how ∷ []

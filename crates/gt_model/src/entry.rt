@@ -100,6 +100,10 @@ pub enum Entry {
         g: u32,
         c: u32,
     },
+    /// A goroutine found no case of its choice that could go on, and went on at its default.
+    Default {
+        g: u32,
+    },
     /// The clock of a world moved to a time. The program is world 0.
     Clock {
         world: u32,

@@ -2,7 +2,7 @@
 
 ghost use Rattle.std.specs.Prelude.{◌≡◌};
 
-use crate::script::{Decl, Func, Instr};
+use crate::script::{Case, Decl, Func, Instr};
 use std::marker::Model;
 
 /// A name, as bytes.
@@ -122,6 +122,37 @@ impl Code {
 
     /// The items.
     pub fn as_slice(&self) -> &[Instr]
+        ensures { result.now ≡ self.now }
+    {
+        self.items.as_slice()
+    }
+}
+
+/// The cases of a choice, in order.
+#[derive(Drop)]
+pub struct Cases {
+    items: Vec<Case>,
+}
+
+impl Model for Cases {
+    ghost use Rattle.std.specs.Prelude.{List};
+    ghost use Rattle.gt_model.specs.declared.script.Case.{Case};
+
+    ghost Value = { List Case };
+
+    ghost view = { λ c. c.items.items };
+}
+
+impl Cases {
+    /// These items.
+    pub fn of(items: Vec<Case>) -> Cases
+        ensures { result ≡ items.items }
+    {
+        Cases { items }
+    }
+
+    /// The items.
+    pub fn as_slice(&self) -> &[Case]
         ensures { result.now ≡ self.now }
     {
         self.items.as_slice()

@@ -1,6 +1,6 @@
 //! A script: its declarations, and the code of its functions.
 
-use crate::lists::{Code, Decls, Funcs, Text};
+use crate::lists::{Cases, Code, Decls, Funcs, Text};
 
 /// A script as the reader makes it. Declarations and functions are in the order of their lines, counted from 0.
 #[derive(Drop)]
@@ -45,34 +45,81 @@ pub struct Func {
 #[derive(Drop)]
 pub enum Instr {
     /// Say a number.
-    Say { n: u32 },
+    Say {
+        n: u32,
+    },
     /// Look at the clock.
     Now,
     /// Sleep for `d` nanoseconds.
-    Sleep { d: u64 },
+    Sleep {
+        d: u64,
+    },
     /// Start a goroutine at the function at this place.
-    Go { f: u32 },
+    Go {
+        f: u32,
+    },
     /// Make a timer that is due after `d` nanoseconds.
-    New { t: u32, d: u64 },
+    New {
+        t: u32,
+        d: u64,
+    },
     /// Stop a timer.
-    Stop { t: u32 },
+    Stop {
+        t: u32,
+    },
     /// Set a timer anew, due after `d` nanoseconds.
-    Reset { t: u32, d: u64 },
+    Reset {
+        t: u32,
+        d: u64,
+    },
     /// Receive from a timer or a channel.
-    Recv { o: u32 },
+    Recv {
+        o: u32,
+    },
     /// Make a channel.
-    Make { c: u32 },
+    Make {
+        c: u32,
+    },
     /// Send a value to a channel.
-    Send { c: u32, v: u32 },
+    Send {
+        c: u32,
+        v: u32,
+    },
     /// Close a channel.
-    Close { c: u32 },
+    Close {
+        c: u32,
+    },
+    /// Choose one of 1 to 16 cases that can go on; where none can, go on at the index `default_to`, if there is one. The numbers of the cases count from 1.
+    Select {
+        cases: Cases,
+        default_to: Option<u32>,
+    },
     /// The top of a loop, around which are `depth` other loops of the function: with a count of 0 the loop is passed over, to the index `past`, behind its
     /// end; else its body is passed `count` times. It makes no entry.
-    LoopTop { depth: u8, count: u32, past: u32 },
+    LoopTop {
+        depth: u8,
+        count: u32,
+        past: u32,
+    },
     /// The end of the loop whose top has the index `top`. It makes no entry.
-    LoopEnd { depth: u8, top: u32 },
+    LoopEnd {
+        depth: u8,
+        top: u32,
+    },
+    /// The end of the body of a case: goes on at the index `to`, behind the choice. It makes no entry.
+    Jump {
+        to: u32,
+    },
     /// The end of the function.
     Finish,
+}
+
+/// A case of a choice.
+#[derive(Clone, Copy)]
+pub struct Case {
+    pub kind: CaseKind,
+    /// The index at which its body begins.
+    pub to: u32,
 }
 
 /// What a goroutine wants of an object, alone or as a case of its choice. The first number is the place of the object's declaration.

@@ -80,6 +80,7 @@ woken-is script s m (Entry.Make g c) h woken = woken-goes script s m _ g (Move.G
 woken-is script s m (Entry.Send p c v) h woken = woken-goes script s m _ p.g (Move.GoesOn p.case_no) tt refl refl refl refl refl woken.0
 woken-is script s m (Entry.Recv p c v) h woken = woken-goes script s m _ p.g (Move.GoesOn p.case_no) tt refl refl refl refl refl woken.0
 woken-is script s m (Entry.Close g c) h woken = woken-goes script s m _ g (Move.GoesOn 0) tt refl refl refl refl refl woken.0
+woken-is script s m (Entry.Default g) h woken = woken-goes script s m _ g (Move.GoesOn 0) tt refl refl refl refl refl woken.0
 woken-is script s m (Entry.Panic p reason) h woken = woken-goes script s m _ p.g Move.Panics tt refl refl refl refl refl woken.0
 woken-is script s m _ h woken = absurd woken.0
 

@@ -9,6 +9,7 @@ use Rattle.gt_model.specs.declared.entry.Outcome.{Outcome}
 use Rattle.gt_rules.specs.State.{clock, clock_of, stands_at, next_number}
 use Rattle.gt_rules.specs.Legal.{due_at}
 use Rattle.gt_rules.specs.After.{new_period}
+use Rattle.gt_rules.specs.Operations.{offers, polls, receives_from}
 use Rattle.gt_rec.specs.declared.RecKind.{RecKind}
 use Rattle.gt_rec.specs.Rec.{Rec, shown, needs_heap, is_awaited}
 use Rattle.gt_rec.specs.Changes.{armed, disarmed, ended, received, taken, more_blocked, less_blocked}
@@ -20,9 +21,10 @@ use Rattle.gt_schedule.specs.declared.status.Ticket.{Ticket}
 use Rattle.gt_book.specs.declared.answers.TimerOp.{TimerOp}
 use Rattle.gt_book.specs.declared.step.Step.{Step}
 use Rattle.gt_book.specs.Steps.{set_entry, step_of, step_of_instr}
-use Rattle.gt_book.specs.View.{BookView, Enters, outcome_of, with_schedule}
+use Rattle.gt_book.specs.View.{BookView, Enters, outcome_of, receiver_of, with_schedule}
 use Rattle.gt_rows.specs.declared.answers.SetDone.{SetDone}
 use Rattle.gt_rows.specs.declared.answers.StopDone.{StopDone}
+use Rattle.gt_rows.specs.declared.answers.PollDone.{PollDone}
 use Rattle.gt_rows.specs.declared.answers.BlockDone.{BlockDone}
 use Rattle.gt_rows.specs.declared.answers.Delivered.{Delivered}
 use Rattle.gt_rows.specs.declared.answers.HeadDone.{HeadDone}
@@ -96,6 +98,8 @@ SetsBy old g new reply (Some (Step.Needs (TimerOp.Enrolled ticket))) = ⊥
 SetsBy old g new reply (Some (Step.Needs (TimerOp.Sleep d))) = ⊥
 SetsBy old g new reply (Some (Step.Waits t)) = ⊥
 SetsBy old g new reply (Some (Step.Parks kind)) = ⊥
+SetsBy old g new reply (Some (Step.Chooses timed)) = ⊥
+SetsBy old g new reply (Some (Step.Needs (TimerOp.Poll t))) = ⊥
 SetsBy old g new reply (Some Step.Nowhere) = ⊥
 SetsBy old g new reply None = ⊥
 
@@ -126,6 +130,8 @@ SleepsBy old g new reply (Some (Step.Needs (TimerOp.Enrolled ticket))) = ⊥
 SleepsBy old g new reply (Some (Step.Makes e)) = ⊥
 SleepsBy old g new reply (Some (Step.Waits t)) = ⊥
 SleepsBy old g new reply (Some (Step.Parks kind)) = ⊥
+SleepsBy old g new reply (Some (Step.Chooses timed)) = ⊥
+SleepsBy old g new reply (Some (Step.Needs (TimerOp.Poll t))) = ⊥
 SleepsBy old g new reply (Some Step.Nowhere) = ⊥
 SleepsBy old g new reply None = ⊥
 
@@ -157,12 +163,53 @@ StopsBy old g new reply (Some (Step.Needs (TimerOp.Enrolled ticket))) = ⊥
 StopsBy old g new reply (Some (Step.Needs (TimerOp.Sleep d))) = ⊥
 StopsBy old g new reply (Some (Step.Waits t)) = ⊥
 StopsBy old g new reply (Some (Step.Parks kind)) = ⊥
+StopsBy old g new reply (Some (Step.Chooses timed)) = ⊥
+StopsBy old g new reply (Some (Step.Needs (TimerOp.Poll t))) = ⊥
 StopsBy old g new reply (Some Step.Nowhere) = ⊥
 StopsBy old g new reply None = ⊥
 
 -- `stop` of g, or its panic
 abbrev pub StopRow : Pair → ℕ → Pair → StopDone → Type 0
 StopRow old g new reply = UnlessOver old.book StopDone.Over reply (new ≡ old) (StopsBy old g new reply (next_of old.book g))
+
+-- ---- a choice with a default, one of whose cases receives from a timer
+
+-- an entry, with what becomes of the record
+pub record Polls (old : Pair) (e : Entry) (r : Rec) (new : Pair) (reply fine : PollDone) : Type 0 where
+  pub entered : Enters old.book e new.book
+  pub rec : new.rec ≡ r
+  pub answer : Answers new.book PollDone.Over reply fine
+
+-- by what a receive would take
+abbrev pub PollsFor : Pair → ℕ → Pair → PollDone → Option (ℕ × Option ℕ) → Type 0
+PollsFor old g new reply (Some got) =
+    Polls old (Entry.TRecv (receiver_of old.book.script old.book.state g old.rec.id) old.rec.id got.0 got.1) (taken old.rec got.1) new reply PollDone.Received
+PollsFor old g new reply None = ⊥
+
+-- the timer's value is received exactly where its case is the one with the lowest number that can go on
+abbrev pub PollsBy : Pair → ℕ → Pair → PollDone → Option Step → Type 0
+PollsBy old g new reply (Some (Step.Needs (TimerOp.Poll t))) = PollsFor old g new reply (received old.rec (clock old.book.state 0))
+PollsBy old g new reply (Some (Step.Makes e)) = Polls old e old.rec new reply PollDone.Other
+PollsBy old g new reply (Some (Step.Needs (TimerOp.Set t d anew))) = ⊥
+PollsBy old g new reply (Some (Step.Needs (TimerOp.Stop t))) = ⊥
+PollsBy old g new reply (Some (Step.Needs (TimerOp.Enrolled ticket))) = ⊥
+PollsBy old g new reply (Some (Step.Needs (TimerOp.Sleep d))) = ⊥
+PollsBy old g new reply (Some (Step.Waits t)) = ⊥
+PollsBy old g new reply (Some (Step.Parks kind)) = ⊥
+PollsBy old g new reply (Some (Step.Chooses timed)) = ⊥
+PollsBy old g new reply (Some Step.Nowhere) = ⊥
+PollsBy old g new reply None = ⊥
+
+abbrev pub PollRow : Pair → ℕ → Pair → PollDone → Type 0
+PollRow old g new reply = UnlessOver old.book PollDone.Over reply (new ≡ old) (PollsBy old g new reply (next_of old.book g))
+
+-- whether an instruction is a choice with a default that receives from this timer
+abbrev pub polls_for : ℕ → Instr → Bool
+polls_for t i = polls i && offers (receives_from t) i
+
+-- a goroutine stands at such a choice
+abbrev pub PollsAt : BookView → ℕ → ℕ → Type 0
+PollsAt b g t = elim (stands_at b.script b.state g) [ None ↦ ⊥ | Some i ↦ polls_for t i ≡ true ]
 
 -- ---- waiting at a timer
 
@@ -172,7 +219,7 @@ lower_of r = cond (joins r) r.when None
 
 -- the goroutine receives at once
 pub record ReceivesAtOnce (old : Parts) (g due : ℕ) (next : Option ℕ) (new : Parts) (reply : BlockDone) : Type 0 where
-  pub entered : Enters old.book (Entry.TRecv (plainly g) old.rec.id due next) new.book
+  pub entered : Enters old.book (Entry.TRecv (receiver_of old.book.script old.book.state g old.rec.id) old.rec.id due next) new.book
   pub rec : new.rec ≡ taken old.rec next
   pub heap : new.heap ≡ old.heap
   pub answer : Answers new.book BlockDone.Over reply BlockDone.Received

@@ -29,6 +29,17 @@ pub enum StopDone {
     Over(Outcome),
 }
 
+/// What became of a choice with a default, one of whose cases receives from a timer.
+#[derive(Clone, Copy)]
+pub enum PollDone {
+    /// It received the timer's value.
+    Received,
+    /// Another case was chosen, or the default.
+    Other,
+    /// The run has this outcome.
+    Over(Outcome),
+}
+
 /// What became of a goroutine that is to be counted among those that wait at a timer.
 #[derive(Clone, Copy)]
 pub enum BlockDone {

@@ -4,5 +4,5 @@
 mod answers;
 mod arming;
 
-pub use answers::{BlockDone, Delivered, HeadDone, SetDone, StopDone};
+pub use answers::{BlockDone, Delivered, HeadDone, PollDone, SetDone, StopDone};
 pub use arming::arm;

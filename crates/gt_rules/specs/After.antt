@@ -23,12 +23,12 @@ use Rattle.gt_rules.specs.Change.{Change, change_of}
 abbrev pub in_mode : Mode → Goroutine → Goroutine
 in_mode mode r = record r { mode = mode }
 
--- a goroutine moves on: to the place after its instruction
-abbrev pub moved_on : Script → Goroutine → Goroutine
-moved_on script r = record r { place = place_after script r.place; mode = Mode.At }
+-- a goroutine moves on: to the place after an operation of its instruction
+abbrev pub moved_on : Script → ℕ → Goroutine → Goroutine
+moved_on script case_no r = record r { place = place_after script case_no r.place; mode = Mode.At }
 
 abbrev pub moved : Script → Move → Goroutine → Goroutine
-moved script (Move.GoesOn case_no) r = moved_on script r
+moved script (Move.GoesOn case_no) r = moved_on script case_no r
 moved script (Move.FallsAsleep until) r = in_mode (Mode.Sleeping until) r
 moved script Move.Ends r = in_mode Mode.Ended r
 moved script Move.Panics r = r

@@ -67,6 +67,7 @@ change_of (Entry.Send p c v) = record nothing { mover = Some (goes_on p); channe
 change_of (Entry.Recv p c v) = record nothing { mover = Some (goes_on p); channel = takes c v }
 change_of (Entry.Pair from to c v) = record nothing { mover = Some (goes_on from); partner = Some (goes_on to) }
 change_of (Entry.Close g c) = record (on g) { channel = Some (c, Trade.Shut) }
+change_of (Entry.Default g) = on g
 change_of (Entry.Clock world at) = record nothing { clock = Some (world, at) }
 change_of (Entry.Panic p reason) = record nothing { mover = Some (p.g, Move.Panics); ending = Some Ending.Panicked }
 change_of (Entry.Finish outcome) = record nothing { ending = Some (Ending.Finished outcome); counted = 0 }

@@ -1,5 +1,6 @@
 -- Which entry may come next.
-use Rattle.std.specs.Prelude.{ℕ, zero, suc, ◌+◌, ◌<◌, ◌≤◌, ◌≡◌, min, Bool, IsTrue, IsSomeAnd, is_some, ◌≢◌, [], slice_get}
+use Rattle.std.specs.Prelude.{ℕ, zero, suc, ◌+◌, ◌<◌, ◌≤◌, ◌≡◌, min, Bool, false, not, ◌&&◌, IsTrue, IsSomeAnd, is_some, ◌≢◌, MatchOption, List, [], slice_get}
+use Rattle.std.specs.List.{All}
 use Rattle.std.specs.declared.option.Option.{Option}
 use Rattle.std.specs.declared.option.Option.TheVariants.{None, Some}
 use Rattle.gt_model.specs.declared.script.Script.{Script}
@@ -9,12 +10,13 @@ use Rattle.gt_model.specs.Times.{greatest_time}
 use Rattle.gt_model.specs.declared.entry.Party.{Party}
 use Rattle.gt_model.specs.declared.entry.Reason.{Reason}
 use Rattle.gt_model.specs.declared.state.Timer.{Timer}
+use Rattle.gt_model.specs.declared.script.Case.{Case}
 use Rattle.gt_model.specs.declared.script.CaseKind.{CaseKind}
-use Rattle.gt_rules.specs.State.{State, stands_at, clock, clock_of, sleeps_until, next_number, timer_at, due_of, items_of, item_count, is_open, is_closed}
-use Rattle.gt_rules.specs.Operations.{operation}
+use Rattle.gt_rules.specs.State.{State, stands_at, clock, clock_of, world_of, sleeps_until, next_number, timer_at, due_of, items_of, item_count, is_open, is_closed}
+use Rattle.gt_rules.specs.Operations.{operation, polls}
 use Rattle.gt_model.specs.Script.{is_timer, is_func, is_chan, capacity_of}
 use Rattle.gt_rules.specs.Panics.{panic_at}
-use Rattle.gt_rules.specs.Ready.{is_due}
+use Rattle.gt_rules.specs.Ready.{is_due, is_ready_alone, has_come}
 
 -- the due time of a setting made at a clock: never past the greatest time
 abbrev pub due_at : ℕ → ℕ → ℕ
@@ -52,9 +54,27 @@ abbrev pub Gives : State → ℕ → Option ℕ → Type 0
 Gives s c None = (items_of s c ≡ []) × IsTrue (is_closed s c)
 Gives s c (Some v) = slice_get (items_of s c) 0 ≡ Some v
 
--- the misuse of p's goroutine where it stands, with its case number
+-- p stands at a case that sends to a closed channel: to choose it is a misuse
+abbrev pub ChoosesClosed : State → Option CaseKind → Reason → Type 0
+ChoosesClosed s (Some (CaseKind.Send c v)) reason = IsTrue (is_closed s c) × (reason ≡ Reason.Closed)
+ChoosesClosed s (Some (CaseKind.Recv o)) reason = ⊥
+ChoosesClosed s None reason = ⊥
+
+-- the misuse of p's goroutine where it stands, with its case number; or its choice of a case that is a misuse
 abbrev pub MayPanic : Script → State → Party → Reason → Type 0
-MayPanic script s p reason = panic_at script s p.g ≡ Some (p.case_no, reason)
+MayPanic script s p reason =
+    MatchOption (panic_at script s p.g) (ChoosesClosed s (operation_at script s p) reason) (λ x. x ≡ (p.case_no, reason))
+
+-- whether a party stands at a choice with a default
+abbrev pub is_polling : Script → State → ℕ → Bool
+is_polling script s g = elim (stands_at script s g) [ None ↦ false | Some i ↦ polls i ]
+
+-- g stands at a choice with a default, and no case of it could go on but by a partner
+pub record Defaults (script : Script) (s : State) (g : ℕ) : Type 0 where
+  pub cases : List Case
+  pub to : ℕ
+  pub does : Does script s g (Instr.Select cases (Some to))
+  pub none : All (λ (c : Case). is_ready_alone script s (has_come s (world_of s g)) c.kind ≡ false) cases
 
 -- where the clock of a world may move, and to which time
 abbrev pub MovesClock : State → ℕ → ℕ → Type 0
@@ -82,7 +102,9 @@ May script s (Entry.Send p c v) = Operates script s p (CaseKind.Send c v) × IsT
 May script s (Entry.Recv p c v) = Operates script s p (CaseKind.Recv c) × IsTrue (is_chan script c) × Gives s c v
 May script s (Entry.Pair from to c v) =
     Operates script s from (CaseKind.Send c v) × Operates script s to (CaseKind.Recv c) × IsTrue (is_open s c) × (capacity_of script c ≡ 0) × (from.g ≢ to.g)
+    × IsTrue (not (is_polling script s from.g && is_polling script s to.g))
 May script s (Entry.Close g c) = Does script s g (Instr.Close c)
+May script s (Entry.Default g) = Defaults script s g
 May script s (Entry.Clock world to) = MovesClock s world to
 May script s (Entry.Panic p reason) = MayPanic script s p reason
 May script s (Entry.Finish outcome) = ⊥

@@ -1,9 +1,11 @@
 -- What ends a run: the misuse of an object.
-use Rattle.std.specs.Prelude.{ℕ, Bool, true, false, not, is_some, is_none}
+use Rattle.std.specs.Prelude.{ℕ, ◌+◌, Bool, true, false, not, cond, is_some, is_none, List, [], ◌∷◌}
 use Rattle.std.specs.declared.option.Option.{Option}
 use Rattle.std.specs.declared.option.Option.TheVariants.{None, Some}
 use Rattle.gt_model.specs.declared.script.Script.{Script}
 use Rattle.gt_model.specs.declared.script.Instr.{Instr}
+use Rattle.gt_model.specs.declared.script.Case.{Case}
+use Rattle.gt_model.specs.declared.script.CaseKind.{CaseKind}
 use Rattle.gt_model.specs.declared.entry.Reason.{Reason}
 use Rattle.gt_model.specs.declared.state.Goroutine.{Goroutine}
 use Rattle.gt_rules.specs.State.{State, stands, goroutine_at, timer_at, channel_at, is_made, is_closed}
@@ -22,7 +24,21 @@ or_else None other = other
 abbrev pub open_fault : State → ℕ → Option Reason
 open_fault s c = or_else (when (is_none (channel_at s c)) Reason.Unmade) (when (is_closed s c) Reason.Closed)
 
--- the first misuse, of a plain instruction
+-- the misuse of the object of a case. That a channel is closed is none: then a send panics where it is chosen
+abbrev pub case_fault : State → CaseKind → Option Reason
+case_fault s (CaseKind.Recv o) = when (not (is_made s o)) Reason.Unmade
+case_fault s (CaseKind.Send c v) = when (is_none (channel_at s c)) Reason.Unmade
+
+-- the misuse of the first faulty case, and its number, where the first case has the number n
+abbrev pub choice_fault : State → List Case → Option Reason
+choice_fault s [] = None
+choice_fault s (c ∷ cases) = or_else (case_fault s c.kind) (choice_fault s cases)
+
+abbrev pub faulty_case : State → ℕ → List Case → ℕ
+faulty_case s n [] = n
+faulty_case s n (c ∷ cases) = cond (is_some (case_fault s c.kind)) n (faulty_case s (n + 1) cases)
+
+-- the first misuse of an instruction
 abbrev pub fault : Script → State → Instr → Option Reason
 fault script s (Instr.New t d) = when (is_some (timer_at s t)) Reason.Twice
 fault script s (Instr.Stop t) = when (is_none (timer_at s t)) Reason.Unmade
@@ -31,11 +47,17 @@ fault script s (Instr.Recv o) = when (not (is_made s o)) Reason.Unmade
 fault script s (Instr.Make c) = when (is_some (channel_at s c)) Reason.Twice
 fault script s (Instr.Send c v) = open_fault s c
 fault script s (Instr.Close c) = open_fault s c
+fault script s (Instr.Select cases default_to) = choice_fault s cases
 fault script s _ = None
 
--- the same with its case number, which is 0 for a plain instruction
+-- the case number of a misuse, which is 0 for a plain instruction
+abbrev pub fault_case : State → Instr → ℕ
+fault_case s (Instr.Select cases default_to) = faulty_case s 1 cases
+fault_case s _ = 0
+
+-- both
 abbrev pub fault_at : Script → State → Instr → Option (ℕ × Reason)
-fault_at script s i = elim (fault script s i) [ None ↦ None | Some reason ↦ Some (0, reason) ]
+fault_at script s i = elim (fault script s i) [ None ↦ None | Some reason ↦ Some (fault_case s i, reason) ]
 
 -- the panic of a goroutine where it stands, if there is one
 abbrev pub panic_of : Script → State → Goroutine → Option (ℕ × Reason)

@@ -5,7 +5,8 @@ use Rattle.std.specs.declared.option.Option.TheVariants.{None, Some}
 use Rattle.gt_model.specs.declared.script.Script.{Script}
 use Rattle.gt_model.specs.declared.script.Instr.{Instr}
 use Rattle.gt_model.specs.declared.script.Place.{Place}
-use Rattle.gt_model.specs.Script.{code_of}
+use Rattle.gt_model.specs.declared.script.Case.{Case}
+use Rattle.gt_model.specs.Script.{code_of, instr_at}
 
 -- a loop whose count is 0 is passed over, another one is entered with its count
 abbrev pub at_top : Place → ℕ → ℕ → ℕ → Place
@@ -23,6 +24,7 @@ at_end p depth top = record p { at = if passes_left p depth == 0 then p.at + 1 e
 abbrev pub silent : Place → Instr → Option Place
 silent p (Instr.LoopTop depth count past) = Some (at_top p depth count past)
 silent p (Instr.LoopEnd depth top) = Some (at_end p depth top)
+silent p (Instr.Jump to) = Some (record p { at = to })
 silent p _ = None
 
 -- where a place in a code leads without an entry
@@ -45,6 +47,21 @@ settled script p = settled_in (code_of script p.func) p
 abbrev pub first_place : Script → ℕ → Place
 first_place script f = settled script (record { func = f; at = 0; loops = 0 ∷ 0 ∷ 0 ∷ 0 ∷ [] })
 
--- the place after an instruction
-abbrev pub place_after : Script → Place → Place
-place_after script p = settled script (record p { at = p.at + 1 })
+-- the index at which a case goes on, where the choice has it
+abbrev pub body_of : List Case → ℕ → ℕ → ℕ
+body_of cases k behind = elim (slice_get cases k) [ None ↦ behind | Some c ↦ c.to ]
+
+-- The index at which who stands at an instruction goes on after an operation with this case number: behind a plain instruction, and at the body of a case.
+-- The number 0 stands for a plain operation, and at a choice for its default
+abbrev pub next_index : Instr → ℕ → ℕ → ℕ
+next_index (Instr.Select cases default_to) zero behind = elim default_to [ None ↦ behind | Some to ↦ to ]
+next_index (Instr.Select cases default_to) (suc k) behind = body_of cases k behind
+next_index _ case_no behind = behind
+
+abbrev pub next_of : Option Instr → ℕ → ℕ → ℕ
+next_of None case_no behind = behind
+next_of (Some i) case_no behind = next_index i case_no behind
+
+-- the place after an operation of an instruction
+abbrev pub place_after : Script → ℕ → Place → Place
+place_after script case_no p = settled script (record p { at = next_of (instr_at script p) case_no (p.at + 1) })

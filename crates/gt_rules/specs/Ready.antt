@@ -5,13 +5,14 @@ use Rattle.std.specs.declared.option.Option.{Option}
 use Rattle.std.specs.declared.option.Option.TheVariants.{None, Some}
 use Rattle.gt_model.specs.declared.script.Script.{Script}
 use Rattle.gt_model.specs.declared.script.Instr.{Instr}
+use Rattle.gt_model.specs.declared.script.Case.{Case}
 use Rattle.gt_model.specs.declared.script.CaseKind.{CaseKind}
 use Rattle.gt_model.specs.declared.script.What.{What}
 use Rattle.gt_model.specs.declared.state.Goroutine.{Goroutine}
 use Rattle.gt_model.specs.declared.state.Mode.{Mode}
 use Rattle.gt_model.specs.Script.{instr_at, what_at, is_chan, capacity_of}
 use Rattle.gt_rules.specs.State.{State, clock, due_of, stands, item_count, is_closed}
-use Rattle.gt_rules.specs.Operations.{receives_from, sends_to, offers}
+use Rattle.gt_rules.specs.Operations.{receives_from, sends_to, offers, polls}
 use Rattle.gt_rules.specs.Panics.{fault, panic_of}
 
 -- whether an optional time is set and at or below a clock
@@ -19,10 +20,11 @@ abbrev pub is_due : Option ℕ → ℕ → Bool
 is_due None now = false
 is_due (Some due) now = nat_le due now
 
--- whether goroutine e.0, which is e.1, is a partner of `me`: another one that counts, makes no panic, and stands at an operation that passes a test
+-- whether goroutine e.0, which is e.1, is a partner of `me`: another one that counts, makes no panic,
+-- and stands at an operation that passes a test, where it would wait
 abbrev pub is_partner : Script → State → (ℕ → Bool) → ℕ → (CaseKind → Bool) → ℕ × Goroutine → Bool
 is_partner script s counts me test e =
-    not (e.0 == me) && counts e.0 && is_none (panic_of script s e.1) && elim (stands script e.1) [ None ↦ false | Some i ↦ offers test i ]
+    not (e.0 == me) && counts e.0 && is_none (panic_of script s e.1) && elim (stands script e.1) [ None ↦ false | Some i ↦ not (polls i) && offers test i ]
 
 abbrev pub partner_waits : Script → State → (ℕ → Bool) → ℕ → (CaseKind → Bool) → Bool
 partner_waits script s counts me test = list_any (is_partner script s counts me test) (enumerate_from 1 s.goroutines)
@@ -47,12 +49,15 @@ is_ready_alone script s timed (CaseKind.Send c v) = is_closed s c || nat_lt (ite
 abbrev pub is_ready_case : Script → State → (ℕ → Bool) → (ℕ → Bool) → ℕ → CaseKind → Bool
 is_ready_case script s timed counts me kind = is_ready_alone script s timed kind || has_partner script s counts me kind
 
--- Whether goroutine `me` could go on that stands at this instruction and makes no panic. Nobody stands at the bounds of a loop
+-- Whether goroutine `me` could go on that stands at this instruction and makes no panic. Nobody stands at the bounds of a loop or at a jump
 abbrev pub is_ready_instr : Script → State → (ℕ → Bool) → (ℕ → Bool) → ℕ → Instr → Bool
 is_ready_instr script s timed counts me (Instr.Recv o) = is_ready_case script s timed counts me (CaseKind.Recv o)
 is_ready_instr script s timed counts me (Instr.Send c v) = is_ready_case script s timed counts me (CaseKind.Send c v)
 is_ready_instr script s timed counts me (Instr.LoopTop depth count past) = false
 is_ready_instr script s timed counts me (Instr.LoopEnd depth top) = false
+is_ready_instr script s timed counts me (Instr.Jump to) = false
+is_ready_instr script s timed counts me (Instr.Select cases default_to) =
+    is_some default_to || list_any (λ (c : Case). is_ready_case script s timed counts me c.kind) cases
 is_ready_instr script s timed counts me _ = true
 
 -- the same of a place, where a misuse goes on by its panic

@@ -73,6 +73,7 @@ pub fn mover_of(entry: &Entry) -> Option<(u32, Move)>
         | Entry::Reset { g, .. }
         | Entry::Make { g, .. }
         | Entry::Close { g, .. }
+        | Entry::Default { g }
         | Entry::Sleep { g, until: None } => Some((g, Move::GoesOn { case_no })),
         Entry::TRecv { p, .. } | Entry::Send { p, .. } | Entry::Recv { p, .. } => Some(goes_on(p)),
         Entry::Pair { from, .. } => Some(goes_on(from)),

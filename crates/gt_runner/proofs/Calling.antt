@@ -15,14 +15,13 @@ use Rattle.gt_model.specs.Good.{is_setting, NamesRightly}
 use Rattle.gt_model.specs.declared.entry.Outcome.{Outcome}
 use Rattle.gt_model.proofs.Declared.{setting_declared}
 use Rattle.gt_rules.specs.State.{State, stands_at, until_of, sleeps_until, clock_of}
-use Rattle.gt_rules.specs.Panics.{fault}
+use Rattle.gt_rules.specs.Panics.{fault, fault_case}
 use Rattle.gt_rules.specs.Change.{Change, change_of}
 use Rattle.gt_rules.specs.History.{ClockJumps}
 use Rattle.gt_rules.specs.Legal.{due_at}
 use Rattle.gt_rules.specs.After.{new_period}
 use Rattle.gt_chtimer.proofs.Setting.{names-setting}
-use Rattle.gt_facts.proofs.Lookups.{Standing, standing}
-use Rattle.gt_facts.proofs.Named.{names-instr_at}
+use Rattle.gt_facts.proofs.Lookups.{Standing, standing, names-instr_at}
 use Rattle.gt_rec.specs.declared.RecKind.{RecKind}
 use Rattle.gt_rec.specs.Rec.{Rec, shown}
 use Rattle.gt_rows.specs.Agrees.{kind_by, kind_of_what, of_declaration}
@@ -30,7 +29,7 @@ use Rattle.gt_rows.specs.declared.answers.SetDone.{SetDone}
 use Rattle.gt_rows.specs.Lent.{IsLent, IsKept}
 use Rattle.gt_rows.specs.Rows.{Parts, sets, SetsAt, SetsBy, SetRow, Arms, UnlessOver, next_of}
 use Rattle.gt_schedule.specs.declared.status.RunStatus.{RunStatus}
-use Rattle.gt_schedule.specs.Schedule.{plainly, Schedule, status_of, Served}
+use Rattle.gt_schedule.specs.Schedule.{at_case, Schedule, status_of, Served}
 use Rattle.gt_schedule.proofs.Counting.{count-cons}
 use Rattle.gt_schedule.specs.Counts.{as_number}
 use Rattle.gt_book.specs.declared.step.Step.{Step}
@@ -43,7 +42,7 @@ use Rattle.gt_rules.specs.declared.change.Setting.{Setting}
 use Rattle.gt_rows.specs.Frames.{until_after}
 use Rattle.gt_book.specs.Calm.{IsCalm}
 use Rattle.gt_book.proofs.Going.{IsStep, step-is, in_hand-goes, makes-served, makes-awake, makes-call, waits-rightly, IsCall, IsAwake, AreAwake}
-use Rattle.gt_book.proofs.Meeting.{recv-is, send-is}
+use Rattle.gt_book.proofs.Meeting.{recv-is, send-is, choice-is}
 use Rattle.gt_book.proofs.Setting.{instr-set}
 use Rattle.gt_book.proofs.Passing.{enters-script, enters-limits}
 use Rattle.gt_runner.specs.declared.runner.Runner.{Runner}
@@ -91,6 +90,7 @@ same-stop script s m g (Instr.Sleep zero) = refl
 same-stop script s m g (Instr.Sleep (suc d)) = refl
 same-stop script s m g (Instr.Recv o) = recv-is (λ step. stopped_by step ≡ None) (λ e. refl) (λ kind. refl) (λ t. refl) script s m g o
 same-stop script s m g (Instr.Send c v) = send-is (λ step. stopped_by step ≡ None) (λ e. refl) (λ kind. refl) script s m g c v
+same-stop script s m g (Instr.Select cases default_to) = choice-is (λ step. stopped_by step ≡ None) (λ e. refl) (λ t. refl) (λ timed. refl) script s m g cases default_to
 same-stop script s m g _ = refl
 
 only-stop : (i : Instr) (t : ℕ) → stopped_at i ≡ Some t → i ≡ Instr.Stop t
@@ -105,13 +105,15 @@ asks-sleep script s m g (Instr.Sleep zero) d h = cc
 asks-sleep script s m g (Instr.Sleep (suc c)) d h = (c, refl)
 asks-sleep script s m g (Instr.Recv o) d h = absurd (recv-is (λ step. step ≡ Step.Needs (TimerOp.Sleep d) → ⊥) (λ e k. cc) (λ kind k. cc) (λ t k. cc) script s m g o h)
 asks-sleep script s m g (Instr.Send c v) d h = absurd (send-is (λ step. step ≡ Step.Needs (TimerOp.Sleep d) → ⊥) (λ e k. cc) (λ kind k. cc) script s m g c v h)
+asks-sleep script s m g (Instr.Select cases default_to) d h =
+    absurd (choice-is (λ step. step ≡ Step.Needs (TimerOp.Sleep d) → ⊥) (λ e k. cc) (λ t k. cc) (λ timed k. cc) script s m g cases default_to h)
 asks-sleep script s m g _ d h = cc
 
 -- no panic asks for a record
 no-panic : (script : Script) (s : State) (m : Schedule) (g : ℕ) (i : Instr) (o : Option Reason) (step : Step) (P : Type 0) → step_or_panic script s m g i o ≡ step
     → ((e : Entry) → Step.Makes e ≡ step → P) → (step_of_instr script s m g i ≡ step → P) → P
 no-panic script s m g i None step P h panics calm = calm h
-no-panic script s m g i (Some reason) step P h panics calm = panics (Entry.Panic (plainly g) reason) h
+no-panic script s m g i (Some reason) step P h panics calm = panics (Entry.Panic (at_case g (fault_case s i)) reason) h
 
 pub stands-set : (v : BookView) (g t d : ℕ) (anew : Bool) → next_of v g ≡ Some (Step.Needs (TimerOp.Set t d anew)) → stands_at v.script v.state g ≡ Some (set_instr t d anew)
 stands-set v g t d anew e =

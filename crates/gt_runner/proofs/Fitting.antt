@@ -1,16 +1,15 @@
 -- Every entry keeps the marks fitting: who is woken, goes on or panics is where its marks allow it.
-use Rattle.std.proofs.Common.{◌≡◌, ◌≢◌, cond, ℕ, zero, suc, ◌+◌, ◌<◌, ◌≤◌, List, [], ◌∷◌, ◌++◌, length, length-append, refl, sym, ap, subst, ◌∙◌, arith, Option, None, Some, Bool, true, false, ◌||◌, IsTrue, inl, inr}
+use Rattle.std.proofs.Common.{◌≡◌, ◌≢◌, ℕ, zero, suc, ◌+◌, ◌<◌, ◌≤◌, List, [], ◌∷◌, ◌++◌, length, length-append, refl, sym, ap, subst, ◌∙◌, arith, Option, None, Some, Bool, true, false, ◌||◌, IsTrue, inl, inr}
 use Rattle.std.proofs.lemmas.Bool.{cases_eq}
 use Rattle.gt_model.specs.declared.script.Script.{Script}
-use Rattle.gt_model.specs.declared.script.Instr.{Instr}
 use Rattle.gt_model.specs.declared.entry.Entry.{Entry}
 use Rattle.gt_model.specs.declared.entry.Outcome.{Outcome}
+use Rattle.gt_model.specs.declared.entry.Party.{Party}
 use Rattle.gt_model.specs.declared.state.Goroutine.{Goroutine}
-use Rattle.gt_model.specs.declared.state.Mode.{Mode}
 use Rattle.gt_model.specs.Tables.{numbered, change_numbered}
 use Rattle.gt_model.proofs.Items.{HasNumber, has_number, numbered-change_same, numbered-change_other, numbered-push_same, numbered-push_other}
 use Rattle.gt_model.proofs.Changes.{length-change_numbered}
-use Rattle.gt_rules.specs.State.{State, stands, stands_at}
+use Rattle.gt_rules.specs.State.{State}
 use Rattle.gt_rules.specs.After.{after, changed, moved, with_mover, with_starts, started_by}
 use Rattle.gt_rules.specs.Change.{Change, change_of}
 use Rattle.gt_rules.specs.History.{state_after}
@@ -18,37 +17,18 @@ use Rattle.gt_rules.specs.declared.change.Move.{Move}
 use Rattle.gt_rules.specs.declared.change.Start.{Start}
 use Rattle.gt_machine.specs.Outcomes.{due_outcome}
 use Rattle.gt_schedule.specs.declared.status.RunStatus.{RunStatus}
-use Rattle.gt_schedule.specs.Schedule.{Schedule, plainly, status_of, is_in_hand, is_parked, marks_at, gone_on, turned, moved_by, begun_by, with_new, rescheduled, scheduled, schedule_after, MayMove, ServedBy, ServedIn, Served}
+use Rattle.gt_schedule.specs.Schedule.{Schedule, status_of, is_in_hand, is_parked, marks_at, gone_on, turned, moved_by, begun_by, with_new, rescheduled, scheduled, schedule_after, MayMove, ServedBy, ServedIn, Served}
 use Rattle.gt_book.specs.View.{BookView, Enters, AreWoken, IsLawful, with_schedule, finish_by}
-use Rattle.std.proofs.Common.{eqb}
-use Rattle.std.proofs.lemmas.Bool.{eqb-true}
-use Rattle.gt_model.specs.Script.{is_timer, is_chan}
-use Rattle.gt_schedule.specs.Counts.{as_number, times}
+use Rattle.gt_model.specs.Good.{IsGood}
+use Rattle.gt_model.specs.Script.{is_timer}
+use Rattle.gt_schedule.specs.Counts.{times}
+use Rattle.gt_schedule.proofs.Lists.{times-push_other}
 use Rattle.gt_book.proofs.Fitting.{unchanged}
 use Rattle.gt_book.proofs.Going.{parked-goes}
 use Rattle.gt_book.proofs.Passing.{enters-script}
 use Rattle.gt_rows.proofs.Frames.{enters-marks}
-use Rattle.gt_runner.specs.Served.{NamesTimers, timers_of, awaited_by, MarkFits, MarkFitsAt}
-
--- ---- the timers that a goroutine awaits
-
-abbrev awaited_in : Script → Option Goroutine → List ℕ
-awaited_in script o = elim (elim o as (λ _. Option Instr) [ None ↦ None | Some r ↦ stands script r ]) [ None ↦ [] | Some i ↦ timers_of script i ]
-
-one-timer : (script : Script) (o : Option Instr) → length (elim o as (λ _. List ℕ) [ None ↦ [] | Some i ↦ timers_of script i ]) ≤ 1
-one-timer script None = omega arith
-one-timer script (Some (Instr.Recv o)) = elim (is_chan script o) as (λ b. length (cond b [] (o ∷ [])) ≤ 1) [ true ↦ omega arith | false ↦ omega arith ]
-one-timer script (Some _) = omega arith
-
-pub one-awaited : (script : Script) (s : State) (g : ℕ) → length (awaited_by script s g) ≤ 1
-one-awaited script s g = one-timer script (stands_at script s g)
-
-none-elsewhere : (script : Script) (r : Goroutine) (mode : Mode) → r.mode ≡ mode → (mode ≡ Mode.At → ⊥) → awaited_in script (Some r) ≡ []
-none-elsewhere script r Mode.At e h = absurd (h refl)
-none-elsewhere script r (Mode.Sleeping until) e h =
-    ap (λ (mode : Mode). elim (elim mode as (λ _. Option Instr) [ Mode.At ↦ stands script (record r { mode = Mode.At }) | _ ↦ None ]) as (λ _. List ℕ) [ None ↦ [] | Some i ↦ timers_of script i ]) e
-none-elsewhere script r Mode.Ended e h =
-    ap (λ (mode : Mode). elim (elim mode as (λ _. Option Instr) [ Mode.At ↦ stands script (record r { mode = Mode.At }) | _ ↦ None ]) as (λ _. List ℕ) [ None ↦ [] | Some i ↦ timers_of script i ]) e
+use Rattle.gt_runner.specs.Served.{NamesTimers, awaited_by, MarkFits, MarkFitsAt}
+use Rattle.gt_runner.proofs.Awaiting.{awaited_in, few-awaited_in}
 
 -- ---- the marks of everybody, with the goroutines as a list
 
@@ -126,33 +106,33 @@ same-status statuses (suc i) x e = same-at statuses i x e
     same-at (y ∷ ys) zero x e = let is : y ≡ x = cc in ap (λ z. z ∷ ys) is
     same-at (y ∷ ys) (suc i) x e = ap (λ zs. y ∷ zs) (same-at ys i x e)
 
-fit-gone_on : (script : Script) (gs : List Goroutine) (m : Schedule) (g n : ℕ) (waits : Bool) → is_parked (status_of m g) ≡ waits → AllFit script gs m → MayMove (status_of m g) (Move.GoesOn n)
+fit-gone_on : (script : Script) (gs : List Goroutine) (m : Schedule) (g n : ℕ) (waits : Bool) → is_parked (status_of m g) ≡ waits → IsGood script → AllFit script gs m → MayMove (status_of m g) (Move.GoesOn n)
     → AllFit script (change_numbered gs g (moved script (Move.GoesOn n))) (gone_on m g waits)
-fit-gone_on script gs m g n true e all may =
+fit-gone_on script gs m g n true e good all may =
     let was = parked-some (status_of m g) e in
     let fits : marks_at m g ≡ awaited_in script (numbered gs g) = subst (MarkFits (marks_at m g) (awaited_in script (numbered gs g))) was.1 (all.each g) in
-    let few : length (awaited_in script (numbered gs g)) ≤ 1 = one-timer script (elim (numbered gs g) as (λ _. Option Instr) [ None ↦ None | Some r ↦ stands script r ]) in
+    let few : length (awaited_in script (numbered gs g)) ≤ 16 = few-awaited_in script (numbered gs g) good in
     fit-status script gs m (gone_on m g true) g (moved script (Move.GoesOn n)) (RunStatus.Parked was.0) RunStatus.Queued all was.1 refl refl
-    (λ r k. subst (λ ts. length ts ≤ 1) (sym fits) few)
-fit-gone_on script gs m g n false e all may =
+    (λ r k. subst (λ ts. length ts ≤ 16) (sym fits) few)
+fit-gone_on script gs m g n false e good all may =
     let at : status_of m g ≡ Some RunStatus.InHand = in_hand-only (status_of m g) e may in
     fit-status script gs m m g (moved script (Move.GoesOn n)) RunStatus.InHand RunStatus.InHand all at (same-status m.statuses g RunStatus.InHand at) refl
     (λ r k. marks-in_hand script gs m g all at)
 
-fit-turned : (script : Script) (gs : List Goroutine) (m : Schedule) (g : ℕ) (move : Move) → AllFit script gs m → MayMove (status_of m g) move
+fit-turned : (script : Script) (gs : List Goroutine) (m : Schedule) (g : ℕ) (move : Move) → IsGood script → AllFit script gs m → MayMove (status_of m g) move
     → AllFit script (change_numbered gs g (moved script move)) (turned m g move)
-fit-turned script gs m g (Move.GoesOn n) all may = fit-gone_on script gs m g n (is_parked (status_of m g)) refl all may
-fit-turned script gs m g (Move.FallsAsleep until) all may =
+fit-turned script gs m g (Move.GoesOn n) good all may = fit-gone_on script gs m g n (is_parked (status_of m g)) refl good all may
+fit-turned script gs m g (Move.FallsAsleep until) good all may =
     fit-status script gs m (turned m g (Move.FallsAsleep until)) g (moved script (Move.FallsAsleep until)) RunStatus.InHand (RunStatus.Parked m.parks) all may refl refl
     (λ r k. marks-in_hand script gs m g all may)
-fit-turned script gs m g Move.Ends all may =
+fit-turned script gs m g Move.Ends good all may =
     fit-status script gs m (turned m g Move.Ends) g (moved script Move.Ends) RunStatus.InHand RunStatus.Ended all may refl refl
     (λ r k. marks-in_hand script gs m g all may)
-fit-turned script gs m g Move.Panics all may = subst (λ gs. AllFit script gs m) (sym (unchanged gs g)) all
+fit-turned script gs m g Move.Panics good all may = subst (λ gs. AllFit script gs m) (sym (unchanged gs g)) all
 
-fit-moved : (script : Script) (gs : List Goroutine) (m : Schedule) (o : Option (ℕ × Move)) → AllFit script gs m → ServedBy m o → AllFit script (with_mover script gs o) (moved_by m o)
-fit-moved script gs m None all served = all
-fit-moved script gs m (Some x) all served = fit-turned script gs m x.0 x.1 all served
+fit-moved : (script : Script) (gs : List Goroutine) (m : Schedule) (o : Option (ℕ × Move)) → IsGood script → AllFit script gs m → ServedBy m o → AllFit script (with_mover script gs o) (moved_by m o)
+fit-moved script gs m None good all served = all
+fit-moved script gs m (Some x) good all served = fit-turned script gs m x.0 x.1 good all served
 
 -- ---- goroutines are started
 
@@ -186,11 +166,11 @@ fit-begun : (script : Script) (s : State) (gs : List Goroutine) (m : Schedule) (
 fit-begun script s gs m [] all = all
 fit-begun script s gs m (x ∷ xs) all = fit-begun script s (gs ++ started_by script s x ∷ []) (with_new m) xs (fit-begins script gs m (started_by script s x) all)
 
-fit-changed : (script : Script) (s : State) (m : Schedule) (c : Change) → AllFit script s.goroutines m → ServedIn m c → AllFit script (changed script s c).goroutines (rescheduled m c)
-fit-changed script s m c all served =
+fit-changed : (script : Script) (s : State) (m : Schedule) (c : Change) → IsGood script → AllFit script s.goroutines m → ServedIn m c → AllFit script (changed script s c).goroutines (rescheduled m c)
+fit-changed script s m c good all served =
     let gs : List Goroutine = with_mover script s.goroutines c.mover in
     fit-begun script s (with_mover script gs c.partner) (moved_by (moved_by m c.mover) c.partner) c.starts
-    (fit-moved script gs (moved_by m c.mover) c.partner (fit-moved script s.goroutines m c.mover all served.0) served.1)
+    (fit-moved script gs (moved_by m c.mover) c.partner good (fit-moved script s.goroutines m c.mover good all served.0) served.1)
 
 -- ---- entries
 
@@ -204,19 +184,20 @@ woken-served script s m (Entry.Make g c) h woken = (parked-goes (status_of m g) 
 woken-served script s m (Entry.Send p c v) h woken = (parked-goes (status_of m p.g) woken.0.0, tt)
 woken-served script s m (Entry.Recv p c v) h woken = (parked-goes (status_of m p.g) woken.0.0, tt)
 woken-served script s m (Entry.Close g c) h woken = (parked-goes (status_of m g) woken.0.0, tt)
+woken-served script s m (Entry.Default g) h woken = (parked-goes (status_of m g) woken.0.0, tt)
 woken-served script s m (Entry.Panic p reason) h woken = (parked-goes (status_of m p.g) woken.0.0, tt)
 woken-served script s m _ h woken = absurd woken.0
 
-fit-finished : (script : Script) (s : State) (m : Schedule) (o : Option Outcome) → AllFit script s.goroutines m
+fit-finished : (script : Script) (s : State) (m : Schedule) (o : Option Outcome) → IsGood script → AllFit script s.goroutines m
     → AllFit script (state_after script s (finish_by o)).goroutines (schedule_after m (finish_by o))
-fit-finished script s m None all = all
-fit-finished script s m (Some outcome) all = fit-changed script s m (change_of (Entry.Finish outcome)) all (tt, tt)
+fit-finished script s m None good all = all
+fit-finished script s m (Some outcome) good all = fit-changed script s m (change_of (Entry.Finish outcome)) good all (tt, tt)
 
-fit-woken : (script : Script) (s : State) (m : Schedule) (h : List Entry) (o : Option Outcome) → AreWoken script s m h → AllFit script s.goroutines m
+fit-woken : (script : Script) (s : State) (m : Schedule) (h : List Entry) (o : Option Outcome) → IsGood script → AreWoken script s m h → AllFit script s.goroutines m
     → AllFit script (state_after script s (h ++ finish_by o)).goroutines (schedule_after m (h ++ finish_by o))
-fit-woken script s m [] o woken all = fit-finished script s m o all
-fit-woken script s m (e ∷ h) o woken all =
-    fit-woken script (after script s e) (scheduled m e) h o woken.1 (fit-changed script s m (change_of e) all (woken-served script s m e h woken))
+fit-woken script s m [] o good woken all = fit-finished script s m o good all
+fit-woken script s m (e ∷ h) o good woken all =
+    fit-woken script (after script s e) (scheduled m e) h o good woken.1 (fit-changed script s m (change_of e) good all (woken-served script s m e h woken))
 
 -- everybody's marks fit in a book
 abbrev pub MarksFit : BookView → Type 0
@@ -226,28 +207,39 @@ pub fit-enters : (old : BookView) (e : Entry) (new : BookView) → IsLawful old 
     → Served old.schedule e → MarksFit old → MarksFit new
 fit-enters old e new lawful marks enters served fit =
     let all : AllFit old.script old.state.goroutines old.schedule = record { as_many = lawful.fits.as_many; marks = marks; each = fit } in
-    let first : AllFit old.script (after old.script old.state e).goroutines (scheduled old.schedule e) = fit-changed old.script old.state old.schedule (change_of e) all served in
+    let first : AllFit old.script (after old.script old.state e).goroutines (scheduled old.schedule e) = fit-changed old.script old.state old.schedule (change_of e) lawful.good all served in
     let done = fit-woken old.script (after old.script old.state e) (scheduled old.schedule e) enters.woken
-    (due_outcome old.limits (state_after old.script old.state (e ∷ enters.woken))) enters.each_woken first in
+    (due_outcome old.limits (state_after old.script old.state (e ∷ enters.woken))) lawful.good enters.each_woken first in
     subst MarksFit (sym enters.is) done.each
 
 -- ---- the marks of one goroutine
 
 -- who is parked and receives is to be taken, with what marks it has
-pub fit-receives : (old : BookView) (g t due : ℕ) (next : Option ℕ) (new : BookView) → IsLawful old → length old.schedule.marks ≡ length old.schedule.statuses
-    → Enters old (Entry.TRecv (plainly g) t due next) new → is_parked (status_of old.schedule g) ≡ true → ((h : ℕ) → h ≢ g → MarkFitsAt old.script old.state old.schedule h)
-    → length (marks_at old.schedule g) ≤ 1 → MarksFit new
-fit-receives old g t due next new lawful marks enters parked others few =
-    let was = parked-some (status_of old.schedule g) parked in
-    let e : Entry = Entry.TRecv (plainly g) t due next in
-    let one : AllFit old.script (change_numbered old.state.goroutines g (moved old.script (Move.GoesOn 0))) (gone_on old.schedule g true) =
-    fit-one old.script old.state.goroutines old.schedule (gone_on old.schedule g true) g (moved old.script (Move.GoesOn 0)) (RunStatus.Parked was.0) RunStatus.Queued
+pub fit-receives : (old : BookView) (p : Party) (t due : ℕ) (next : Option ℕ) (new : BookView) → IsLawful old → length old.schedule.marks ≡ length old.schedule.statuses
+    → Enters old (Entry.TRecv p t due next) new → is_parked (status_of old.schedule p.g) ≡ true → ((h : ℕ) → h ≢ p.g → MarkFitsAt old.script old.state old.schedule h)
+    → length (marks_at old.schedule p.g) ≤ 16 → MarksFit new
+fit-receives old p t due next new lawful marks enters parked others few =
+    let was = parked-some (status_of old.schedule p.g) parked in
+    let e : Entry = Entry.TRecv p t due next in
+    let goes : Goroutine → Goroutine = moved old.script (Move.GoesOn p.case_no) in
+    let one : AllFit old.script (change_numbered old.state.goroutines p.g goes) (gone_on old.schedule p.g true) =
+    fit-one old.script old.state.goroutines old.schedule (gone_on old.schedule p.g true) p.g goes (RunStatus.Parked was.0) RunStatus.Queued
     lawful.fits.as_many marks others was.1 refl refl (λ r k. few) in
     let first : AllFit old.script (after old.script old.state e).goroutines (scheduled old.schedule e) =
-    subst (λ b. AllFit old.script (change_numbered old.state.goroutines g (moved old.script (Move.GoesOn 0))) (gone_on old.schedule g b)) (sym parked) one in
+    subst (λ b. AllFit old.script (change_numbered old.state.goroutines p.g goes) (gone_on old.schedule p.g b)) (sym parked) one in
     let done = fit-woken old.script (after old.script old.state e) (scheduled old.schedule e) enters.woken
-    (due_outcome old.limits (state_after old.script old.state (e ∷ enters.woken))) enters.each_woken first in
+    (due_outcome old.limits (state_after old.script old.state (e ∷ enters.woken))) lawful.good enters.each_woken first in
     subst MarksFit (sym enters.is) done.each
+
+-- the marks of g become others: those of the others still fit
+pub fit-others : (v : BookView) (g : ℕ) (f : List ℕ → List ℕ) → ((h : ℕ) → h ≢ g → MarkFitsAt v.script v.state v.schedule h)
+    → (h : ℕ) → h ≢ g → MarkFitsAt v.script v.state (record v.schedule { marks = change_numbered v.schedule.marks g f }) h
+fit-others v g f others h n =
+    subst (λ ts. MarkFits ts (awaited_by v.script v.state h) (status_of v.schedule h)) (sym (ap list_or_none (numbered-change_other v.schedule.marks g h f n))) (others h n)
+  where
+    list_or_none : Option (List ℕ) → List ℕ
+    list_or_none None = []
+    list_or_none (Some ts) = ts
 
 -- the marks of g become others, which fit it
 pub fit-remarked : (v : BookView) (g : ℕ) (f : List ℕ → List ℕ) (ts : List ℕ) → numbered v.schedule.marks g ≡ Some ts
@@ -259,30 +251,26 @@ fit-remarked v g f ts there others own h =
           subst (λ k. MarkFitsAt v.script v.state (record v.schedule { marks = change_numbered v.schedule.marks g f }) k) (sym e)
           (subst (λ ts. MarkFits ts (awaited_by v.script v.state g) (status_of v.schedule g)) (sym (ap list_or_none (numbered-change_same v.schedule.marks g f ts there))) own)
       | inr n ↦
-          subst (λ ts. MarkFits ts (awaited_by v.script v.state h) (status_of v.schedule h)) (sym (ap list_or_none (numbered-change_other v.schedule.marks g h f n))) (others h n)
+          fit-others v g f others h n
     ]
   where
     list_or_none : Option (List ℕ) → List ℕ
     list_or_none None = []
     list_or_none (Some ts) = ts
 
--- nobody has more than one mark
-pub fit-few : (marks awaited : List ℕ) (o : Option RunStatus) → length awaited ≤ 1 → MarkFits marks awaited o → length marks ≤ 1
-fit-few marks awaited (Some (RunStatus.Parked since)) h fit = subst (λ ts. length ts ≤ 1) (sym fit) h
+-- nobody has more marks than a choice has cases
+pub fit-few : (marks awaited : List ℕ) (o : Option RunStatus) → length awaited ≤ 16 → MarkFits marks awaited o → length marks ≤ 16
+fit-few marks awaited (Some (RunStatus.Parked since)) h fit = subst (λ ts. length ts ≤ 16) (sym fit) h
 fit-few marks awaited (Some RunStatus.Queued) h fit = fit
-fit-few marks awaited (Some RunStatus.InHand) h fit = subst (λ ts. length ts ≤ 1) (sym fit) (omega arith)
-fit-few marks awaited (Some RunStatus.Ended) h fit = subst (λ ts. length ts ≤ 1) (sym fit) (omega arith)
-fit-few marks awaited None h fit = subst (λ ts. length ts ≤ 1) (sym fit) (omega arith)
+fit-few marks awaited (Some RunStatus.InHand) h fit = subst (λ ts. length ts ≤ 16) (sym fit) (omega arith)
+fit-few marks awaited (Some RunStatus.Ended) h fit = subst (λ ts. length ts ≤ 16) (sym fit) (omega arith)
+fit-few marks awaited None h fit = subst (λ ts. length ts ≤ 16) (sym fit) (omega arith)
 
 -- ---- marks are of timers
 
 pub named-enters : (old : BookView) (e : Entry) (new : BookView) → Enters old e new → NamesTimers old → NamesTimers new
 named-enters old e new enters named g t h =
     ap (λ script. is_timer script t) (enters-script old e new enters) ∙ named g t (subst (λ ts. 0 < times t ts) (enters-marks old e new enters g) h)
-
-one-of : (u t : ℕ) (b : Bool) → eqb u t ≡ b → 0 < as_number b + 0 → eqb u t ≡ true
-one-of u t true e h = e
-one-of u t false e h = absurd (omega arith)
 
 -- g gets other marks
 pub named-remarked : (v : BookView) (g : ℕ) (f : List ℕ → List ℕ) (ts : List ℕ) → numbered v.schedule.marks g ≡ Some ts → NamesTimers v
@@ -297,5 +285,10 @@ named-remarked v g f ts there named own h t some =
     list_or_none None = []
     list_or_none (Some ts) = ts
 
-pub named-one : (v : BookView) (t u : ℕ) → is_timer v.script t ≡ true → 0 < times u (t ∷ []) → is_timer v.script u ≡ true
-named-one v t u timer h = ap (is_timer v.script) (sym (eqb-true t u (one-of t u (eqb t u) refl h))) ∙ timer
+-- one mark more is of a timer
+pub named-pushed : (script : Script) (t u : ℕ) (ts : List ℕ) → is_timer script t ≡ true → (0 < times u ts → is_timer script u ≡ true) → 0 < times u (ts ++ t ∷ []) → is_timer script u ≡ true
+named-pushed script t u ts timer before h =
+    elim (cases_eq u t) [
+      | inl e ↦ ap (is_timer script) e ∙ timer
+      | inr n ↦ before (subst (λ (k : ℕ). 0 < k) (times-push_other u t ts n) h)
+    ]

@@ -1,6 +1,7 @@
 pub mod Passes
 pub mod Turning
 pub mod Marks
+pub mod Awaiting
 pub mod Fitting
 pub mod Leaving
 pub mod Tending
@@ -11,6 +12,9 @@ pub mod Touching
 pub mod Cleanings
 pub mod Calling
 pub mod Waiting
+pub mod Polling
+pub mod Enrolling
+pub mod Counting
 pub mod Parking
 pub mod Growing
 pub mod Unblocking

@@ -1,5 +1,5 @@
 -- How many marks a timer has, after one was set or taken away.
-use Rattle.std.proofs.Common.{◌≡◌, ◌≢◌, ℕ, zero, suc, ◌+◌, ◌<◌, ◌≤◌, ◌==◌, List, [], ◌∷◌, ◌++◌, length, sum_by, slice_get, refl, sym, ap, subst, ◌∙◌, arith, Option, None, Some, Bool, true, false, inl, inr}
+use Rattle.std.proofs.Common.{◌≡◌, ◌≢◌, ℕ, zero, suc, ◌+◌, ◌*◌, ◌<◌, ◌≤◌, ◌==◌, List, [], ◌∷◌, ◌++◌, length, sum_by, slice_get, refl, sym, ap, subst, ◌∙◌, arith, Option, None, Some, Bool, true, false, inl, inr}
 use Rattle.std.proofs.lemmas.Bool.{cases_eq, eq-eqb, ne_eqb}
 use Rattle.std.proofs.lemmas.List.Sums.{sum_by-cons}
 use Rattle.gt_model.specs.Tables.{numbered, change, change_numbered}
@@ -119,17 +119,17 @@ times-few t (x ∷ xs) = let rest : times t xs ≤ length xs = times-few t xs in
     one true h = omega arith
     one false h = omega arith
 
-few-marks : (xss : List (List ℕ)) (t : ℕ) → ((i : ℕ) (ts : List ℕ) → slice_get xss i ≡ Some ts → length ts ≤ 1) → sum_by (times t) xss ≤ length xss
+few-marks : (xss : List (List ℕ)) (t : ℕ) → ((i : ℕ) (ts : List ℕ) → slice_get xss i ≡ Some ts → length ts ≤ 16) → sum_by (times t) xss ≤ 16 * length xss
 few-marks [] t h = omega arith
 few-marks (xs ∷ xss) t h =
     let sum : sum_by (times t) (xs ∷ xss) ≡ times t xs + sum_by (times t) xss = sum_by-cons (times t) xs xss in
-    let one : length xs ≤ 1 = h 0 xs refl in
+    let one : length xs ≤ 16 = h 0 xs refl in
     let few : times t xs ≤ length xs = times-few t xs in
-    let rest : sum_by (times t) xss ≤ length xss = few-marks xss t (λ i ts e. h (suc i) ts e) in
+    let rest : sum_by (times t) xss ≤ 16 * length xss = few-marks xss t (λ i ts e. h (suc i) ts e) in
     omega arith
 
-pub count-few : (m : Schedule) (t : ℕ) → ((g : ℕ) → length (marks_at m g) ≤ 1) → mark_count m t ≤ length m.marks
-count-few m t h = few-marks m.marks t (λ i ts e. subst (λ (o : Option (List ℕ)). length (list_or_none o) ≤ 1) e (h (suc i)))
+pub count-few : (m : Schedule) (t : ℕ) → ((g : ℕ) → length (marks_at m g) ≤ 16) → mark_count m t ≤ 16 * length m.marks
+count-few m t h = few-marks m.marks t (λ i ts e. subst (λ (o : Option (List ℕ)). length (list_or_none o) ≤ 16) e (h (suc i)))
   where
     list_or_none : Option (List ℕ) → List ℕ
     list_or_none None = []

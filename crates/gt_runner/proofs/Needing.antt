@@ -19,8 +19,8 @@ use Rattle.gt_book.specs.View.{BookView, IsLawful}
 use Rattle.gt_rows.specs.Agrees.{kind_by, kind_of_what, due_by, of_declaration}
 use Rattle.gt_runner.specs.declared.runner.Runner.{Runner}
 use Rattle.gt_runner.specs.Served.{IsWatched, AtKind, IsAt, AtNumber, IsServed, MarkFitsAt}
-use Rattle.gt_runner.proofs.Named.{due-setting, timer-plain}
-use Rattle.gt_runner.proofs.Watching.{stands-marked, marked-stands, awaited-stands, stands-awaited, right-of}
+use Rattle.gt_runner.proofs.Named.{due-setting}
+use Rattle.gt_runner.proofs.Watching.{receiver-marked, marked-receiver, awaited-receiver, receiver-awaited, right-of}
 
 -- ---- what a record shows that has no value
 
@@ -192,9 +192,9 @@ needs-counted x id w r lawful nobody fit is watched needs at =
           let within : id < length v.script.decls = named-within v.script id names_timer refl named in
           let blocked : 0 < r.blocked = ltb-true 0 r.blocked (needs-some (has_channel r.kind) (nat_lt 0 r.blocked) r.when needs (ap has_channel q)) in
           let count : r.blocked ≡ mark_count v.schedule id = watched.blocked (ap has_channel q) ∙ ap (mark_count v.schedule) is in
-          let stands = marked-stands x id lawful nobody fit (omega arith) in
+          let receiver = marked-receiver x id lawful nobody fit (omega arith) in
           counted-declared v.script v.state id within
-          ∙ timer-counts v id w lawful (or-second (is_func v.script id) _ (stands-awaited v stands.0 id lawful stands.1)) (sym (due-declared v.script v.state id within) ∙ due)
+          ∙ timer-counts v id w lawful (or-second (is_func v.script id) _ (receiver-awaited v id receiver.0 lawful receiver.1)) (sym (due-declared v.script v.state id within) ∙ due)
       | RecKind.Func ↦ λ q k.
           let named : names_func (what_at v.script id) ≡ true = kind-func (of_declaration v.script id) k in
           let within : id < length v.script.decls = named-within v.script id names_func refl named in
@@ -299,8 +299,8 @@ declared-needing x id w lawful nobody served within c =
           let kind_is : kind_by v.script id ≡ Some found.0.kind = ap (kind_by v.script) (sym at.id_is) ∙ k.kept.rec.agrees.kind in
           let timer : names_timer (what_at v.script id) ≡ true = channel-timer (of_declaration v.script id) found.0.kind kind_is channel in
           let awaited : is_awaited v.script v.state 0 id ≡ true = or-true (is_func v.script id) _ (λ e. func-not_timer (what_at v.script id) e timer) c.counts in
-          let stands = awaited-stands v.script v.state id awaited in
-          let some : 0 < mark_count v.schedule id = stands-marked x stands.0 id lawful nobody served.marks (timer-plain v.script id timer) stands.1 in
+          let receiver = awaited-receiver v.script v.state id awaited in
+          let some : 0 < mark_count v.schedule id = receiver-marked x id receiver.0 lawful nobody served.marks timer receiver.1 in
           let count : found.0.blocked ≡ mark_count v.schedule id = k.blocked channel ∙ ap (mark_count v.schedule) at.id_is in
           omega arith)
     ] refl at.watched

@@ -1,119 +1,134 @@
--- What a step does that asks for no record. One that parks its goroutine at a channel leaves records, heap and marks alone: no timer is awaited there.
-use Rattle.std.proofs.Common.{◌≡◌, ◌<◌, ℕ, cond, List, [], ◌∷◌, refl, sym, ap, subst, ◌∙◌, Option, None, Some, MatchOption, true, false, inl, inr}
+-- What a step does that asks for no record. One that parks its goroutine at channels alone leaves records, heap and marks alone: no timer is awaited there.
+use Rattle.std.proofs.Common.{◌≡◌, ℕ, cond, ◌||◌, List, [], ◌∷◌, map, refl, sym, ap, subst, ◌∙◌, Option, None, Some, MatchOption, Bool, true, false, inl, inr}
+use Rattle.std.specs.List.{filter_map, cons_option, list_any}
 use Rattle.std.proofs.lemmas.Bool.{cases_eq}
 use Rattle.gt_model.specs.declared.script.Script.{Script}
 use Rattle.gt_model.specs.declared.script.Instr.{Instr}
+use Rattle.gt_model.specs.declared.script.Case.{Case}
 use Rattle.gt_model.specs.declared.script.CaseKind.{CaseKind}
-use Rattle.gt_model.specs.declared.entry.Party.{Party}
 use Rattle.gt_model.specs.declared.entry.Outcome.{Outcome}
 use Rattle.gt_model.specs.declared.entry.Reason.{Reason}
+use Rattle.gt_model.specs.Good.{awaits_timer}
 use Rattle.gt_model.specs.Script.{is_timer, is_chan}
-use Rattle.gt_model.specs.Tables.{numbered}
-use Rattle.gt_model.proofs.Items.{numbered-change_same, numbered-change_other}
-use Rattle.gt_rules.specs.State.{State, items_of, is_closed}
+use Rattle.gt_rules.specs.State.{State, stands_at}
 use Rattle.gt_rules.specs.Panics.{fault}
 use Rattle.gt_schedule.specs.declared.status.RunStatus.{RunStatus}
-use Rattle.gt_schedule.specs.Counts.{times}
-use Rattle.gt_schedule.specs.Schedule.{Schedule, plainly, status_of, marks_at, parked, parked_at, ticket_of}
+use Rattle.gt_schedule.specs.Schedule.{Schedule, plainly, status_of, marks_at, ticket_of}
 use Rattle.gt_book.specs.declared.step.Step.{Step}
 use Rattle.gt_book.specs.declared.answers.TimerOp.{TimerOp}
 use Rattle.gt_book.specs.declared.answers.Did.{Did}
-use Rattle.gt_book.specs.Steps.{step_of_instr, step_or_panic, recv_by, partner_in, Does, Steps}
-use Rattle.gt_book.specs.View.{BookView, IsLawful, with_schedule}
-use Rattle.gt_book.proofs.Going.{IsStep, step-is, WaitsRightly, waits-rightly}
+use Rattle.gt_book.specs.Steps.{timer_of, cases_of, goes_by, plain_step, step_of_instr, step_or_panic, Does, Steps}
+use Rattle.gt_book.specs.View.{BookView, with_schedule}
+use Rattle.gt_book.proofs.Going.{IsStep, step-is}
+use Rattle.gt_book.proofs.Options.{ChoiceIs, case_goes, case_polls, all_rest, all_wait, choice-so}
 use Rattle.gt_rows.specs.Rows.{next_of}
 use Rattle.gt_runner.specs.declared.runner.Runner.{Runner}
-use Rattle.gt_runner.specs.Served.{NamesTimers, MarkFits, awaited_by, timers_of}
+use Rattle.gt_runner.specs.Served.{NamesTimers, MarkFitsAt, awaited_by, timers_of}
 use Rattle.gt_runner.specs.Calls.{After, Ready}
 use Rattle.gt_runner.proofs.Fitting.{MarksFit, fit-is}
-use Rattle.gt_runner.proofs.Named.{plain-timer}
-use Rattle.gt_runner.proofs.Passes.{goes-waits}
+use Rattle.gt_runner.proofs.Named.{timer-plain}
+use Rattle.gt_runner.proofs.Passes.{WasParked, was-parked_at, was-parked_cases, goes-waits}
 use Rattle.gt_runner.proofs.Tending.{tended-spared}
-use Rattle.gt_runner.proofs.Calling.{after-makes, names-standing}
-use Rattle.gt_runner.proofs.Waiting.{spares-parked}
+use Rattle.gt_runner.proofs.Calling.{after-makes}
+use Rattle.gt_runner.proofs.Enrolling.{parked-marks_at, parked-status, parked-others, parked-named, none-marked, spares-parked}
 
--- who waits at a receive that is no channel's waits for a timer
-pub waits-timer : (v : BookView) (g t : ℕ) → IsLawful v → next_of v g ≡ Some (Step.Waits t) → is_timer v.script t ≡ true
-waits-timer v g t lawful e =
-    let w : WaitsRightly v.script v.state g t = waits-rightly v.script v.state v.schedule g t lawful.good lawful.formed e in
-    plain-timer v.script t (names-standing v g (Instr.Recv t) lawful w.stands) w.plain
+-- ---- the timers that are awaited at channels
 
--- ---- the timers that are awaited at a channel
+chan-plain : (script : Script) (o : ℕ) → is_chan script o ≡ true → is_timer script o ≡ false
+chan-plain script o chan =
+    elim (is_timer script o) as (λ b. is_timer script o ≡ b → b ≡ false) [
+      | true ↦ λ timer. absurd (both (is_chan script o) chan (timer-plain script o timer))
+      | false ↦ λ plain. refl
+    ] refl
+  where
+    both : (b : Bool) → b ≡ true → b ≡ false → ⊥
+    both true e h = cc
+    both false e h = cc
 
-instr-parks : (script : Script) (s : State) (m : Schedule) (g : ℕ) (i : Instr) (kind : CaseKind) → step_of_instr script s m g i ≡ Step.Parks kind → timers_of script i ≡ []
-instr-parks script s m g (Instr.Recv o) kind h =
-    elim (is_chan script o) as (λ b. cond b (recv_by script s g o (items_of s o) (is_closed s o) (partner_in script m.senders o)) (Step.Waits o) ≡ Step.Parks kind → cond b [] (o ∷ []) ≡ []) [
-      | true ↦ λ k. refl
-      | false ↦ λ k. cc
-    ] h
-instr-parks script s m g _ kind h = refl
+untimed : (script : Script) (kind : CaseKind) → awaits_timer script kind ≡ false → timer_of script kind ≡ None
+untimed script (CaseKind.Recv o) h = ap (λ b. cond b (Some o) None) h
+untimed script (CaseKind.Send c v) h = refl
 
-parks-awaits : (v : BookView) (g : ℕ) (kind : CaseKind) → next_of v g ≡ Some (Step.Parks kind) → awaited_by v.script v.state g ≡ []
-parks-awaits v g kind e =
-    let step : IsStep v.script v.state v.schedule g (Step.Parks kind) = step-is v.script v.state v.schedule g (Step.Parks kind) e in
+untimed-cases : (script : Script) (cases : List Case) → list_any (λ (c : Case). awaits_timer script c.kind) cases ≡ false
+    → filter_map (timer_of script) (map (λ (c : Case). c.kind) cases) ≡ []
+untimed-cases script [] h = refl
+untimed-cases script (c ∷ cases) h =
+    let none = both-false (awaits_timer script c.kind) (list_any (λ (c : Case). awaits_timer script c.kind) cases) h in
+    ap (λ o. cons_option o (filter_map (timer_of script) (map (λ (c : Case). c.kind) cases))) (untimed script c.kind none.0) ∙ untimed-cases script cases none.1
+  where
+    both-false : (a b : Bool) → (a || b) ≡ false → (a ≡ false) × (b ≡ false)
+    both-false true b h = cc
+    both-false false b h = (refl, h)
+
+-- a step that asks for no record parks its goroutine where it awaits no timer
+abbrev ParksUntimed : Step → Type 0
+ParksUntimed (Step.Parks kind) = Unit {0}
+ParksUntimed (Step.Chooses timed) = timed ≡ false
+ParksUntimed _ = ⊥
+
+choice-untimed : (script : Script) (s : State) (m : Schedule) (g : ℕ) (cases : List Case) (default_to : Option ℕ) (step : Step) → ChoiceIs script s m g cases default_to step
+    → ParksUntimed step → timers_of script (Instr.Select cases default_to) ≡ []
+choice-untimed script s m g cases default_to step (case_goes n kind e has by) h = absurd h
+choice-untimed script s m g cases default_to step (case_polls n kind t has come) h = absurd h
+choice-untimed script s m g cases default_to step (all_rest to is rest) h = absurd h
+choice-untimed script s m g cases default_to step (all_wait is rest) h = untimed-cases script cases h
+
+instr-untimed : (script : Script) (s : State) (m : Schedule) (g : ℕ) (i : Instr) → ParksUntimed (step_of_instr script s m g i) → timers_of script i ≡ []
+instr-untimed script s m g (Instr.Recv o) h =
+    elim (is_chan script o) as (λ b. is_chan script o ≡ b → ParksUntimed (cond b (plain_step (CaseKind.Recv o) (goes_by script s m (plainly g) (CaseKind.Recv o))) (Step.Waits o))
+    → timers_of script (Instr.Recv o) ≡ []) [
+      | true ↦ λ chan k. ap (λ b. cons_option (cond b (Some o) None) []) (chan-plain script o chan)
+      | false ↦ λ plain k. absurd k
+    ] refl h
+instr-untimed script s m g (Instr.Select cases default_to) h =
+    choice-untimed script s m g cases default_to (step_of_instr script s m g (Instr.Select cases default_to)) (choice-so script s m g cases default_to) h
+instr-untimed script s m g _ h = refl
+
+parks-awaits : (v : BookView) (g : ℕ) (step : Step) → next_of v g ≡ Some step → ParksUntimed step → awaited_by v.script v.state g ≡ []
+parks-awaits v g wanted e parks =
+    let step : IsStep v.script v.state v.schedule g wanted = step-is v.script v.state v.schedule g wanted e in
     ap (λ (o : Option Instr). elim o as (λ _. List ℕ) [ None ↦ [] | Some i ↦ timers_of v.script i ]) step.stands
-    ∙ elim (fault v.script v.state step.instr) as (λ (o : Option Reason). step_or_panic v.script v.state v.schedule g step.instr o ≡ Step.Parks kind → timers_of v.script step.instr ≡ []) [
-      | None ↦ λ k. instr-parks v.script v.state v.schedule g step.instr kind k
-      | Some reason ↦ λ k. cc
-    ] step.is
-
--- ---- the marks of who is parked
-
-parked_at-statuses : (m : Schedule) (p : Party) (kind : CaseKind) → (parked_at m p kind).statuses ≡ (parked m p.g).statuses
-parked_at-statuses m p (CaseKind.Recv o) = refl
-parked_at-statuses m p (CaseKind.Send c v) = refl
-
-parked_at-marks : (m : Schedule) (p : Party) (kind : CaseKind) → (parked_at m p kind).marks ≡ m.marks
-parked_at-marks m p (CaseKind.Recv o) = refl
-parked_at-marks m p (CaseKind.Send c v) = refl
-
-parked_at-marks_at : (m : Schedule) (p : Party) (kind : CaseKind) (h : ℕ) → marks_at (parked_at m p kind) h ≡ marks_at m h
-parked_at-marks_at m p kind h = ap (λ xs. marks_at (record m { marks = xs }) h) (parked_at-marks m p kind)
-
-parked_at-status : (m : Schedule) (p : Party) (kind : CaseKind) (h : ℕ) → status_of (parked_at m p kind) h ≡ status_of (parked m p.g) h
-parked_at-status m p kind h = ap (λ (xs : List RunStatus). numbered xs h) (parked_at-statuses m p kind)
-
-parked-fits : (v : BookView) (g : ℕ) (kind : CaseKind) → MarksFit v → status_of v.schedule g ≡ Some RunStatus.InHand → awaited_by v.script v.state g ≡ []
-    → MarksFit (with_schedule v (parked_at v.schedule (plainly g) kind))
-parked-fits v g kind fit in_hand none h =
-    let m : Schedule = v.schedule in
-    let n : Schedule = parked_at m (plainly g) kind in
-    let now : RunStatus = RunStatus.Parked m.parks in
-    elim (cases_eq h g) [
-      | inl e ↦
-          let own : marks_at m g ≡ [] = subst (MarkFits (marks_at m g) (awaited_by v.script v.state g)) in_hand (fit g) in
-          subst (λ k. MarkFits (marks_at n k) (awaited_by v.script v.state k) (status_of n k)) (sym e)
-          (fit-is (marks_at n g) [] (awaited_by v.script v.state g) [] (status_of n g) (Some now) (parked_at-marks_at m (plainly g) kind g ∙ own) none
-          (parked_at-status m (plainly g) kind g ∙ numbered-change_same m.statuses g (λ _. now) RunStatus.InHand in_hand) refl)
-      | inr other ↦
-          fit-is (marks_at n h) (marks_at m h) (awaited_by v.script v.state h) (awaited_by v.script v.state h) (status_of n h) (status_of m h) (parked_at-marks_at m (plainly g) kind h) refl
-          (parked_at-status m (plainly g) kind h ∙ numbered-change_other m.statuses g h (λ _. now) other) (fit h)
-    ]
-
-parked-named : (v : BookView) (g : ℕ) (kind : CaseKind) → NamesTimers v → NamesTimers (with_schedule v (parked_at v.schedule (plainly g) kind))
-parked-named v g kind named h t some = named h t (subst (λ ts. 0 < times t ts) (parked_at-marks_at v.schedule (plainly g) kind h) some)
+    ∙ elim (fault v.script v.state step.instr) as (λ (o : Option Reason). ParksUntimed (step_or_panic v.script v.state v.schedule g step.instr o) → timers_of v.script step.instr ≡ []) [
+      | None ↦ λ k. instr-untimed v.script v.state v.schedule g step.instr k
+      | Some reason ↦ λ k. absurd k
+    ] (subst ParksUntimed (sym step.is) parks)
 
 -- ---- the call
 
-after-parks : (x x' : Runner) (g : ℕ) (kind : CaseKind) → Ready x g → next_of x.book g ≡ Some (Step.Parks kind) → x'.book ≡ with_schedule x.book (parked_at x.book.schedule (plainly g) kind)
+parked-fits : (x : Runner) (g : ℕ) (n : Schedule) → Ready x g → WasParked x.book.schedule n g → awaited_by x.book.script x.book.state g ≡ []
+    → MarksFit (with_schedule x.book n)
+parked-fits x g n ready was none h =
+    let m : Schedule = x.book.schedule in
+    let now : RunStatus = RunStatus.Parked m.parks in
+    elim (cases_eq h g) [
+      | inl e ↦
+          subst (λ k. MarkFitsAt x.book.script x.book.state n k) (sym e)
+          (fit-is (marks_at n g) [] (awaited_by x.book.script x.book.state g) [] (status_of n g) (Some now) (parked-marks_at m n g g was ∙ none-marked x g ready) none
+          (parked-status m n g was ready.alone.in_hand) refl)
+      | inr other ↦ parked-others x.book n g h was other (ready.served.marks h)
+    ]
+
+after-parks : (x x' : Runner) (g : ℕ) (step : Step) (n : Schedule) → Ready x g → next_of x.book g ≡ Some step → ParksUntimed step → x'.book ≡ with_schedule x.book n → WasParked x.book.schedule n g
     → x'.records ≡ x.records → x'.heap ≡ x.heap → x'.noted ≡ x.noted → After x x' g
-after-parks x x' g kind ready next is records_are heap_is noted_is =
-    let m : Schedule = parked_at x.book.schedule (plainly g) kind in
-    record {
-      goes = goes-waits x.book x'.book g kind is ready.alone;
-      served = record {
-        tended = tended-spared x x' ready.served.tended (spares-parked x x' m is (parked_at-marks x.book.schedule (plainly g) kind) records_are heap_is noted_is);
-        marks = subst MarksFit (sym is) (parked-fits x.book g kind ready.served.marks ready.alone.in_hand (parks-awaits x.book g kind next));
-        named = subst NamesTimers (sym is) (parked-named x.book g kind ready.served.named);
-      };
-    }
+after-parks x x' g step n ready next parks is was records_are heap_is noted_is = record {
+  goes = goes-waits x.book x'.book g n is was.statuses ready.alone;
+  served = record {
+    tended = tended-spared x x' ready.served.tended (spares-parked x x' n is was.marks records_are heap_is noted_is);
+    marks = subst MarksFit (sym is) (parked-fits x g n ready was (parks-awaits x.book g step next parks));
+    named = subst NamesTimers (sym is) (parked-named x.book n g was ready.served.named);
+  };
+}
 
 -- a step that asks for no record
 does-after : (x x' : Runner) (g : ℕ) (step : Step) (did : Did) → Ready x g → next_of x.book g ≡ Some step → Does x.book g step x'.book did → ((w : TimerOp) → did ≡ Did.Timer w → ⊥)
     → x'.records ≡ x.records → x'.heap ≡ x.heap → x'.noted ≡ x.noted → After x x' g
 does-after x x' g (Step.Makes e) did ready next does other records_are heap_is noted_is = after-makes x x' g e ready next does.0 records_are heap_is noted_is
 does-after x x' g (Step.Waits t) did ready next does other records_are heap_is noted_is = absurd (other (TimerOp.Enrolled (ticket_of x.book.schedule g)) does.1)
-does-after x x' g (Step.Parks kind) did ready next does other records_are heap_is noted_is = after-parks x x' g kind ready next does.0 records_are heap_is noted_is
+does-after x x' g (Step.Parks kind) did ready next does other records_are heap_is noted_is =
+    after-parks x x' g (Step.Parks kind) _ ready next tt does.0 (was-parked_at x.book.schedule g kind) records_are heap_is noted_is
+does-after x x' g (Step.Chooses true) did ready next does other records_are heap_is noted_is = absurd (other (TimerOp.Enrolled (ticket_of x.book.schedule g)) does.1)
+does-after x x' g (Step.Chooses false) did ready next does other records_are heap_is noted_is =
+    after-parks x x' g (Step.Chooses false) _ ready next refl does.0 (was-parked_cases x.book.schedule g (cases_of (stands_at x.book.script x.book.state g))) records_are heap_is noted_is
 does-after x x' g (Step.Needs op) did ready next does other records_are heap_is noted_is = absurd (other op does.1)
 does-after x x' g Step.Nowhere did ready next does other records_are heap_is noted_is = absurd does
 

@@ -1,22 +1,24 @@
 -- One call of a goroutine, and what happens where nobody runs, keep a run.
-use Rattle.std.proofs.Common.{◌≡◌, ℕ, ◌+◌, ◌<◌, [], ◌∷◌, ◌++◌, refl, sym, subst, arith, Option, None, Some, MatchOption, Bool, false, length, length-append, inl, inr, true}
+use Rattle.std.proofs.Common.{◌≡◌, ◌≢◌, ℕ, ◌+◌, ◌<◌, List, [], ◌∷◌, ◌++◌, refl, sym, ap, subst, ◌∙◌, arith, None, Some, Bool, false, count_by, length, length-append, inl, inr, true}
 use Rattle.gt_model.specs.declared.entry.Entry.{Entry}
 use Rattle.gt_model.specs.declared.entry.Outcome.{Outcome}
 use Rattle.gt_rules.specs.After.{first_state}
 use Rattle.gt_rules.specs.Change.{change_of}
 use Rattle.gt_rules.specs.History.{ClockJumps}
-use Rattle.gt_book.specs.declared.answers.Did.{Did}
-use Rattle.gt_book.specs.declared.answers.TimerOp.{TimerOp}
 use Rattle.gt_book.specs.declared.step.Step.{Step}
-use Rattle.gt_schedule.specs.Schedule.{plainly, parked_at}
+use Rattle.gt_model.specs.declared.script.Case.{Case}
+use Rattle.gt_model.specs.Tables.{numbered}
+use Rattle.gt_schedule.specs.declared.status.RunStatus.{RunStatus}
+use Rattle.gt_schedule.specs.Schedule.{Schedule, plainly, status_of, is_queued, queued_count, parked, parked_at, parked_cases}
+use Rattle.gt_schedule.proofs.Cases.{waiting_at-statuses, waiting_at-marks, cases-statuses, cases-marks}
 use Rattle.gt_model.specs.declared.script.Script.{Script}
 use Rattle.gt_model.specs.declared.script.CaseKind.{CaseKind}
 use Rattle.gt_rules.specs.State.{State}
-use Rattle.gt_book.specs.Steps.{step_of, Steps, Does, entry_of, is_gone, Commits}
+use Rattle.gt_book.specs.Steps.{step_of, entry_of, is_gone, Commits}
 use Rattle.gt_book.specs.declared.answers.Op.{Op}
 use Rattle.gt_book.specs.declared.answers.Commit.{Commit}
 use Rattle.gt_book.proofs.Going.{makes-call}
-use Rattle.gt_book.specs.View.{BookView, Enters, IsLawful, outcome_of, with_entries, with_schedule}
+use Rattle.gt_book.specs.View.{BookView, Enters, IsLawful, with_entries, with_schedule}
 use Rattle.gt_book.proofs.Passing.{jumps-append, enters-script, enters-limits, enters-jumps, enters-longer, enters-hands, parked_at-leaves_hand, parked_at-hands, parked_at-queued_count}
 use Rattle.gt_runner.specs.Run.{HandsFree, IsAlone, Passes, Goes, Moves}
 
@@ -57,13 +59,38 @@ goes-enters old e new g lawful enters clock alone = record {
   goes = inl (enters-longer old e new enters);
 }
 
-pub goes-waits : (old new : BookView) (g : ℕ) (kind : CaseKind) → new ≡ with_schedule old (parked_at old.schedule (plainly g) kind) → IsAlone old g → Goes g old new
-goes-waits old new g kind is alone = subst (Goes g old) (sym is) (record {
+-- ---- a goroutine was parked
+
+-- nobody else's status changed, and no mark did
+pub record WasParked (m n : Schedule) (g : ℕ) : Type 0 where
+  pub statuses : n.statuses ≡ (parked m g).statuses
+  pub marks : n.marks ≡ m.marks
+
+pub was-parked_at : (m : Schedule) (g : ℕ) (kind : CaseKind) → WasParked m (parked_at m (plainly g) kind) g
+was-parked_at m g kind = record { statuses = waiting_at-statuses (parked m g) (plainly g) kind; marks = waiting_at-marks (parked m g) (plainly g) kind }
+
+pub was-parked_cases : (m : Schedule) (g : ℕ) (cases : List Case) → WasParked m (parked_cases m g cases) g
+was-parked_cases m g cases = record { statuses = cases-statuses (parked m g) g 1 cases; marks = cases-marks (parked m g) g 1 cases }
+
+-- where it waits is no matter to the statuses
+pub parked-hands : (m n : Schedule) (g h : ℕ) → n.statuses ≡ (parked m g).statuses → status_of n h ≡ Some RunStatus.InHand → status_of m h ≡ Some RunStatus.InHand
+parked-hands m n g h statuses e = parked_at-hands m (plainly g) (CaseKind.Recv 0) h (sym (ap (λ (xs : List RunStatus). numbered xs h) statuses) ∙ e)
+
+pub parked-leaves_hand : (m n : Schedule) (g : ℕ) → n.statuses ≡ (parked m g).statuses → status_of m g ≡ Some RunStatus.InHand → status_of n g ≢ Some RunStatus.InHand
+parked-leaves_hand m n g statuses e h =
+    parked_at-leaves_hand m (plainly g) (CaseKind.Recv 0) e (sym (ap (λ (xs : List RunStatus). numbered xs g) statuses) ∙ h)
+
+pub parked-queued_count : (m n : Schedule) (g : ℕ) → n.statuses ≡ (parked m g).statuses → status_of m g ≡ Some RunStatus.InHand → queued_count n ≡ queued_count m
+parked-queued_count m n g statuses e =
+    ap (count_by (λ (status : RunStatus). is_queued (Some status))) statuses ∙ parked_at-queued_count m (plainly g) (CaseKind.Recv 0) e
+
+pub goes-waits : (old new : BookView) (g : ℕ) (n : Schedule) → new ≡ with_schedule old n → n.statuses ≡ (parked old.schedule g).statuses → IsAlone old g → Goes g old new
+goes-waits old new g n is statuses alone = subst (Goes g old) (sym is) (record {
   script = refl;
   limits = refl;
   jumps = λ jumps. jumps;
-  hands = λ h q. alone.alone h (parked_at-hands old.schedule (plainly g) kind h q);
-  goes = inr (refl, parked_at-queued_count old.schedule (plainly g) kind alone.in_hand, parked_at-leaves_hand old.schedule (plainly g) kind alone.in_hand);
+  hands = λ h q. alone.alone h (parked-hands old.schedule n g h statuses q);
+  goes = inr (refl, parked-queued_count old.schedule n g statuses alone.in_hand, parked-leaves_hand old.schedule n g statuses alone.in_hand);
 })
 
 -- no step moves a clock
@@ -73,24 +100,6 @@ no-clock script s _ h = tt
 
 pub makes-no_clock : (old : BookView) (g : ℕ) (e : Entry) → step_of old.script old.state old.schedule g ≡ Some (Step.Makes e) → ClockJumps old.script 0 old.state e
 makes-no_clock old g e h = no-clock old.script old.state e (makes-call old.script old.state old.schedule g e h).clock
-
-does-goes : (old : BookView) (g : ℕ) (step : Step) (new : BookView) (did : Did) → IsLawful old → IsAlone old g → step_of old.script old.state old.schedule g ≡ Some step
-    → Does old g step new did → ((x : TimerOp) → did ≡ Did.Timer x → ⊥) → Goes g old new
-does-goes old g (Step.Makes e) new did lawful alone is h other = goes-enters old e new g lawful h.0 (makes-no_clock old g e is) alone
-does-goes old g (Step.Waits t) new did lawful alone is h other = goes-waits old new g (CaseKind.Recv t) h.0 alone
-does-goes old g (Step.Parks kind) new did lawful alone is h other = goes-waits old new g kind h.0 alone
-does-goes old g (Step.Needs op) new did lawful alone is h other = absurd (other op h.1)
-does-goes old g Step.Nowhere new did lawful alone is h other = absurd h
-
-pub steps-goes : (old : BookView) (g : ℕ) (new : BookView) (did : Did) → IsLawful old → IsAlone old g → outcome_of old ≡ None → Steps old g new did
-    → ((x : TimerOp) → did ≡ Did.Timer x → ⊥) → Goes g old new
-steps-goes old g new did lawful alone none h other =
-    let does : MatchOption (step_of old.script old.state old.schedule g) ⊥ (λ step. Does old g step new did) =
-    subst (λ (o : Option Outcome). MatchOption o (MatchOption (step_of old.script old.state old.schedule g) ⊥ (λ step. Does old g step new did)) (λ outcome. (did ≡ Did.Over outcome) × (new ≡ old))) none h in
-    elim (step_of old.script old.state old.schedule g) as (λ o. step_of old.script old.state old.schedule g ≡ o → MatchOption o ⊥ (λ step. Does old g step new did) → Goes g old new) [
-      | None ↦ λ q k. absurd k
-      | Some step ↦ λ q k. does-goes old g step new did lawful alone q k other
-    ] refl does
 
 -- no operation moves a clock
 op-no_clock : (script : Script) (s : State) (op : Op) → ClockJumps script 0 s (entry_of s op)

@@ -1,8 +1,8 @@
 -- The head whose time has come is served: one entry is made, and the run is tended as before.
 use Rattle.std.proofs.Common.{◌≡◌, ◌≢◌, ℕ, zero, suc, ◌+◌, ◌-◌, ◌<◌, ◌≤◌, nat_lt, nat_le, if◌then◌else◌, List, [], ◌∷◌, length, set, slice_get, refl, sym, ap, subst, ◌∙◌, arith, Option, None, Some, IsSome, IsSomeAnd, MatchOption, Bool, true, false, not, ◌&&◌, ◌||◌, is_some, is_none, eq-eqb, inl, inr}
 use Rattle.std.specs.Option.{option_or, option_map, option_and_then}
-use Rattle.std.proofs.lemmas.Bool.{le-ltb, le-leb, ltb-true}
-use Rattle.gt_model.specs.declared.script.Instr.{Instr}
+use Rattle.std.proofs.lemmas.Bool.{le-ltb, le-leb, ltb-true, eqb-true}
+use Rattle.gt_model.specs.declared.script.CaseKind.{CaseKind}
 use Rattle.gt_model.specs.declared.entry.Entry.{Entry}
 use Rattle.gt_model.specs.declared.entry.Party.{Party}
 use Rattle.gt_model.specs.declared.entry.Outcome.{Outcome}
@@ -11,7 +11,7 @@ use Rattle.gt_rules.specs.Legal.{operation_at}
 use Rattle.gt_rules.specs.Operations.{receives_from}
 use Rattle.gt_rules.specs.Change.{change_of}
 use Rattle.gt_rules.specs.History.{ClockJumps}
-use Rattle.gt_facts.proofs.Lookups.{stands_recv}
+use Rattle.gt_facts.proofs.Lookups.{AtOperation, at_operation}
 use Rattle.gt_rec.specs.declared.RecKind.{RecKind}
 use Rattle.gt_rec.specs.Ticks.{due_left}
 use Rattle.gt_rec.specs.Rec.{Rec, needs_heap, has_channel, in_flight, due_of_send, shown, is_awaited}
@@ -24,11 +24,10 @@ use Rattle.gt_rows.specs.declared.answers.Delivered.{Delivered}
 use Rattle.gt_rows.specs.Lent.{IsKept, IsLentRec}
 use Rattle.gt_rows.specs.Rows.{Pair, Parts, Answers, HeadRow, HeadBy, FiresAs, Fires, Runs, DeliverRow, DeliversBy, DeliversTo, Gives}
 use Rattle.gt_schedule.specs.Counts.{as_number, often}
-use Rattle.gt_schedule.specs.Schedule.{plainly, status_of, is_parked, parties_at, mark_count, Served}
+use Rattle.gt_schedule.specs.Schedule.{status_of, is_parked, parties_at, mark_count, Served}
 use Rattle.gt_book.specs.View.{BookView, Enters, outcome_of, is_at, is_parked_at}
 use Rattle.gt_book.proofs.Fitting.{first-waiting, asleep-parked}
 use Rattle.gt_book.proofs.Going.{parked-goes}
-use Rattle.gt_book.proofs.Waking.{at-recv}
 use Rattle.gt_runner.specs.declared.runner.Runner.{Runner}
 use Rattle.gt_runner.specs.Served.{IsWatched, is_heaped}
 use Rattle.gt_runner.specs.Serves.{IsIdleRun, IsDueHead, Passing}
@@ -39,7 +38,7 @@ use Rattle.gt_runner.proofs.Touching.{rests-touches}
 use Rattle.gt_model.specs.Script.{what_at, names_timer}
 use Rattle.gt_facts.proofs.Lookups.{sleeper}
 use Rattle.gt_rows.specs.Agrees.{kind_by, due_by, of_declaration}
-use Rattle.gt_runner.proofs.Watching.{marked-stands, parked-there}
+use Rattle.gt_runner.proofs.Watching.{marked-receiver, receiver-parked}
 use Rattle.gt_runner.proofs.Needing.{shown-when, kind-sleep, kind-timer, get-none, due-slept, never-ticker, never-deadline, needs-some, named-within}
 use Rattle.gt_runner.proofs.Calling.{stands-awake}
 use Rattle.gt_runner.proofs.Waiting.{placed-same}
@@ -361,13 +360,14 @@ waiter-there x id r idle d kind =
     let channel : has_channel r.kind ≡ true = ap has_channel kind in
     let blocked : 0 < r.blocked = ltb-true 0 r.blocked (needs-some (has_channel r.kind) (nat_lt 0 r.blocked) r.when d.needs channel) in
     let count : r.blocked ≡ mark_count v.schedule id = d.watched.blocked channel ∙ ap (mark_count v.schedule) d.id_is in
-    let stands = marked-stands x id idle.lawful idle.nobody idle.served.marks (omega arith) in
-    let parked : is_parked_at v.script v.state v.schedule (plainly stands.0) (receives_from id) ≡ true = parked-there v stands.0 id idle.lawful idle.nobody stands.1 in
+    let receiver = marked-receiver x id idle.lawful idle.nobody idle.served.marks (omega arith) in
+    let p : Party = receiver.0 in
+    let parked : is_parked_at v.script v.state v.schedule p (receives_from id) ≡ true = receiver-parked v id p idle.lawful idle.nobody receiver.1 in
     let named : names_timer (what_at v.script id) ≡ true = kind-timer (of_declaration v.script id) (ap (kind_by v.script) (sym d.id_is) ∙ (d.watched.kept.rec.agrees.kind ∙ ap Some kind)) in
     let within : id < length v.script.decls = named-within v.script id names_timer refl named in
-    let often_is : often (plainly stands.0) (parties_at v.schedule.receivers id) ≡ as_number (is_parked_at v.script v.state v.schedule (plainly stands.0) (receives_from id)) = idle.lawful.fits.waiting id (plainly stands.0) within in
-    let one : as_number (is_parked_at v.script v.state v.schedule (plainly stands.0) (receives_from id)) ≡ 1 = ap as_number parked in
-    some-party (parties_at v.schedule.receivers id) (plainly stands.0) (omega arith)
+    let often_is : often p (parties_at v.schedule.receivers id) ≡ as_number (is_parked_at v.script v.state v.schedule p (receives_from id)) = idle.lawful.fits.waiting id p within in
+    let one : as_number (is_parked_at v.script v.state v.schedule p (receives_from id)) ≡ 1 = ap as_number parked in
+    some-party (parties_at v.schedule.receivers id) p (omega arith)
 
 by-delivering : (b : BookView) (reply : Delivered) (Same Row : Type 0) → outcome_of b ≡ None → Rattle.gt_rows.specs.Rows.UnlessOver b Delivered.Over reply Same Row → Row
 by-delivering b reply Same Row none h = subst (λ (o : Option Outcome). MatchOption o Row (λ outcome. (reply ≡ Delivered.Over outcome) × Same)) none h
@@ -376,8 +376,14 @@ party-parked : (v : BookView) (p : Party) (id : ℕ) → is_parked_at v.script v
 party-parked v p id h =
     let parked : is_parked (status_of v.schedule p.g) ≡ true = left-true (is_parked (status_of v.schedule p.g)) (is_at v.script v.state p (receives_from id)) h in
     let there : is_at v.script v.state p (receives_from id) ≡ true = right-true (is_parked (status_of v.schedule p.g)) (is_at v.script v.state p (receives_from id)) h in
-    (parked, stands-awake v p.g (Instr.Recv id) (stands_recv v.script v.state p id (at-recv (operation_at v.script v.state p) id there)))
+    let at : AtOperation v.script v.state p (CaseKind.Recv id) = at_operation v.script v.state p (CaseKind.Recv id) (at-recv (operation_at v.script v.state p) there) in
+    (parked, stands-awake v p.g at.instr at.stands)
   where
+    at-recv : (o : Option CaseKind) → (elim o as (λ _. Bool) [ None ↦ false | Some kind ↦ receives_from id kind ]) ≡ true → o ≡ Some (CaseKind.Recv id)
+    at-recv None h = cc
+    at-recv (Some (CaseKind.Recv o)) h = ap (λ o. Some (CaseKind.Recv o)) (eqb-true o id h)
+    at-recv (Some (CaseKind.Send c v)) h = cc
+
     left-true : (a b : Bool) → (a && b) ≡ true → a ≡ true
     left-true true b e = refl
     left-true false b e = cc

@@ -35,7 +35,6 @@ after-taken x new g served lawful many takes =
       };
       marks_many = many ∙ sym (length-change_numbered x.book.schedule.statuses g (λ _. RunStatus.InHand));
       in_hand = taken-in_hand x.book.schedule g queued;
-      few = subst (MarkFits (marks_at x.book.schedule g) (awaited_by x.book.script x.book.state g)) queued (served.marks g);
     })
 
 -- ---- marks are nobody's turn

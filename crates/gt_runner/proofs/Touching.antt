@@ -1,5 +1,5 @@
 -- What each section does to a run: it touches one record, and leaves the others alone.
-use Rattle.std.proofs.Common.{◌≡◌, ◌≢◌, ℕ, ◌+◌, ◌-◌, ◌^◌, ◌<◌, ◌≤◌, nat_lt, cond, min, unwrap_or, ◌||◌, List, [], set, slice_get, refl, sym, ap, subst, ◌∙◌, arith, Option, None, Some, IsSome, IsSomeAnd, Bool, true, false, not, ◌&&◌, is_some, is_none}
+use Rattle.std.proofs.Common.{◌≡◌, ◌≢◌, ℕ, ◌+◌, ◌-◌, ◌^◌, ◌<◌, ◌≤◌, nat_lt, cond, min, unwrap_or, ◌||◌, List, set, slice_get, refl, sym, ap, subst, ◌∙◌, arith, Option, None, Some, IsSome, IsSomeAnd, Bool, true, false, not, ◌&&◌, is_some, is_none}
 use Rattle.std.proofs.lemmas.Bool.{lt-ltb}
 use Rattle.gt_model.specs.declared.entry.Entry.{Entry}
 use Rattle.gt_rules.specs.Change.{change_of}
@@ -225,7 +225,8 @@ pub record Counts (x x' : Runner) (id g : ℕ) (r r' : Rec) : Type 0 where
   pub noted_is : x'.noted ≡ noted_at x.noted r'
   pub book_is : x'.book ≡ with_schedule x.book (marked x.book.schedule g r.id)
   pub place : Settles x.heap (more_blocked r) x'.heap r' (joins (more_blocked r))
-  pub unmarked : numbered x.book.schedule.marks g ≡ Some []
+  pub marks : List ℕ
+  pub has_marks : numbered x.book.schedule.marks g ≡ Some marks
   pub few : mark_count x.book.schedule r.id + 1 ≤ 2 ^ 32 - 1
   pub kept : IsKept x'.book x'.heap r'
 
@@ -234,7 +235,7 @@ counts-blocked x x' id g r r' c channel =
     let was : r.blocked ≡ mark_count x.book.schedule r.id = c.watched.blocked channel in
     let few : mark_count x.book.schedule r.id + 1 ≤ 2 ^ 32 - 1 = c.few in
     let more : mark_count x'.book.schedule r.id ≡ mark_count x.book.schedule r.id + 1 =
-    ap (λ (b : BookView). mark_count b.schedule r.id) c.book_is ∙ count-marked_same x.book.schedule g r.id [] c.unmarked in
+    ap (λ (b : BookView). mark_count b.schedule r.id) c.book_is ∙ count-marked_same x.book.schedule g r.id c.marks c.has_marks in
     omega arith
 
 counts-watched : (x x' : Runner) (id g : ℕ) (r r' : Rec) → Counts x x' id g r r' → (joined : Bool) → joins (more_blocked r) ≡ joined → Settles x.heap (more_blocked r) x'.heap r' joined
@@ -307,7 +308,7 @@ counts-touches x x' id g r r' c =
       spare = c.spare;
       limits = ap (λ (b : BookView). b.limits) c.book_is;
       stays = λ j n. stays-marked x.book x'.book (marked x.book.schedule g r.id) x.heap x'.heap j c.book_is
-          (count-marked_other x.book.schedule g r.id j [] c.unmarked (λ e. n (e ∙ c.id_is))) (counts-slots x x' id r r' c.id_is joined c.place j n) number_is;
+          (count-marked_other x.book.schedule g r.id j c.marks c.has_marks (λ e. n (e ∙ c.id_is))) (counts-slots x x' id r r' c.id_is joined c.place j n) number_is;
       script_is = ap (λ (b : BookView). b.script) c.book_is;
       room = counts-room x x' r r' joined refl c.place;
       noted_is = λ w h. subst (λ o. IsSomeAnd o (λ v. v ≤ w)) (sym c.noted_is) (notes-keep x.noted (early_due r') w h);

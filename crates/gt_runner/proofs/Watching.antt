@@ -1,28 +1,33 @@
 -- Where nobody runs, the counted times are the due times of the records that need a heap.
-use Rattle.std.proofs.Common.{◌≡◌, ◌≢◌, eqb, cond, ℕ, zero, suc, ◌+◌, ◌<◌, ◌==◌, List, [], ◌∷◌, refl, sym, ap, subst, ◌∙◌, arith, Option, None, Some, Bool, true, false, ◌&&◌, ◌||◌, eq-eqb}
-use Rattle.std.specs.List.{list_any}
-use Rattle.std.proofs.lemmas.Bool.{eqb-true}
+use Rattle.std.proofs.Common.{◌≡◌, ◌≢◌, cond, ℕ, zero, suc, ◌<◌, ◌==◌, List, [], ◌∷◌, slice_get, refl, sym, ap, subst, ◌∙◌, arith, Option, None, Some, Bool, true, false, ◌&&◌, ◌||◌, eq-eqb}
+use Rattle.std.specs.List.{list_any, filter_map, cons_option}
+use Rattle.std.proofs.lemmas.Option.{slice_get-map}
 use Rattle.gt_model.specs.declared.script.Script.{Script}
 use Rattle.gt_model.specs.declared.script.Instr.{Instr}
+use Rattle.gt_model.specs.declared.script.Case.{Case}
 use Rattle.gt_model.specs.declared.script.CaseKind.{CaseKind}
-use Rattle.gt_model.specs.Script.{is_chan}
+use Rattle.gt_model.specs.declared.entry.Party.{Party}
+use Rattle.gt_model.specs.Script.{is_timer}
 use Rattle.gt_model.specs.declared.state.Goroutine.{Goroutine}
 use Rattle.gt_model.specs.declared.state.Mode.{Mode}
 use Rattle.gt_model.specs.Tables.{numbered}
 use Rattle.gt_model.proofs.Items.{HasNumber}
 use Rattle.gt_rules.specs.State.{State, goroutine_at, stands, stands_at}
 use Rattle.gt_rules.specs.Counted.{awaits, is_awaited}
+use Rattle.gt_rules.specs.Legal.{operation_at}
 use Rattle.gt_rules.specs.Operations.{operation, receives_from, offers}
-use Rattle.gt_facts.proofs.Lookups.{any-numbered, receives-recv, Standing, standing}
+use Rattle.gt_facts.proofs.Lookups.{any-numbered, ReceivesFrom, receives-recv, offers-operation, Standing, standing, AtOperation}
 use Rattle.gt_schedule.specs.declared.status.RunStatus.{RunStatus}
-use Rattle.gt_schedule.specs.Counts.{as_number, times}
-use Rattle.gt_schedule.specs.Schedule.{Schedule, plainly, status_of, is_parked, marks_at, mark_count}
+use Rattle.gt_schedule.specs.Counts.{times}
+use Rattle.gt_schedule.specs.Schedule.{Schedule, status_of, is_parked, marks_at, mark_count}
 use Rattle.gt_book.specs.Least.{NobodyRuns}
+use Rattle.gt_book.specs.Steps.{timer_of}
 use Rattle.gt_book.specs.View.{BookView, IsLawful, Agrees, is_at, is_parked_at}
 use Rattle.gt_book.proofs.Fitting.{has_status, none-queued}
 use Rattle.gt_runner.specs.declared.runner.Runner.{Runner}
-use Rattle.gt_runner.specs.Served.{MarkFits, MarkFitsAt, awaited_by, timers_of}
+use Rattle.gt_runner.specs.Served.{MarkFits, MarkFitsAt, awaited_by, operations_of, timers_of}
 use Rattle.gt_runner.proofs.Marks.{HasMark, has-mark, mark-counts}
+use Rattle.gt_runner.proofs.Awaiting.{WaitsAt, waits-by}
 
 -- ---- who stands somewhere is parked where nobody runs
 
@@ -33,68 +38,91 @@ parked-status mode RunStatus.InHand is h queued in_hand = absurd (in_hand refl)
 parked-status mode (RunStatus.Parked since) is h queued in_hand = (since, refl)
 parked-status mode RunStatus.Ended is h queued in_hand = absurd (subst (λ (mode : Mode). Agrees mode RunStatus.Ended) is h)
 
-record IsWaiting (v : BookView) (g t : ℕ) : Type 0 where
-  who : Standing v.script v.state g (Instr.Recv t)
-  since : ℕ
-  parked : status_of v.schedule g ≡ Some (RunStatus.Parked since)
-
-waiting : (v : BookView) (g t : ℕ) → IsLawful v → NobodyRuns v → stands_at v.script v.state g ≡ Some (Instr.Recv t) → IsWaiting v g t
-waiting v g t lawful nobody e =
-    let st : Standing v.script v.state g (Instr.Recv t) = standing v.script v.state g (Instr.Recv t) e in
+waiting : (v : BookView) (g : ℕ) (i : Instr) → IsLawful v → NobodyRuns v → stands_at v.script v.state g ≡ Some i → (since : ℕ) × (status_of v.schedule g ≡ Some (RunStatus.Parked since))
+waiting v g i lawful nobody e =
+    let st : Standing v.script v.state g i = standing v.script v.state g i e in
     let status : HasNumber v.schedule.statuses g = has_status v.script v.state v.schedule g st.who lawful.fits st.there in
     let parked = parked-status st.who.mode status.item st.at (lawful.fits.agree g st.who status.item st.there status.there)
     (λ is. none-queued v.script v.state v.schedule lawful.fits nobody.queue g (status.there ∙ ap Some is))
     (λ is. nobody.hands g (status.there ∙ ap Some is)) in
-    record { who = st; since = parked.0; parked = status.there ∙ ap Some parked.1 }
+    (parked.0, status.there ∙ ap Some parked.1)
+
+-- ---- who receives from a timer awaits it, and nobody else does
+
+operation-slot : (i : Instr) (n t : ℕ) → operation i n ≡ Some (CaseKind.Recv t) → (k : ℕ) × (slice_get (operations_of i) k ≡ Some (CaseKind.Recv t))
+operation-slot (Instr.Recv o) zero t e = (0, e)
+operation-slot (Instr.Recv o) (suc k) t e = cc
+operation-slot (Instr.Send c v) zero t e = cc
+operation-slot (Instr.Send c v) (suc k) t e = cc
+operation-slot (Instr.Select cases default_to) zero t e = cc
+operation-slot (Instr.Select cases default_to) (suc k) t e = (k, slice_get-map (λ (c : Case). c.kind) cases k ∙ e)
+operation-slot _ n t e = cc
+
+slot-times : (script : Script) (t : ℕ) (kinds : List CaseKind) (k : ℕ) → is_timer script t ≡ true → slice_get kinds k ≡ Some (CaseKind.Recv t)
+    → 0 < times t (filter_map (timer_of script) kinds)
+slot-times script t [] k timer e = cc
+slot-times script t (kind ∷ kinds) zero timer e =
+    let is : kind ≡ CaseKind.Recv t = cc in
+    let its : timer_of script kind ≡ Some t = ap (timer_of script) is ∙ ap (λ b. cond b (Some t) None) timer in
+    subst (λ o. 0 < times t (cons_option o (filter_map (timer_of script) kinds))) (sym its) (rw (eq-eqb t t refl) (omega arith))
+slot-times script t (kind ∷ kinds) (suc k) timer e = more (timer_of script kind) (slot-times script t kinds k timer e)
+  where
+    more : (o : Option ℕ) → 0 < times t (filter_map (timer_of script) kinds) → 0 < times t (cons_option o (filter_map (timer_of script) kinds))
+    more None h = h
+    more (Some u) h = omega arith
+
+-- a party that stands at a receive from t
+abbrev pub IsReceiver : Script → State → ℕ → Party → Type 0
+IsReceiver script s t p = AtOperation script s p (CaseKind.Recv t)
+
+abbrev awaited_in : Script → Option Instr → List ℕ
+awaited_in script o = elim o as (λ _. List ℕ) [ None ↦ [] | Some i ↦ timers_of script i ]
+
+receiver-awaits : (script : Script) (s : State) (t : ℕ) (p : Party) → is_timer script t ≡ true → IsReceiver script s t p → 0 < times t (awaited_by script s p.g)
+receiver-awaits script s t p timer at =
+    let slot = operation-slot at.instr p.case_no t at.has in
+    subst (λ o. 0 < times t (awaited_in script o)) (sym at.stands) (slot-times script t (operations_of at.instr) slot.0 timer slot.1)
+
+awaits-receiver : (script : Script) (s : State) (t g : ℕ) → 0 < times t (awaited_by script s g) → (p : Party) × IsReceiver script s t p
+awaits-receiver script s t g h =
+    let at : WaitsAt script s g t = waits-by script s g t (stands_at script s g) refl h in
+    let from : ReceivesFrom at.instr t = receives-recv at.instr t at.offered in
+    (record { g = g; case_no = from.case_no }, record { instr = at.instr; stands = at.stands; has = from.has })
 
 -- ---- a timer has marks exactly where it is awaited
 
-list_or_none : Option (List ℕ) → List ℕ
+abbrev list_or_none : Option (List ℕ) → List ℕ
 list_or_none None = []
 list_or_none (Some ts) = ts
-
-some-marks : (o : Option (List ℕ)) (t : ℕ) → (elim o as (λ _. List ℕ) [ None ↦ [] | Some ts ↦ ts ]) ≡ t ∷ [] → o ≡ Some (t ∷ [])
-some-marks None t e = cc
-some-marks (Some ts) t e = ap Some e
 
 marks-option : (o : Option (List ℕ)) (m : Schedule) (g : ℕ) → numbered m.marks g ≡ o → marks_at m g ≡ (elim o as (λ _. List ℕ) [ None ↦ [] | Some ts ↦ ts ])
 marks-option None m g e = rw e refl
 marks-option (Some ts) m g e = rw e refl
 
-pub stands-marked : (x : Runner) (g t : ℕ) → IsLawful x.book → NobodyRuns x.book → ((h : ℕ) → MarkFitsAt x.book.script x.book.state x.book.schedule h)
-    → is_chan x.book.script t ≡ false → stands_at x.book.script x.book.state g ≡ Some (Instr.Recv t) → 0 < mark_count x.book.schedule t
-stands-marked x g t lawful nobody fit plain e =
+pub receiver-marked : (x : Runner) (t : ℕ) (p : Party) → IsLawful x.book → NobodyRuns x.book → ((h : ℕ) → MarkFitsAt x.book.script x.book.state x.book.schedule h)
+    → is_timer x.book.script t ≡ true → IsReceiver x.book.script x.book.state t p → 0 < mark_count x.book.schedule t
+receiver-marked x t p lawful nobody fit timer at =
     let v : BookView = x.book in
-    let w : IsWaiting v g t = waiting v g t lawful nobody e in
-    let marks : marks_at v.schedule g ≡ awaited_by v.script v.state g = subst (MarkFits (marks_at v.schedule g) (awaited_by v.script v.state g)) w.parked (fit g) in
-    let awaited : awaited_by v.script v.state g ≡ t ∷ [] =
-    ap (λ (o : Option Instr). elim o as (λ _. List ℕ) [ None ↦ [] | Some i ↦ timers_of v.script i ]) e ∙ ap (λ b. cond b [] (t ∷ [])) plain in
-    let one : numbered v.schedule.marks g ≡ Some (t ∷ []) =
-    some-marks (numbered v.schedule.marks g) t (sym (marks-option (numbered v.schedule.marks g) v.schedule g refl) ∙ (marks ∙ awaited)) in
-    mark-counts v.schedule g t (t ∷ []) one (rw (eq-eqb t t refl) (omega arith))
+    let parked = waiting v p.g at.instr lawful nobody at.stands in
+    let marks : marks_at v.schedule p.g ≡ awaited_by v.script v.state p.g = subst (MarkFits (marks_at v.schedule p.g) (awaited_by v.script v.state p.g)) parked.1 (fit p.g) in
+    has-count v.schedule p.g t (subst (λ ts. 0 < times t ts) (sym marks) (receiver-awaits v.script v.state t p timer at))
+  where
+    has-count : (m : Schedule) (g t : ℕ) → 0 < times t (marks_at m g) → 0 < mark_count m t
+    has-count m g t h =
+        elim (numbered m.marks g) as (λ o. numbered m.marks g ≡ o → 0 < times t (list_or_none o) → 0 < mark_count m t) [
+          | None ↦ λ e k. absurd (omega arith)
+          | Some ts ↦ λ e k. mark-counts m g t ts e k
+        ] refl h
 
 -- who has a mark and is not to be taken stands there
-recv-only : (script : Script) (o : Option Instr) (t : ℕ) → 0 < times t (elim o as (λ _. List ℕ) [ None ↦ [] | Some i ↦ timers_of script i ]) → o ≡ Some (Instr.Recv t)
-recv-only script None t h = absurd (omega arith)
-recv-only script (Some (Instr.Recv o)) t h = by (is_chan script o) h
-  where
-    one : (b : Bool) → eqb o t ≡ b → 0 < as_number b + 0 → eqb o t ≡ true
-    one true e h = e
-    one false e h = absurd (omega arith)
-
-    by : (chan : Bool) → 0 < times t (cond chan [] (o ∷ [])) → Some (Instr.Recv o) ≡ Some (Instr.Recv t)
-    by true k = absurd (omega arith)
-    by false k = ap (λ k. Some (Instr.Recv k)) (eqb-true o t (one (eqb o t) refl k))
-recv-only script (Some _) t h = absurd (omega arith)
-
-pub marked-stands : (x : Runner) (t : ℕ) → IsLawful x.book → NobodyRuns x.book → ((h : ℕ) → MarkFitsAt x.book.script x.book.state x.book.schedule h)
-    → 0 < mark_count x.book.schedule t → (g : ℕ) × (stands_at x.book.script x.book.state g ≡ Some (Instr.Recv t))
-marked-stands x t lawful nobody fit some =
+pub marked-receiver : (x : Runner) (t : ℕ) → IsLawful x.book → NobodyRuns x.book → ((h : ℕ) → MarkFitsAt x.book.script x.book.state x.book.schedule h)
+    → 0 < mark_count x.book.schedule t → (p : Party) × IsReceiver x.book.script x.book.state t p
+marked-receiver x t lawful nobody fit some =
     let v : BookView = x.book in
     let m : HasMark v.schedule t = has-mark v.schedule t some in
     let marks : marks_at v.schedule m.who ≡ m.marks = marks-option (Some m.marks) v.schedule m.who m.there in
     let has : 0 < times t (marks_at v.schedule m.who) = subst (λ ts. 0 < times t ts) (sym marks) m.marked in
-    (m.who, recv-only v.script (stands_at v.script v.state m.who) t (by_status (status_of v.schedule m.who) refl has (fit m.who)))
+    awaits-receiver v.script v.state t m.who (by_status (status_of v.schedule m.who) refl has (fit m.who))
   where
     by_status : (o : Option RunStatus) → status_of x.book.schedule (has-mark x.book.schedule t some).who ≡ o
         → 0 < times t (marks_at x.book.schedule (has-mark x.book.schedule t some).who)
@@ -139,36 +167,46 @@ pub left-of : (a b : Bool) → (a && b) ≡ true → a ≡ true
 left-of true b e = refl
 left-of false b e = cc
 
-awaits-recv : (script : Script) (s : State) (g t : ℕ) (r : Goroutine) → goroutine_at s g ≡ Some r → awaits script 0 t r ≡ true → stands_at script s g ≡ Some (Instr.Recv t)
+awaits-recv : (script : Script) (s : State) (g t : ℕ) (r : Goroutine) → goroutine_at s g ≡ Some r → awaits script 0 t r ≡ true → (p : Party) × IsReceiver script s t p
 awaits-recv script s g t r there e =
-    let at : (elim (stands script r) as (λ _. Bool) [ None ↦ false | Some i ↦ offers (receives_from t) i ]) ≡ true = right-of (r.world == 0) _ e in
-    ap (λ (o : Option Goroutine). elim o as (λ _. Option Instr) [ None ↦ None | Some r ↦ stands script r ]) there ∙ on (stands script r) at
+    let at : offered_in (stands script r) ≡ true = right-of (r.world == 0) (offered_in (stands script r)) e in
+    on (stands script r) refl at
   where
-    on : (o : Option Instr) → (elim o as (λ _. Bool) [ None ↦ false | Some i ↦ offers (receives_from t) i ]) ≡ true → o ≡ Some (Instr.Recv t)
-    on None h = cc
-    on (Some i) h = ap Some (receives-recv i t h)
+    offered_in : Option Instr → Bool
+    offered_in o = elim o as (λ _. Bool) [ None ↦ false | Some i ↦ offers (receives_from t) i ]
 
-pub awaited-stands : (script : Script) (s : State) (t : ℕ) → is_awaited script s 0 t ≡ true → (g : ℕ) × (stands_at script s g ≡ Some (Instr.Recv t))
-awaited-stands script s t e =
+    on : (o : Option Instr) → stands script r ≡ o → offered_in o ≡ true → (p : Party) × IsReceiver script s t p
+    on None is h = cc
+    on (Some i) is h =
+        let from : ReceivesFrom i t = receives-recv i t h in (
+          record { g = g; case_no = from.case_no },
+          record { instr = i; stands = ap (λ (o : Option Goroutine). elim o as (λ _. Option Instr) [ None ↦ None | Some r ↦ stands script r ]) there ∙ is; has = from.has },
+        )
+
+pub awaited-receiver : (script : Script) (s : State) (t : ℕ) → is_awaited script s 0 t ≡ true → (p : Party) × IsReceiver script s t p
+awaited-receiver script s t e =
     let found = any-found (awaits script 0 t) s.goroutines e in
-    (found.0, awaits-recv script s found.0 t found.1.0 found.1.1 found.1.2)
+    awaits-recv script s found.0 t found.1.0 found.1.1 found.1.2
 
-pub stands-awaited : (v : BookView) (g t : ℕ) → IsLawful v → stands_at v.script v.state g ≡ Some (Instr.Recv t) → is_awaited v.script v.state 0 t ≡ true
-stands-awaited v g t lawful e =
-    let st : Standing v.script v.state g (Instr.Recv t) = standing v.script v.state g (Instr.Recv t) e in
-    let world : st.who.world ≡ 0 = lawful.formed.world.goroutines g st.who st.there in
-    let on : stands v.script st.who ≡ Some (Instr.Recv t) =
-    ap (λ (o : Option Goroutine). elim o as (λ _. Option Instr) [ None ↦ None | Some r ↦ stands v.script r ]) (sym st.there) ∙ e in
-    any-numbered (awaits v.script 0 t) v.state.goroutines g st.who st.there
-    (rw (eq-eqb st.who.world 0 world) (ap (λ (o : Option Instr). elim o as (λ _. Bool) [ None ↦ false | Some i ↦ offers (receives_from t) i ]) on ∙ eq-eqb t t refl))
+pub receiver-awaited : (v : BookView) (t : ℕ) (p : Party) → IsLawful v → IsReceiver v.script v.state t p → is_awaited v.script v.state 0 t ≡ true
+receiver-awaited v t p lawful at =
+    let st : Standing v.script v.state p.g at.instr = standing v.script v.state p.g at.instr at.stands in
+    let world : st.who.world ≡ 0 = lawful.formed.world.goroutines p.g st.who st.there in
+    let on : stands v.script st.who ≡ Some at.instr =
+    ap (λ (o : Option Goroutine). elim o as (λ _. Option Instr) [ None ↦ None | Some r ↦ stands v.script r ]) (sym st.there) ∙ at.stands in
+    any-numbered (awaits v.script 0 t) v.state.goroutines p.g st.who st.there
+    (rw (eq-eqb st.who.world 0 world) (ap (λ (o : Option Instr). elim o as (λ _. Bool) [ None ↦ false | Some i ↦ offers (receives_from t) i ]) on
+    ∙ offers-operation (receives_from t) at.instr p.case_no (CaseKind.Recv t) at.has (eq-eqb t t refl)))
 
--- whether its party at the plain instruction stands there
-plainly-receiving : (script : Script) (s : State) (g t : ℕ) → stands_at script s g ≡ Some (Instr.Recv t) → is_at script s (plainly g) (receives_from t) ≡ true
-plainly-receiving script s g t e =
-    ap (λ (o : Option Instr). elim (elim o as (λ _. Option CaseKind) [ None ↦ None | Some i ↦ operation i 0 ]) as (λ _. Bool) [ None ↦ false | Some kind ↦ receives_from t kind ]) e ∙ eq-eqb t t refl
+-- whether it stands there
+receiver-receiving : (script : Script) (s : State) (t : ℕ) (p : Party) → IsReceiver script s t p → is_at script s p (receives_from t) ≡ true
+receiver-receiving script s t p at =
+    let there : operation_at script s p ≡ Some (CaseKind.Recv t) =
+    ap (λ (o : Option Instr). elim o as (λ _. Option CaseKind) [ None ↦ None | Some i ↦ operation i p.case_no ]) at.stands ∙ at.has in
+    ap (λ (o : Option CaseKind). elim o as (λ _. Bool) [ None ↦ false | Some kind ↦ receives_from t kind ]) there ∙ eq-eqb t t refl
 
-pub parked-there : (v : BookView) (g t : ℕ) → IsLawful v → NobodyRuns v → stands_at v.script v.state g ≡ Some (Instr.Recv t) → is_parked_at v.script v.state v.schedule (plainly g) (receives_from t) ≡ true
-parked-there v g t lawful nobody e =
-    let w : IsWaiting v g t = waiting v g t lawful nobody e in
-    let known : is_parked (status_of v.schedule g) ≡ true = ap is_parked w.parked in
-    rw (known, plainly-receiving v.script v.state g t e) refl
+pub receiver-parked : (v : BookView) (t : ℕ) (p : Party) → IsLawful v → NobodyRuns v → IsReceiver v.script v.state t p → is_parked_at v.script v.state v.schedule p (receives_from t) ≡ true
+receiver-parked v t p lawful nobody at =
+    let waits = waiting v p.g at.instr lawful nobody at.stands in
+    let known : is_parked (status_of v.schedule p.g) ≡ true = ap is_parked waits.1 in
+    rw (known, receiver-receiving v.script v.state t p at) refl

@@ -1,22 +1,23 @@
 -- What a whole call of a goroutine in hand needs, and what it leaves.
-use Rattle.std.specs.Prelude.{ℕ, ◌≡◌, ◌⊎◌, Bool, true, [], length, slice_get}
+use Rattle.std.specs.Prelude.{ℕ, ◌≡◌, ◌⊎◌, Bool, true, false, List, [], ◌∷◌, ◌++◌, length, slice_get}
 use Rattle.std.specs.declared.option.Option.{Option}
 use Rattle.std.specs.declared.option.Option.TheVariants.{None, Some}
-use Rattle.gt_model.specs.declared.script.Instr.{Instr}
 use Rattle.gt_model.specs.declared.entry.Entry.{Entry}
-use Rattle.gt_model.specs.Script.{is_timer}
+use Rattle.gt_model.specs.declared.entry.Party.{Party}
 use Rattle.gt_model.specs.Tables.{numbered}
+use Rattle.gt_model.specs.declared.script.Instr.{Instr}
 use Rattle.gt_rules.specs.State.{stands_at}
 use Rattle.gt_rec.specs.Rec.{Rec}
 use Rattle.gt_schedule.specs.declared.status.Ticket.{Ticket}
-use Rattle.gt_schedule.specs.Schedule.{plainly, marked, IsLive}
+use Rattle.gt_schedule.specs.Schedule.{marked, IsLive}
 use Rattle.gt_book.specs.declared.step.Step.{Step}
 use Rattle.gt_book.specs.declared.answers.TimerOp.{TimerOp}
-use Rattle.gt_book.specs.View.{BookView, Enters, IsLawful, outcome_of, with_schedule}
+use Rattle.gt_book.specs.View.{BookView, Enters, IsLawful, outcome_of, receiver_of, with_schedule}
 use Rattle.gt_rows.specs.Rows.{next_of}
 use Rattle.gt_runner.specs.declared.runner.Runner.{Runner}
 use Rattle.gt_runner.specs.Run.{IsAlone, Goes}
-use Rattle.gt_runner.specs.Served.{IsWatched, IsServed, IsServedBut}
+use Rattle.gt_runner.specs.Served.{IsWatched, IsServed, IsServedBut, awaited_by}
+use Rattle.gt_runner.specs.Serves.{ButMarks}
 
 -- a record of the run that is watched
 pub record HasRecord (x : Runner) (id : ℕ) : Type 0 where
@@ -44,32 +45,59 @@ pub record WantsSet (b : BookView) (g t : ℕ) : Type 0 where
   pub anew : Bool
   pub wants : next_of b g ≡ Some (Step.Needs (TimerOp.Set t d anew))
 
--- a run in which g was parked at a receive from timer t, and is not counted there yet
-pub record IsEnrolled (x : Runner) (ticket : Ticket) (t : ℕ) : Type 0 where
+-- A run in which the goroutine of a ticket was parked among these timers: it is counted at those that are done, in their order, and not at those that are left
+pub record IsCounting (x : Runner) (ticket : Ticket) (done left : List ℕ) : Type 0 where
   pub but : IsServedBut x ticket.g
   pub lawful : IsLawful x.book
   pub marks_many : length x.book.schedule.marks ≡ length x.book.schedule.statuses
   pub live : IsLive x.book.schedule ticket
-  pub waits : stands_at x.book.script x.book.state ticket.g ≡ Some (Instr.Recv t)
-  pub timer : is_timer x.book.script t ≡ true
-  pub unmarked : numbered x.book.schedule.marks ticket.g ≡ Some []
   pub running : outcome_of x.book ≡ None
+  pub instr : Instr
+  pub stands : stands_at x.book.script x.book.state ticket.g ≡ Some instr
+  pub awaits : awaited_by x.book.script x.book.state ticket.g ≡ done ++ left
+  pub marked : numbered x.book.schedule.marks ticket.g ≡ Some done
 
--- it is counted, or has received
-abbrev pub CountedOrGone : BookView → ℕ → ℕ → BookView → Type 0
-CountedOrGone old g t new = (new ≡ with_schedule old (marked old.schedule g t)) ⊎ ((due : ℕ) × ((next : Option ℕ) × Enters old (Entry.TRecv (plainly g) t due next) new))
+-- timer t is the next at which it has to be counted
+pub record IsEnrolled (x : Runner) (ticket : Ticket) (t : ℕ) : Type 0 where
+  pub done : List ℕ
+  pub left : List ℕ
+  pub counting : IsCounting x ticket done (t ∷ left)
 
-pub record Enrols (x x' : Runner) (g t : ℕ) : Type 0 where
-  pub does : CountedOrGone x.book g t x'.book
+-- it is counted there
+pub record IsCounted (x x' : Runner) (g t : ℕ) : Type 0 where
+  pub book_is : x'.book ≡ with_schedule x.book (marked x.book.schedule g t)
+  pub but : IsServedBut x' g
+
+-- it has received
+pub record HasReceived (x x' : Runner) (g t : ℕ) : Type 0 where
+  pub due : ℕ
+  pub next : Option ℕ
+  pub entered : Enters x.book (Entry.TRecv (receiver_of x.book.script x.book.state g t) t due next) x'.book
   pub served : IsServed x'
 
--- the goroutine of a ticket waits at some timer, and is not counted there yet
-abbrev pub WaitsSomewhere : Runner → Ticket → Type 0
-WaitsSomewhere x ticket = (t : ℕ) × IsEnrolled x ticket t
+-- by whether it waits still
+abbrev pub Enrols : Runner → Runner → ℕ → ℕ → Bool → Type 0
+Enrols x x' g t true = IsCounted x x' g t
+Enrols x x' g t false = HasReceived x x' g t
 
--- and is counted then, or has received
-abbrev pub EnrolsSomewhere : Runner → Runner → ℕ → Type 0
-EnrolsSomewhere x x' g = (t : ℕ) × (Enrols x x' g t × (stands_at x.book.script x.book.state g ≡ Some (Instr.Recv t)))
+-- it is counted at no timer yet
+abbrev pub IsUncounted : Runner → Ticket → Type 0
+IsUncounted x ticket = IsCounting x ticket [] (awaited_by x.book.script x.book.state ticket.g)
+
+-- an entry of a party after marks alone may have changed
+pub record ReceivesAfter (old new : BookView) : Type 0 where
+  pub mid : BookView
+  pub party : Party
+  pub timer : ℕ
+  pub due : ℕ
+  pub next : Option ℕ
+  pub marks : ButMarks old mid
+  pub entered : Enters mid (Entry.TRecv party timer due next) new
+
+-- the goroutine is counted at each timer where it waits, or has received from one of them
+pub record EnrolsAll (x x' : Runner) : Type 0 where
+  pub does : ButMarks x.book x'.book ⊎ ReceivesAfter x.book x'.book
+  pub served : IsServed x'
 
 -- other records may have been added
 pub record Grows (x x' : Runner) : Type 0 where

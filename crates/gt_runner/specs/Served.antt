@@ -1,17 +1,21 @@
 -- What a run on one worker keeps between two whole calls: its records and its heap agree with the book.
-use Rattle.std.specs.Prelude.{ℕ, ◌+◌, ◌<◌, ◌≤◌, ◌≡◌, ◌≢◌, min, nat_lt, cond, ◌&&◌, true, Bool, List, [], ◌∷◌, length, slice_get, count_by, is_some, IsSome, IsSomeAnd}
+use Rattle.std.specs.Prelude.{ℕ, ◌+◌, ◌<◌, ◌≤◌, ◌≡◌, ◌≢◌, min, nat_lt, cond, ◌&&◌, true, Bool, List, [], ◌∷◌, length, map, slice_get, count_by, is_some, IsSome, IsSomeAnd}
 use Rattle.std.specs.declared.option.Option.{Option}
 use Rattle.std.specs.declared.option.Option.TheVariants.{None, Some}
 use Rattle.gt_model.specs.declared.script.Script.{Script}
 use Rattle.gt_model.specs.declared.script.Instr.{Instr}
+use Rattle.gt_model.specs.declared.script.Case.{Case}
+use Rattle.gt_model.specs.declared.script.CaseKind.{CaseKind}
+use Rattle.std.specs.List.{filter_map}
 use Rattle.gt_rules.specs.State.{State, stands_at}
 use Rattle.gt_rec.specs.declared.RecKind.{RecKind}
 use Rattle.gt_rec.specs.Rec.{Rec, needs_heap, has_channel}
 use Rattle.gt_lazy.specs.Slots.{LazyHeap, slot_with}
-use Rattle.gt_model.specs.Script.{is_timer, is_chan}
+use Rattle.gt_model.specs.Script.{is_timer}
 use Rattle.gt_schedule.specs.Counts.{times}
 use Rattle.gt_schedule.specs.declared.status.RunStatus.{RunStatus}
 use Rattle.gt_schedule.specs.Schedule.{Schedule, status_of, marks_at, mark_count, most_goroutines}
+use Rattle.gt_book.specs.Steps.{timer_of}
 use Rattle.gt_book.specs.View.{BookView}
 use Rattle.gt_rows.specs.Agrees.{kind_by, due_by}
 use Rattle.gt_rows.specs.Lent.{IsKept}
@@ -62,18 +66,23 @@ noted_at noted r = noted_with noted (early_due r)
 
 -- ---- marks
 
--- the timers at whose receive an instruction waits
+-- the receives among which an instruction waits, plainly or as a choice: those of a choice with its sends, in the order of its cases
+abbrev pub operations_of : Instr → List CaseKind
+operations_of (Instr.Recv o) = CaseKind.Recv o ∷ []
+operations_of (Instr.Select cases default_to) = map (λ (c : Case). c.kind) cases
+operations_of _ = []
+
+-- the timers from which it receives, in that order: one that two cases name stands there twice
 abbrev pub timers_of : Script → Instr → List ℕ
-timers_of script (Instr.Recv o) = cond (is_chan script o) [] (o ∷ [])
-timers_of script _ = []
+timers_of script i = filter_map (timer_of script) (operations_of i)
 
 abbrev pub awaited_by : Script → State → ℕ → List ℕ
 awaited_by script s g = elim (stands_at script s g) [ None ↦ [] | Some i ↦ timers_of script i ]
 
--- who is parked is marked at the timers at which it waits; who is to be taken may have a mark still; nobody else has one
+-- who is parked is marked at each timer at which it waits; who is to be taken may have its marks still; nobody else has one
 abbrev pub MarkFits : List ℕ → List ℕ → Option RunStatus → Type 0
 MarkFits marks awaited (Some (RunStatus.Parked since)) = marks ≡ awaited
-MarkFits marks awaited (Some RunStatus.Queued) = length marks ≤ 1
+MarkFits marks awaited (Some RunStatus.Queued) = length marks ≤ 16
 MarkFits marks awaited (Some RunStatus.InHand) = marks ≡ []
 MarkFits marks awaited (Some RunStatus.Ended) = marks ≡ []
 MarkFits marks awaited None = marks ≡ []

@@ -6,7 +6,7 @@ use Rattle.gt_rec.specs.Rec.{Rec}
 use Rattle.gt_lazy.specs.Slots.{StandsAt}
 use Rattle.gt_lazy.specs.Running.{is_stale}
 use Rattle.gt_schedule.specs.declared.status.RunStatus.{RunStatus}
-use Rattle.gt_schedule.specs.Schedule.{Schedule, status_of, marks_at}
+use Rattle.gt_schedule.specs.Schedule.{Schedule, status_of}
 use Rattle.gt_book.specs.Least.{NobodyRuns}
 use Rattle.gt_book.specs.View.{BookView, IsLawful, outcome_of, with_schedule}
 use Rattle.gt_runner.specs.declared.runner.Runner.{Runner}
@@ -18,7 +18,6 @@ pub record IsTaken (x : Runner) (g : ℕ) : Type 0 where
   pub but : IsServedBut x g
   pub marks_many : length x.book.schedule.marks ≡ length x.book.schedule.statuses
   pub in_hand : status_of x.book.schedule g ≡ Some RunStatus.InHand
-  pub few : length (marks_at x.book.schedule g) ≤ 1
 
 -- the marks alone may have changed
 pub record ButMarks (b b' : BookView) : Type 0 where

@@ -1,19 +1,20 @@
 //! One whole call of a goroutine in hand.
 
-ghost use Rattle.std.specs.Prelude.{◌≡◌, ◌+◌, ◌^◌, ◌<◌, ◌≤◌, length, Some, None, [], IsSome};
+ghost use Rattle.std.specs.Prelude.{◌≡◌, ◌+◌, ◌^◌, ◌<◌, ◌≤◌, length, slice_get, Some, None, [], IsSome};
 ghost use Rattle.gt_book.specs.declared.answers.TimerOp.{TimerOp};
 ghost use Rattle.gt_book.specs.declared.step.Step.{Step};
 ghost use Rattle.gt_rows.specs.Rows.{next_of};
 ghost use Rattle.gt_runner.specs.Served as served;
-ghost use Rattle.gt_runner.specs.Served.{IsTended, IsServed, record_count};
-ghost use Rattle.gt_runner.specs.Calls.{Ready, After, WantsSet, IsSleep, IsEnrolled, WaitsSomewhere, Enrols, EnrolsSomewhere, Grows};
+ghost use Rattle.gt_runner.specs.Served.{IsTended, IsServed, operations_of, record_count};
+ghost use Rattle.gt_runner.specs.Calls.{Ready, After, WantsSet, IsSleep, IsEnrolled, Enrols, IsUncounted, EnrolsAll, Grows};
 
 use crate::runner::Runner;
-use gt_book::{Did, TimerOp};
-use gt_chtimer::{sec_block, sec_set, sec_stop};
+use gt_book::{Did, TimerOp, timer_of};
+use gt_chtimer::{sec_block, sec_recv, sec_set, sec_stop};
 use gt_fire::sec_sleep;
-use gt_model::Instr;
+use gt_model::{CaseKind, Instr};
 use gt_rec::{RecKind, TimerRec};
+use gt_rows::BlockDone;
 use gt_schedule::Ticket;
 
 /// What is noted, once the due time of a record is noted too where its heap has it under a later one.
@@ -86,29 +87,56 @@ fn sleep(run: &mut Runner, g: u32)
     run.noted = noted_at(run.noted, run.records.at(id as usize));
 }
 
-/// Is counted among those that wait at timer `t`, or receives at once.
-fn block(run: &mut Runner, ticket: Ticket, t: u32)
+/// Receives from timer `t`, whose value has come, as a case of a choice with a default.
+fn poll(run: &mut Runner, g: u32, t: u32)
+    requires ready { Ready run.old g }
+    requires wants { next_of run.old.book g ≡ Some (Step.Needs (TimerOp.Poll t)) }
+    ensures { After run.old run.new g }
+{
+    let _done = sec_recv(run.records.at_mut(t as usize), &mut run.book, g);
+}
+
+/// Is counted among those that wait at timer `t`, or receives at once. The answer is whether it waits.
+fn block(run: &mut Runner, ticket: Ticket, t: u32) -> bool
     requires enrolled { IsEnrolled run.old ticket t }
-    ensures { Enrols run.old run.new ticket.g t }
+    ensures { Enrols run.old run.new ticket.g t result }
 {
     run.book.lawful();
-    let _done = sec_block(
+    let done = sec_block(
         &mut run.heap,
         run.records.at_mut(t as usize),
         &mut run.book,
         ticket,
     );
     run.noted = noted_at(run.noted, run.records.at(t as usize));
+    matches!(done, BlockDone::Blocked { .. })
 }
 
-/// Is counted where it waits, or receives at once.
+/// The operation at this place among those at which an instruction waits, counted from 0.
+fn operation_in(instr: &Instr, k: usize) -> Option<CaseKind>
+    ensures { result ≡ slice_get (operations_of instr.now) k }
+{
+    match instr {
+        Instr::Recv { o } if k == 0 => Some(CaseKind::Recv(*o)),
+        Instr::Select { cases, .. } => Some(cases.as_slice().get(k)?.kind),
+        _ => None,
+    }
+}
+
+/// Is counted at each timer where it waits, in the order of its cases, or receives at once.
 fn wait(run: &mut Runner, ticket: Ticket)
-    requires enrolled { WaitsSomewhere run.old ticket }
-    ensures { EnrolsSomewhere run.old run.new ticket.g }
+    requires uncounted { IsUncounted run.old ticket }
+    ensures { EnrolsAll run.old run.new }
 {
     run.book.lawful();
-    if let Instr::Recv { o } = *run.book.instr_of(ticket.g) {
-        block(run, ticket, o);
+    let mut k = 0;
+    while let Some(kind) = operation_in(run.book.instr_of(ticket.g), k) {
+        if let Some(t) = timer_of(run.book.script(), kind) {
+            if !block(run, ticket, t) {
+                return;
+            }
+        }
+        k += 1;
     }
 }
 
@@ -125,6 +153,7 @@ pub fn call(run: &mut Runner, g: u32)
         TimerOp::Set { t, .. } => set(run, g, t),
         TimerOp::Stop(t) => stop(run, g, t),
         TimerOp::Sleep(_) => sleep(run, g),
+        TimerOp::Poll(t) => poll(run, g, t),
         TimerOp::Enrolled(ticket) => wait(run, ticket),
     }
 }

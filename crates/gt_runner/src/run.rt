@@ -29,7 +29,7 @@ fn unblock(run: &mut Runner, g: u32)
     ensures served { IsServed run.new }
     ensures marks { ButMarks run.old.book run.new.book }
 {
-    if let Some(t) = run.book.next_blocked(g) {
+    while let Some(t) = run.book.next_blocked(g) {
         sec_unblock(run.records.at_mut(t as usize), &mut run.book, g);
     }
 }

@@ -1,15 +1,18 @@
 -- How many items pass a test where one of them is changed or added, and that a scheduler keeps its counts.
-use Rattle.std.proofs.Common.{◌≡◌, ℕ, zero, suc, ◌+◌, ◌-◌, ◌^◌, ◌<◌, ◌≤◌, Bool, true, false, cond, IsTrue, List, [], ◌∷◌, length, set, Option, Some, None, IsSome, slice_get, count_by, refl, sym, ap, ◌∙◌, arith}
+use Rattle.std.proofs.Common.{◌≡◌, ℕ, zero, suc, ◌+◌, ◌-◌, ◌^◌, ◌<◌, ◌≤◌, Bool, true, false, cond, IsTrue, List, [], ◌∷◌, length, set, Option, Some, None, IsSome, is_some, slice_get, count_by, refl, sym, ap, subst, ◌∙◌, inl, inr, arith}
 use Rattle.std.proofs.lemmas.List.Sums.{count_by-le-length, sum_by-append}
 use Rattle.gt_model.specs.Tables.{numbered, change, change_numbered}
 use Rattle.gt_model.proofs.Changes.{length-change_numbered}
 use Rattle.gt_model.proofs.Tables.{change_numbered-set}
+use Rattle.gt_model.proofs.Items.{numbered-change_same, numbered-change_other}
+use Rattle.gt_select.specs.Waiting.{ticket_of}
+use Rattle.std.proofs.lemmas.Bool.{cases_eq, false≢true}
 use Rattle.gt_schedule.specs.declared.status.RunStatus.{RunStatus}
 use Rattle.gt_schedule.specs.declared.scheduler.Scheduler.{Scheduler}
 use Rattle.gt_schedule.specs.Counts.{as_number}
 use Rattle.gt_room.specs.Contents.{Contents}
 use Rattle.gt_schedule.specs.Schedule.{status_of, is_parked, is_in_hand, in_hand}
-use Rattle.gt_schedule.specs.Scheduler.{schedule_of, capacity, IsScheduler}
+use Rattle.gt_schedule.specs.Scheduler.{schedule_of, capacity, HoldParked, IsScheduler}
 
 cond-as_number : (b : Bool) → cond b 1 0 ≡ as_number b
 cond-as_number true = refl
@@ -101,13 +104,17 @@ running-some m g kept is =
     let some : 0 < in_hand (schedule_of m) = count-numbered counts_hand m.statuses.items g RunStatus.InHand RunStatus.Ended is refl refl in
     omega arith
 
--- m is n with the status of g changed, and as many in hand as that means
+-- n is m with the status of g changed, and as many in hand as that means; nobody has a new ticket, and g has one only if it is parked now
 pub record Marks (m n : Scheduler) (g : ℕ) (was status : RunStatus) : Type 0 where
   pub at : status_of (schedule_of m) g ≡ Some was
   pub items : n.statuses.items ≡ change_numbered m.statuses.items g (λ _. status)
   pub spare : n.statuses.spare ≡ m.statuses.spare
-  pub members : n.queues.members ≡ m.queues.members
-  pub queues : length n.queues.queues ≡ length m.queues.queues
+  pub members : n.run_queue.members ≡ m.run_queue.members
+  pub queues : length n.run_queue.queues ≡ length m.run_queue.queues
+  pub goroutines : n.waiters.goroutines ≡ m.waiters.goroutines
+  pub lists : length n.waiters.lists ≡ length m.waiters.lists
+  pub tickets : (h : ℕ) → IsSome (ticket_of n.waiters h) → IsSome (ticket_of m.waiters h)
+  pub own : IsSome (ticket_of n.waiters g) → is_parked (Some status) ≡ true
   pub declared : n.declared ≡ m.declared
   pub running : n.running + as_number (is_in_hand (Some was)) ≡ m.running + as_number (is_in_hand (Some status))
   pub parks : m.parks ≤ 2 ^ 64 - 1 → n.parks ≤ 2 ^ 64 - 1
@@ -119,6 +126,31 @@ room-marks old new g status items spare =
     let long : length new.items ≡ length old.items = ap length items ∙ length-change_numbered old.items g (λ _. status) in
     omega arith
 
+-- who is not parked has no ticket
+pub no-ticket : (m : Scheduler) (g : ℕ) → HoldParked m → is_parked (status_of (schedule_of m) g) ≡ false → ticket_of m.waiters g ≡ None
+no-ticket m g hold not_parked = none (ticket_of m.waiters g) refl
+  where
+    none : (o : Option ℕ) → ticket_of m.waiters g ≡ o → ticket_of m.waiters g ≡ None
+    none None e = e
+    none (Some turn) e = absurd (false≢true (sym not_parked ∙ hold g (ap is_some e)))
+
+-- so it may take any status where the tickets stay
+pub own-unparked : (m : Scheduler) (g : ℕ) (was status : RunStatus) → HoldParked m → status_of (schedule_of m) g ≡ Some was → is_parked (Some was) ≡ false
+    → IsSome (ticket_of m.waiters g) → is_parked (Some status) ≡ true
+own-unparked m g was status hold at not_parked has = absurd (false≢true (sym (ap is_parked at ∙ not_parked) ∙ hold g has))
+
+hold-marks : (m n : Scheduler) (g : ℕ) (was status : RunStatus) → Marks m n g was status → HoldParked m → HoldParked n
+hold-marks m n g was status marks hold h has =
+    elim (cases_eq h g) [
+      | inl e ↦
+          let now : status_of (schedule_of n) g ≡ Some status = ap (λ xs. numbered xs g) marks.items ∙ numbered-change_same m.statuses.items g (λ _. status) was marks.at in
+          let mine : IsSome (ticket_of n.waiters g) = subst (λ k. IsSome (ticket_of n.waiters k)) e has in
+          ap (λ k. is_parked (status_of (schedule_of n) k)) e ∙ (ap is_parked now ∙ marks.own mine)
+      | inr other ↦
+          let same : status_of (schedule_of n) h ≡ status_of (schedule_of m) h = ap (λ xs. numbered xs h) marks.items ∙ numbered-change_other m.statuses.items g h (λ _. status) other in
+          ap is_parked same ∙ hold h (marks.tickets h has)
+    ]
+
 pub kept-marks : (m n : Scheduler) (g : ℕ) (was status : RunStatus) → Marks m n g was status → IsScheduler m → IsScheduler n
 kept-marks m n g was status marks h =
     let counted : count_by counts_hand (change_numbered m.statuses.items g (λ _. status)) + as_number (is_in_hand (Some was)) ≡ in_hand (schedule_of m) + as_number (is_in_hand (Some status)) =
@@ -127,16 +159,19 @@ kept-marks m n g was status marks h =
     let room : capacity n ≡ capacity m = room-marks m.statuses n.statuses g status marks.items marks.spare in
     let before : m.running ≡ in_hand (schedule_of m) = h.running in
     let change : n.running + as_number (is_in_hand (Some was)) ≡ m.running + as_number (is_in_hand (Some status)) = marks.running in
-    let same_queues : length n.queues.queues ≡ length m.queues.queues = marks.queues in
-    let all_queues : length m.queues.queues ≡ m.declared + m.declared + 1 = h.queues in
+    let same_lists : length n.waiters.lists ≡ length m.waiters.lists = marks.lists in
+    let all_lists : length m.waiters.lists ≡ m.declared + m.declared = h.lists in
     let same_names : n.declared ≡ m.declared = marks.declared in
-    let few : capacity m + length m.queues.queues < 2 ^ 32 - 1 = h.few in
+    let few : capacity m + length m.waiters.lists < 2 ^ 32 - 2 = h.few in
     record {
       running = omega arith;
       members = marks.members ∙ (h.members ∙ ap (λ k. k + 1) (sym room));
-      queues = omega arith;
+      queues = marks.queues ∙ h.queues;
+      goroutines = marks.goroutines ∙ (h.goroutines ∙ sym room);
+      lists = omega arith;
       few = omega arith;
       parks = marks.parks h.parks;
-      marks = ap (λ (r : Contents (Option ℕ)). length r.items) marks.marks ∙ (h.marks ∙ sym (ap length marks.items ∙ length-change_numbered m.statuses.items g (λ _. status)));
-      mark_room = ap (λ (r : Contents (Option ℕ)). length r.items + r.spare) marks.marks ∙ (h.mark_room ∙ sym room);
+      tickets = hold-marks m n g was status marks h.tickets;
+      marks = ap (λ (r : Contents (List ℕ)). length r.items) marks.marks ∙ (h.marks ∙ sym (ap length marks.items ∙ length-change_numbered m.statuses.items g (λ _. status)));
+      mark_room = ap (λ (r : Contents (List ℕ)). length r.items + r.spare) marks.marks ∙ (h.mark_room ∙ sym room);
     }

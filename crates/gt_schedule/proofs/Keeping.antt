@@ -1,24 +1,30 @@
--- What the queues of a scheduler mean, after a change.
-use Rattle.std.proofs.Common.{◌≡◌, ℕ, zero, suc, ◌+◌, ◌<◌, ◌≤◌, true, false, List, [], ◌∷◌, ◌++◌, length, set, map, take, drop, replicate, ◌-◌, min, Option, Some, None, slice_get, refl, sym, ap, subst, ◌∙◌, arith, inl, inr}
+-- What the run queue and the lists of a scheduler mean, after a change.
+use Rattle.std.proofs.Common.{◌≡◌, ◌≢◌, ℕ, zero, suc, ◌+◌, ◌<◌, ◌≤◌, ◌^◌, true, false, List, [], ◌∷◌, ◌++◌, length, set, map, take, drop, get_or, replicate, ◌-◌, min, Option, Some, None, IsSome, is_some, Bool, count_by, length-append, refl, sym, ap, subst, ◌∙◌, arith, inl, inr}
 use Rattle.std.specs.List.{Contains}
-use Rattle.std.specs.Option.{option_map}
-use Rattle.std.proofs.lemmas.Bool.{cases_eq, cases_lt, eq-eqb, ne_eqb}
-use Rattle.std.proofs.lemmas.List.{get_or-set_same, get_or-set_other, get_or-take, get_or-drop, take-set-le, drop-set-lt, drop-set-add, take-map, drop-map, take-replicate, drop-replicate, length-take, length-map}
+use Rattle.std.proofs.lemmas.Bool.{cases_eq, cases_lt, ne_eqb, false≢true}
+use Rattle.std.proofs.lemmas.List.{get_or-set_same, get_or-set_other, get_or-take, get_or-drop, get_or_past, set-get_or, take-set-le, drop-set-lt, drop-set-add, take-map, drop-map, take-replicate, drop-replicate, length-take, length-set}
 use Rattle.std.proofs.Math.Seq.{take-set-lt}
 use Rattle.std.proofs.lemmas.Option.{slice_get_within}
 use Rattle.gt_model.specs.declared.script.Script.{Script}
+use Rattle.gt_model.specs.declared.script.Case.{Case}
 use Rattle.gt_model.specs.declared.script.CaseKind.{CaseKind}
 use Rattle.gt_model.specs.declared.entry.Party.{Party}
 use Rattle.gt_model.specs.Tables.{numbered, change_numbered}
-use Rattle.gt_queue.specs.Contents.{waiting_in, IsWaiting, without}
-use Rattle.gt_queue.proofs.Members.{Contains-without, without-absent}
+use Rattle.gt_model.proofs.Items.{numbered-change_same, numbered-next, numbered-push_other}
+use Rattle.gt_queue.specs.Contents as queue
+use Rattle.gt_queue.specs.Contents.{waiting_in, IsWaiting}
+use Rattle.gt_queue.proofs.Members.{Contains-nil}
+use Rattle.gt_select.specs.Waiting.{Waiting, IsLawful, MayEnrol, MayWait, ticket_of, parties_in, nobody_waits, enrolled, joined, gone}
+use Rattle.gt_select.proofs.Tickets.{none-replicate}
+use Rattle.gt_select.proofs.Callers.{MayWait-enrolled}
 use Rattle.gt_schedule.specs.declared.status.RunStatus.{RunStatus}
 use Rattle.gt_schedule.specs.declared.scheduler.Scheduler.{Scheduler}
-use Rattle.gt_schedule.specs.Counts.{as_number, times, often}
-use Rattle.gt_schedule.specs.Schedule.{Schedule, plainly, status_of, first_schedule, is_parked, is_queued, parties_at, without_goroutine, joins, waiting_at, object_of, unparked, RunsQueued}
-use Rattle.gt_schedule.specs.Scheduler.{schedule_of, queue_of, mark_of, IsScheduler, IsOrderly}
+use Rattle.gt_schedule.specs.Counts.{as_number, times}
+use Rattle.gt_schedule.specs.Schedule.{Schedule, at_case, waiting_at_cases, parked, status_of, first_schedule, is_parked, is_queued, is_in_hand, parties_at, without_goroutine, waiting_at, object_of, unparked, RunsQueued}
+use Rattle.gt_schedule.specs.Scheduler.{schedule_of, capacity, list_of, HoldParked, IsScheduler}
 use Rattle.gt_room.specs.Contents.{Contents}
-use Rattle.gt_schedule.proofs.Lists.{times-contains, often-plain}
+use Rattle.gt_schedule.proofs.Lists.{times-contains, length-joins}
+use Rattle.gt_schedule.proofs.Counting.{no-ticket, count-cons}
 
 pub schedule-is : (m n : Schedule) → m.statuses ≡ n.statuses → m.run_queue ≡ n.run_queue → m.receivers ≡ n.receivers → m.senders ≡ n.senders → m.parks ≡ n.parks
     → m.marks ≡ n.marks → m ≡ n
@@ -30,274 +36,302 @@ schedule-is m n statuses run receivers senders parks marks =
     ∙ (ap (λ x. record m { statuses = n.statuses; run_queue = n.run_queue; receivers = n.receivers; senders = n.senders; parks = x }) parks
     ∙ ap (λ x. record m { statuses = n.statuses; run_queue = n.run_queue; receivers = n.receivers; senders = n.senders; parks = n.parks; marks = x }) marks))))
 
--- ---- who waits in the queues
+-- ---- who waits where
 
 pub numbered-le : {X : Type 0} (xs : List X) (g : ℕ) (x : X) → numbered xs g ≡ Some x → g ≤ length xs
 numbered-le xs zero x e = cc
 numbered-le xs (suc i) x e = let below : i < length xs = slice_get_within xs i x e in omega arith
 
-parties-plain : (queues : List (List ℕ)) (t : ℕ) → parties_at (map (map plainly) queues) t ≡ map plainly (waiting_in queues t)
-parties-plain [] t = refl
-parties-plain (q ∷ qs) zero = refl
-parties-plain (q ∷ qs) (suc t) = parties-plain qs t
-
 -- the parties at a receive from t, and those at a send to it
-pub parties-receivers : (d : ℕ) (queues : List (List ℕ)) (t : ℕ) → t < d → parties_at (map (map plainly) (take d (drop 1 queues))) t ≡ map plainly (waiting_in queues (1 + t))
-parties-receivers d queues t h =
-    parties-plain (take d (drop 1 queues)) t ∙ ap (map plainly) (get_or-take d (drop 1 queues) t [] h ∙ get_or-drop 1 queues t [])
+pub parties-receivers : (d : ℕ) (lists : List (List Party)) (t : ℕ) → t < d → parties_at (take d lists) t ≡ parties_in lists t
+parties-receivers d lists t h = get_or-take d lists t [] h
 
-pub parties-senders : (d : ℕ) (queues : List (List ℕ)) (t : ℕ) → parties_at (map (map plainly) (drop (d + 1) queues)) t ≡ map plainly (waiting_in queues (1 + d + t))
-parties-senders d queues t =
-    let place : (d + 1) + t ≡ 1 + d + t = omega arith in
-    parties-plain (drop (d + 1) queues) t ∙ ap (map plainly) (get_or-drop (d + 1) queues t [] ∙ ap (waiting_in queues) place)
+pub parties-senders : (d : ℕ) (lists : List (List Party)) (t : ℕ) → parties_at (drop d lists) t ≡ parties_in lists (d + t)
+parties-senders d lists t = get_or-drop d lists t []
 
 -- there are no more lists of receivers than names
 pub names-receivers : (m : Scheduler) (t : ℕ) → t < length (schedule_of m).receivers → t < m.declared
 names-receivers m t h =
-    let long : length (schedule_of m).receivers ≡ min m.declared (length (drop 1 m.queues.queues)) =
-    length-map (take m.declared (drop 1 m.queues.queues)) (map plainly) ∙ length-take m.declared (drop 1 m.queues.queues) in
+    let long : length (schedule_of m).receivers ≡ min m.declared (length m.waiters.lists) = length-take m.declared m.waiters.lists in
     omega arith
 
--- nobody stands at a list of parties who stands in the list of a queue, where it is to stand in none
-nowhere-in : (g : ℕ) (waiting : List ℕ) (parties : List Party) → parties ≡ map plainly waiting → often (plainly g) parties ≡ 0 → Contains waiting g → ⊥
-nowhere-in g waiting parties is none h =
-    let some : 0 < times g waiting = times-contains g waiting h in
-    let never : times g waiting ≡ 0 = sym (often-plain g waiting) ∙ (ap (often (plainly g)) (sym is) ∙ none) in
-    omega arith
-
--- who is neither queued nor parked stands in no queue
-pub free-orderly : (m : Scheduler) (g : ℕ) → IsOrderly (schedule_of m) → is_queued (status_of (schedule_of m) g) ≡ false → is_parked (status_of (schedule_of m) g) ≡ false
-    → ¬ IsWaiting m.queues.queues g
-free-orderly m g orderly not_queued not_parked w = nowhere w.0 w.1
+-- who is not queued does not stand in the run queue
+pub free-unqueued : (m : Scheduler) (g : ℕ) → IsScheduler m → RunsQueued (schedule_of m) → is_queued (status_of (schedule_of m) g) ≡ false → ¬ IsWaiting m.run_queue.queues g
+free-unqueued m g kept runs not_queued w = nowhere w.0 w.1
   where
-    behind : (t : ℕ) → Contains (waiting_in m.queues.queues (1 + t)) g → ⊥
-    behind t h =
-        elim (cases_lt t m.declared) [
-          | inl within ↦
-              nowhere-in g (waiting_in m.queues.queues (1 + t)) (parties_at (schedule_of m).receivers t)
-              (parties-receivers m.declared m.queues.queues t within) (orderly.receivers t (plainly g) not_parked) h
-          | inr past ↦
-              let c : ℕ = t - m.declared in
-              let place : 1 + t ≡ 1 + m.declared + c = omega arith in
-              nowhere-in g (waiting_in m.queues.queues (1 + m.declared + c)) (parties_at (schedule_of m).senders c)
-              (parties-senders m.declared m.queues.queues c) (orderly.senders c (plainly g) not_parked)
-              (subst (λ q. Contains (waiting_in m.queues.queues q) g) place h)
-        ]
-
-    nowhere : (q : ℕ) → Contains (waiting_in m.queues.queues q) g → ⊥
+    nowhere : (q : ℕ) → Contains (waiting_in m.run_queue.queues q) g → ⊥
     nowhere zero h =
-        let some : 0 < times g (waiting_in m.queues.queues 0) = times-contains g (waiting_in m.queues.queues 0) h in
-        let none : times g (waiting_in m.queues.queues 0) ≡ 0 = orderly.queued g ∙ ap as_number not_queued in
+        let some : 0 < times g (waiting_in m.run_queue.queues 0) = times-contains g (waiting_in m.run_queue.queues 0) h in
+        let none : times g (waiting_in m.run_queue.queues 0) ≡ 0 = runs g ∙ ap as_number not_queued in
         omega arith
-    nowhere (suc t) h =
-        let place : suc t ≡ 1 + t = omega arith in
-        behind t (subst (λ q. Contains (waiting_in m.queues.queues q) g) place h)
+    nowhere (suc q) h =
+        let one : length m.run_queue.queues ≡ 1 = kept.queues in
+        let past : waiting_in m.run_queue.queues (suc q) ≡ [] = get_or_past m.run_queue.queues (suc q) [] (omega arith) in
+        Contains-nil g (subst (λ xs. Contains xs g) past h)
 
--- ---- the queues after one has changed
-
-waiting-map : (g : ℕ) (queues : List (List ℕ)) (q : ℕ) → waiting_in (map (λ waiting. without waiting g) queues) q ≡ without (waiting_in queues q) g
-waiting-map g [] q = refl
-waiting-map g (x ∷ xs) zero = refl
-waiting-map g (x ∷ xs) (suc q) = waiting-map g xs q
-
--- who has left all queues waits for nothing
-pub free-without : (g : ℕ) (queues : List (List ℕ)) → ¬ IsWaiting (map (λ waiting. without waiting g) queues) g
-free-without g queues w = (Contains-without g g (waiting_in queues w.0) (rw (waiting-map g queues w.0) at w.1)).1 refl
-
-pub length-without : (g : ℕ) (queues : List (List ℕ)) → length (map (λ waiting. without waiting g) queues) ≡ length queues
-length-without g [] = refl
-length-without g (x ∷ xs) = ap suc (length-without g xs)
-
-plain-set : (queues : List (List ℕ)) (t : ℕ) (xs : List ℕ) → map (map plainly) (set queues t xs) ≡ set (map (map plainly) queues) t (map plainly xs)
-plain-set [] t xs = refl
-plain-set (q ∷ qs) zero xs = refl
-plain-set (q ∷ qs) (suc t) xs = ap (λ ys. map plainly q ∷ ys) (plain-set qs t xs)
-
-plain-push : (xs : List ℕ) (g : ℕ) → map plainly (xs ++ g ∷ []) ≡ map plainly xs ++ plainly g ∷ []
-plain-push [] g = refl
-plain-push (x ∷ xs) g = ap (λ ys. plainly x ∷ ys) (plain-push xs g)
-
--- the first queues behind the run queue
-receivers-set_in : (d : ℕ) (queues : List (List ℕ)) (t : ℕ) (xs : List ℕ) → t < d → take d (drop 1 (set queues (1 + t) xs)) ≡ set (take d (drop 1 queues)) t xs
-receivers-set_in d queues t xs h = ap (take d) (drop-set-add 1 queues t xs) ∙ take-set-lt d (drop 1 queues) t xs h
-
-receivers-set_past : (d : ℕ) (queues : List (List ℕ)) (t : ℕ) (xs : List ℕ) → d ≤ t → take d (drop 1 (set queues (1 + t) xs)) ≡ take d (drop 1 queues)
-receivers-set_past d queues t xs h = ap (take d) (drop-set-add 1 queues t xs) ∙ take-set-le d (drop 1 queues) t xs h
-
--- a goroutine joins the queue of those at an operation
-abbrev enqueued : List (List ℕ) → ℕ → ℕ → List (List ℕ)
-enqueued queues q g = set queues q (waiting_in queues q ++ g ∷ [])
-
-joined-run : (queues : List (List ℕ)) (t g : ℕ) → waiting_in (enqueued queues (1 + t) g) 0 ≡ waiting_in queues 0
-joined-run queues t g = get_or-set_other queues (1 + t) 0 (waiting_in queues (1 + t) ++ g ∷ []) [] (λ e. absurd (omega arith))
-
-joined-plain : (lists queues : List (List ℕ)) (t q g : ℕ) → parties_at (map (map plainly) lists) t ≡ map plainly (waiting_in queues q)
-    → map (map plainly) (set lists t (waiting_in queues q ++ g ∷ [])) ≡ joins (map (map plainly) lists) t (plainly g)
-joined-plain lists queues t q g is =
-    plain-set lists t (waiting_in queues q ++ g ∷ [])
-    ∙ ap (set (map (map plainly) lists) t) (plain-push (waiting_in queues q) g ∙ ap (λ ys. ys ++ plainly g ∷ []) (sym is))
-
--- n is m with other queues
-abbrev with_queues : Scheduler → List (List ℕ) → Schedule
-with_queues m queues = record (schedule_of m) {
-  run_queue = waiting_in queues 0;
-  receivers = map (map plainly) (take m.declared (drop 1 queues));
-  senders = map (map plainly) (drop (m.declared + 1) queues);
-}
-
-queues-are : (m n : Scheduler) (statuses : List RunStatus) (queues : List (List ℕ)) → n.statuses.items ≡ statuses → n.declared ≡ m.declared → n.parks ≡ m.parks → n.marks ≡ m.marks
-    → n.queues.queues ≡ queues → schedule_of n ≡ record (with_queues m queues) { statuses = statuses }
-queues-are m n statuses queues items declared parks marks is =
-    schedule-is (schedule_of n) (record (with_queues m queues) { statuses = statuses })
-    items
-    (ap (λ q. waiting_in q 0) is)
-    (ap (λ d. map (map plainly) (take d (drop 1 n.queues.queues))) declared ∙ ap (λ q. map (map plainly) (take m.declared (drop 1 q))) is)
-    (ap (λ d. map (map plainly) (drop (d + 1) n.queues.queues)) declared ∙ ap (λ q. map (map plainly) (drop (m.declared + 1) q)) is)
-    parks
-    (ap (λ (r : Contents (Option ℕ)). map mark_of r.items) marks)
-
-joined-at : (m : Scheduler) (g : ℕ) (kind : CaseKind) → object_of kind < m.declared
-    → with_queues m (enqueued m.queues.queues (queue_of m.declared kind) g) ≡ waiting_at (schedule_of m) (plainly g) kind
-joined-at m g (CaseKind.Recv o) within =
-    let qs : List (List ℕ) = m.queues.queues in
-    let d : ℕ = m.declared in
-    let next : Schedule = with_queues m (enqueued qs (1 + o) g) in
-    schedule-is next (waiting_at (schedule_of m) (plainly g) (CaseKind.Recv o))
-    refl
-    (joined-run qs o g)
-    (ap (map (map plainly)) (receivers-set_in d qs o (waiting_in qs (1 + o) ++ g ∷ []) within)
-    ∙ joined-plain (take d (drop 1 qs)) qs o (1 + o) g (parties-receivers d qs o within))
-    (ap (map (map plainly)) (drop-set-lt (d + 1) qs (1 + o) (waiting_in qs (1 + o) ++ g ∷ []) (omega arith)))
-    refl
-    refl
-joined-at m g (CaseKind.Send c v) within =
-    let qs : List (List ℕ) = m.queues.queues in
-    let d : ℕ = m.declared in
-    let xs : List ℕ = waiting_in qs (1 + d + c) ++ g ∷ [] in
-    let next : Schedule = with_queues m (enqueued qs (1 + d + c) g) in
-    let past : 1 + d + c ≡ 1 + (d + c) = omega arith in
-    let place : 1 + d + c ≡ (d + 1) + c = omega arith in
-    schedule-is next (waiting_at (schedule_of m) (plainly g) (CaseKind.Send c v))
-    refl
-    (ap (λ q. waiting_in (enqueued qs q g) 0) past ∙ joined-run qs (d + c) g)
-    (ap (map (map plainly)) (ap (λ q. take d (drop 1 (set qs q xs))) past ∙ receivers-set_past d qs (d + c) xs (omega arith)))
-    (ap (map (map plainly)) (ap (λ q. drop (d + 1) (set qs q xs)) place ∙ drop-set-add (d + 1) qs c xs)
-    ∙ joined-plain (drop (d + 1) qs) qs c (1 + d + c) g (parties-senders d qs c))
-    refl
-    refl
-
--- a goroutine joins those at an operation
-pub joined-is : (m n : Scheduler) (s : Schedule) (g : ℕ) (kind : CaseKind) → schedule_of m ≡ s → object_of kind < length (schedule_of m).receivers
-    → n.statuses ≡ m.statuses → n.declared ≡ m.declared → n.parks ≡ m.parks → n.marks ≡ m.marks
-    → n.queues.queues ≡ set m.queues.queues (queue_of m.declared kind) (waiting_in m.queues.queues (queue_of m.declared kind) ++ g ∷ [])
-    → schedule_of n ≡ waiting_at s (plainly g) kind
-joined-is m n s g kind is within statuses declared parks marks queues =
-    queues-are m n m.statuses.items (enqueued m.queues.queues (queue_of m.declared kind) g) (ap (λ r. r.items) statuses) declared parks marks queues
-    ∙ (joined-at m g kind (names-receivers m (object_of kind) within) ∙ ap (λ (x : Schedule). waiting_at x (plainly g) kind) is)
-
--- ---- a goroutine leaves all queues, and joins the run queue
-
-plain-without : (g : ℕ) (xs : List ℕ) → map plainly (without xs g) ≡ without_goroutine g (map plainly xs)
-plain-without g [] = refl
-plain-without g (x ∷ xs) =
-    elim (cases_eq x g) [
-      | inl e ↦ rw (eq-eqb x g e) (plain-without g xs)
-      | inr n ↦ rw (ne_eqb x g n) (ap (λ ys. plainly x ∷ ys) (plain-without g xs))
-    ]
-
-plain-left : (g : ℕ) (queues : List (List ℕ)) → map (map plainly) (map (λ waiting. without waiting g) queues) ≡ map (without_goroutine g) (map (map plainly) queues)
-plain-left g [] = refl
-plain-left g (x ∷ xs) = ap (λ y. y ∷ map (map plainly) (map (λ waiting. without waiting g) xs)) (plain-without g x) ∙ ap (λ ys. without_goroutine g (map plainly x) ∷ ys) (plain-left g xs)
-
-parked-unqueued : (o : Option RunStatus) → is_parked o ≡ true → is_queued o ≡ false
+pub parked-unqueued : (o : Option RunStatus) → is_parked o ≡ true → is_queued o ≡ false
 parked-unqueued None h = cc
 parked-unqueued (Some RunStatus.Queued) h = cc
 parked-unqueued (Some RunStatus.InHand) h = cc
 parked-unqueued (Some (RunStatus.Parked since)) h = refl
 parked-unqueued (Some RunStatus.Ended) h = cc
 
--- those behind the run queue, at receives and at sends
-left-receivers : (d g : ℕ) (queues : List (List ℕ)) (xs : List ℕ)
-    → map (map plainly) (take d (drop 1 (set (map (λ waiting. without waiting g) queues) 0 xs))) ≡ map (without_goroutine g) (map (map plainly) (take d (drop 1 queues)))
-left-receivers d g queues xs =
-    ap (λ q. map (map plainly) (take d q)) (drop-set-lt 1 (map (λ waiting. without waiting g) queues) 0 xs (omega arith) ∙ drop-map (λ waiting. without waiting g) 1 queues)
-    ∙ (ap (map (map plainly)) (take-map (λ waiting. without waiting g) d (drop 1 queues)) ∙ plain-left g (take d (drop 1 queues)))
+-- ---- a goroutine gets a ticket, and joins those at an operation
 
-left-senders : (d g : ℕ) (queues : List (List ℕ)) (xs : List ℕ)
-    → map (map plainly) (drop (d + 1) (set (map (λ waiting. without waiting g) queues) 0 xs)) ≡ map (without_goroutine g) (map (map plainly) (drop (d + 1) queues))
-left-senders d g queues xs =
-    ap (map (map plainly)) (drop-set-lt (d + 1) (map (λ waiting. without waiting g) queues) 0 xs (omega arith) ∙ drop-map (λ waiting. without waiting g) (d + 1) queues)
-    ∙ plain-left g (drop (d + 1) queues)
+-- one that is in hand can have a ticket
+pub may-enrol : (m : Scheduler) (g : ℕ) (was : RunStatus) → IsScheduler m → status_of (schedule_of m) g ≡ Some was → is_parked (Some was) ≡ false → MayEnrol m.waiters g
+may-enrol m g was kept at not_parked =
+    let most : g ≤ length m.statuses.items = numbered-le m.statuses.items g was at in
+    let room : m.waiters.goroutines ≡ capacity m = kept.goroutines in
+    record {
+      first = first g at;
+      last = omega arith;
+      none = no-ticket m g kept.tickets (ap is_parked at ∙ not_parked);
+    }
+  where
+    first : (h : ℕ) → numbered m.statuses.items h ≡ Some was → 1 ≤ h
+    first zero e = cc
+    first (suc i) e = omega arith
 
-pub unparked-is : (m n : Scheduler) (g : ℕ) → IsScheduler m → RunsQueued (schedule_of m) → is_parked (status_of (schedule_of m) g) ≡ true
-    → n.statuses.items ≡ change_numbered m.statuses.items g (λ _. RunStatus.Queued) → n.declared ≡ m.declared → n.parks ≡ m.parks → n.marks ≡ m.marks
-    → n.queues.queues ≡ set (map (λ waiting. without waiting g) m.queues.queues) 0 (waiting_in (map (λ waiting. without waiting g) m.queues.queues) 0 ++ g ∷ [])
-    → schedule_of n ≡ unparked (schedule_of m) g
-unparked-is m n g kept runs waits statuses declared parks marks queues =
-    let qs : List (List ℕ) = m.queues.queues in
-    let left : List (List ℕ) = map (λ waiting. without waiting g) qs in
-    let none : times g (waiting_in qs 0) ≡ 0 = runs g ∙ ap as_number (parked-unqueued (status_of (schedule_of m) g) waits) in
-    let absent : (Contains (waiting_in qs 0) g → ⊥) = λ h. (let some : 0 < times g (waiting_in qs 0) = times-contains g (waiting_in qs 0) h in omega arith) in
-    let stays : waiting_in left 0 ≡ waiting_in qs 0 = waiting-map g qs 0 ∙ without-absent g (waiting_in qs 0) absent in
-    let same_length : length left ≡ length qs = length-without g qs in
-    let all_queues : length qs ≡ m.declared + m.declared + 1 = kept.queues in
-    let within : 0 < length left = omega arith in
-    let items : List RunStatus = change_numbered m.statuses.items g (λ _. RunStatus.Queued) in
-    queues-are m n items (enqueued left 0 g) statuses declared parks marks queues
-    ∙ schedule-is (record (with_queues m (enqueued left 0 g)) { statuses = items }) (unparked (schedule_of m) g)
+-- one that was in hand is parked after its parking
+pub parked-now : (m n : Schedule) (g : ℕ) → status_of m g ≡ Some RunStatus.InHand → n ≡ parked m g → is_parked (status_of n g) ≡ true
+parked-now m n g at now =
+    ap (λ (s : Schedule). is_parked (status_of s g)) now ∙ ap is_parked (numbered-change_same m.statuses g (λ _. RunStatus.Parked m.parks) RunStatus.InHand at)
+
+-- with its new ticket it may wait at each of its cases, since nobody of it stands in any list
+pub may-wait : (w : Waiting) (g k : ℕ) → IsLawful w → MayEnrol w g → k ≤ 16 → MayWait (enrolled w g) (at_case g k)
+may-wait w g k lawful may few =
+    let size : length w.tickets ≡ w.goroutines + 1 = lawful.goroutines in
+    let last : g ≤ w.goroutines = may.last in
+    MayWait-enrolled w (at_case g k) (omega arith) few (λ list h. false≢true (sym (ap is_some may.none) ∙ lawful.live list (at_case g k) h))
+
+-- it has its ticket while it is parked
+pub kept-enrolled : (m : Scheduler) (g : ℕ) → IsScheduler m → is_parked (status_of (schedule_of m) g) ≡ true → IsScheduler (record m { waiters = enrolled m.waiters g })
+kept-enrolled m g kept at = record {
+  running = kept.running;
+  members = kept.members;
+  queues = kept.queues;
+  goroutines = kept.goroutines;
+  lists = kept.lists;
+  few = kept.few;
+  parks = kept.parks;
+  tickets = holds;
+  marks = kept.marks;
+  mark_room = kept.mark_room;
+}
+  where
+    holds : HoldParked (record m { waiters = enrolled m.waiters g })
+    holds h has =
+        elim (cases_eq h g) [
+          | inl e ↦ ap (λ k. is_parked (status_of (schedule_of m) k)) e ∙ at
+          | inr other ↦ kept.tickets h (subst (λ (o : Option ℕ). IsSome o) (get_or-set_other m.waiters.tickets g h (Some m.waiters.turns) None other) has)
+        ]
+
+-- n is m with other lists
+abbrev with_lists : Scheduler → List (List Party) → Schedule
+with_lists m lists = record (schedule_of m) { receivers = take m.declared lists; senders = drop m.declared lists }
+
+-- a party joins a list
+abbrev joining : List (List Party) → ℕ → Party → List (List Party)
+joining lists list p = set lists list (parties_in lists list ++ p ∷ [])
+
+joined-at : (m : Scheduler) (p : Party) (kind : CaseKind) → object_of kind < m.declared
+    → with_lists m (joining m.waiters.lists (list_of m.declared kind) p) ≡ waiting_at (schedule_of m) p kind
+joined-at m p (CaseKind.Recv o) within =
+    let lists : List (List Party) = m.waiters.lists in
+    let d : ℕ = m.declared in
+    let xs : List Party = parties_in lists o ++ p ∷ [] in
+    schedule-is (with_lists m (joining lists o p)) (waiting_at (schedule_of m) p (CaseKind.Recv o))
     refl
-    (get_or-set_same left 0 (waiting_in left 0 ++ g ∷ []) [] within ∙ ap (λ xs. xs ++ g ∷ []) stays)
-    (left-receivers m.declared g qs (waiting_in left 0 ++ g ∷ []))
-    (left-senders m.declared g qs (waiting_in left 0 ++ g ∷ []))
+    refl
+    (take-set-lt d lists o xs within ∙ ap (λ ps. set (take d lists) o (ps ++ p ∷ [])) (sym (parties-receivers d lists o within)))
+    (drop-set-lt d lists o xs within)
     refl
     refl
+joined-at m p (CaseKind.Send c v) within =
+    let lists : List (List Party) = m.waiters.lists in
+    let d : ℕ = m.declared in
+    let xs : List Party = parties_in lists (d + c) ++ p ∷ [] in
+    schedule-is (with_lists m (joining lists (d + c) p)) (waiting_at (schedule_of m) p (CaseKind.Send c v))
+    refl
+    refl
+    (take-set-le d lists (d + c) xs (omega arith))
+    (drop-set-add d lists c xs ∙ ap (λ ps. set (drop d lists) c (ps ++ p ∷ [])) (sym (parties-senders d lists c)))
+    refl
+    refl
+
+pub joined-is : (m : Scheduler) (w : Waiting) (p : Party) (kind : CaseKind) → object_of kind < length (schedule_of m).receivers
+    → w ≡ joined m.waiters (list_of m.declared kind) p → schedule_of (record m { waiters = w }) ≡ waiting_at (schedule_of m) p kind
+joined-is m w p kind within now =
+    ap (λ (x : Waiting). schedule_of (record m { waiters = x })) now ∙ joined-at m p kind (names-receivers m (object_of kind) within)
+
+pub kept-joined : (m : Scheduler) (list : ℕ) (p : Party) → IsScheduler m → IsScheduler (record m { waiters = joined m.waiters list p })
+kept-joined m list p kept =
+    let many : length (joining m.waiters.lists list p) ≡ length m.waiters.lists = length-set m.waiters.lists list _ in
+    let few : capacity m + length m.waiters.lists < 2 ^ 32 - 2 = kept.few in
+    record {
+      running = kept.running;
+      members = kept.members;
+      queues = kept.queues;
+      goroutines = kept.goroutines;
+      lists = many ∙ kept.lists;
+      few = omega arith;
+      parks = kept.parks;
+      tickets = kept.tickets;
+      marks = kept.marks;
+      mark_room = kept.mark_room;
+    }
+
+-- ---- a goroutine waits at its cases, one after the other
+
+-- the case at place k is the next one
+pub waits-next : (m : Schedule) (g n k : ℕ) (cases : List Case) (other : Case) → k < length cases
+    → waiting_at_cases m g n (drop k cases) ≡ waiting_at_cases (waiting_at m (at_case g n) (get_or cases k other).kind) g (n + 1) (drop (k + 1) cases)
+waits-next m g n k [] other within = absurd (omega arith)
+waits-next m g n zero (c ∷ cases) other within = refl
+waits-next m g n (suc k) (c ∷ cases) other within =
+    let next : suc (k + 1) ≡ suc k + 1 = omega arith in
+    waits-next m g n k cases other (omega arith)
+    ∙ ap (λ j. waiting_at_cases (waiting_at m (at_case g n) (get_or cases k other).kind) g (n + 1) (drop j (c ∷ cases))) next
+
+pub waits-all : (m : Schedule) (g n k : ℕ) (cases : List Case) → length cases ≤ k → waiting_at_cases m g n (drop k cases) ≡ m
+waits-all m g n zero [] past = refl
+waits-all m g n (suc k) [] past = refl
+waits-all m g n zero (c ∷ cases) past = absurd (omega arith)
+waits-all m g n (suc k) (c ∷ cases) past = waits-all m g n k cases (omega arith)
+
+-- each name has its list of receivers, as before
+pub as_many-receivers : (m : Schedule) (p : Party) (kind : CaseKind) → length (waiting_at m p kind).receivers ≡ length m.receivers
+as_many-receivers m p (CaseKind.Recv o) = length-joins m.receivers o p
+as_many-receivers m p (CaseKind.Send c v) = refl
+
+-- parties at different cases are different
+pub apart-cases : (g j k : ℕ) → j < k → at_case g j ≢ at_case g k
+apart-cases g j k before same =
+    let equal : j ≡ k = ap (λ (p : Party). p.case_no) same in
+    omega arith
+
+-- ---- a new goroutine, and the first one, have no ticket
+
+hold-new : (m n : Scheduler) → HoldParked m → n.waiters ≡ m.waiters → n.statuses.items ≡ m.statuses.items ++ RunStatus.Queued ∷ [] → HoldParked n
+hold-new m n hold waiters items h has =
+    let before : IsSome (ticket_of m.waiters h) = subst (λ (w : Waiting). IsSome (ticket_of w h)) waiters has in
+    elim (cases_eq h (length m.statuses.items + 1)) [
+      | inl e ↦ absurd (false≢true (sym (ap is_parked (numbered-next m.statuses.items h e)) ∙ hold h before))
+      | inr other ↦ ap (λ xs. is_parked (numbered xs h)) items ∙ (ap is_parked (numbered-push_other m.statuses.items RunStatus.Queued h other) ∙ hold h before)
+    ]
+
+-- how many of a list pass a test, and it has one more, at which it fails
+count-push : {X : Type 0} (p : X → Bool) (xs : List X) (x : X) → p x ≡ false → count_by p (xs ++ x ∷ []) ≡ count_by p xs
+count-push p [] x fails = rw fails refl
+count-push p (y ∷ ys) x fails =
+    let rest : count_by p (ys ++ x ∷ []) ≡ count_by p ys = count-push p ys x fails in
+    let before : count_by p (y ∷ ys) ≡ as_number (p y) + count_by p ys = count-cons p y ys in
+    let after : count_by p (y ∷ (ys ++ x ∷ [])) ≡ as_number (p y) + count_by p (ys ++ x ∷ []) = count-cons p y (ys ++ x ∷ []) in
+    omega arith
+
+pub kept-new : (m : Scheduler) (statuses : Contents RunStatus) (run : queue.Contents) (marks : Contents (List ℕ)) → IsScheduler m
+    → statuses.items ≡ m.statuses.items ++ RunStatus.Queued ∷ [] → statuses.spare + 1 ≡ m.statuses.spare
+    → marks.items ≡ m.marks.items ++ [] ∷ [] → marks.spare + 1 ≡ m.marks.spare
+    → run.members ≡ m.run_queue.members → length run.queues ≡ length m.run_queue.queues
+    → IsScheduler (record m { statuses = statuses; run_queue = run; marks = marks })
+kept-new m statuses run marks kept items spare mark_items mark_spare members queues =
+    let n : Scheduler = record m { statuses = statuses; run_queue = run; marks = marks } in
+    let more : length statuses.items ≡ length m.statuses.items + 1 = ap length items ∙ length-append m.statuses.items (RunStatus.Queued ∷ []) in
+    let more_marks : length marks.items ≡ length m.marks.items + 1 = ap length mark_items ∙ length-append m.marks.items ([] ∷ []) in
+    let room : capacity n ≡ capacity m = omega arith in
+    let few : capacity m + length m.waiters.lists < 2 ^ 32 - 2 = kept.few in
+    let as_many : length m.marks.items ≡ length m.statuses.items = kept.marks in
+    let mark_room : length m.marks.items + m.marks.spare ≡ capacity m = kept.mark_room in
+    record {
+      running = kept.running ∙ sym (ap (count_by (λ (status : RunStatus). is_in_hand (Some status))) items ∙ count-push (λ (status : RunStatus). is_in_hand (Some status)) m.statuses.items RunStatus.Queued refl);
+      members = members ∙ (kept.members ∙ ap (λ k. k + 1) (sym room));
+      queues = queues ∙ kept.queues;
+      goroutines = kept.goroutines ∙ sym room;
+      lists = kept.lists;
+      few = omega arith;
+      parks = kept.parks;
+      tickets = hold-new m n kept.tickets refl items;
+      marks = omega arith;
+      mark_room = omega arith;
+    }
+
+pub hold-first : (m : Scheduler) (goroutines lists : ℕ) → m.waiters ≡ nobody_waits goroutines lists → HoldParked m
+hold-first m goroutines lists empty h has =
+    let none : ticket_of m.waiters h ≡ None = ap (λ (w : Waiting). ticket_of w h) empty ∙ none-replicate (goroutines + 1) h in
+    absurd (false≢true (sym (ap is_some none) ∙ has))
+
+-- ---- a goroutine leaves all lists, and joins the run queue
+
+behind-first : (x p : Party) (ps : List Party) → Contains ps p → Contains (x ∷ ps) p
+behind-first x p ps h = (suc h.0, omega (arith, h.1), h.2)
+
+without-absent : (g : ℕ) (ps : List Party) → ((p : Party) → Contains ps p → p.g ≢ g) → without_goroutine g ps ≡ ps
+without-absent g [] absent = refl
+without-absent g (x ∷ ps) absent =
+    rw (ne_eqb x.g g (absent x (0, omega arith, refl)))
+    (ap (λ qs. x ∷ qs) (without-absent g ps (λ p h. absent p (behind-first x p ps h))))
+
+all-absent : (g : ℕ) (lists : List (List Party)) → ((list : ℕ) (p : Party) → Contains (parties_in lists list) p → p.g ≢ g) → map (without_goroutine g) lists ≡ lists
+all-absent g [] absent = refl
+all-absent g (x ∷ xs) absent =
+    ap (λ y. y ∷ map (without_goroutine g) xs) (without-absent g x (absent 0)) ∙ ap (λ ys. x ∷ ys) (all-absent g xs (λ list. absent (suc list)))
+
+-- who has no ticket stands nowhere
+pub gone-already : (w : Waiting) (g : ℕ) → IsLawful w → ticket_of w g ≡ None → w ≡ gone w g
+gone-already w g lawful none =
+    let lists : map (without_goroutine g) w.lists ≡ w.lists =
+    all-absent g w.lists (λ list p h e. false≢true (sym (ap is_some (ap (ticket_of w) e ∙ none)) ∙ lawful.live list p h)) in
+    let tickets : set w.tickets g None ≡ w.tickets = ap (set w.tickets g) (sym none) ∙ set-get_or w.tickets g None in
+    sym (ap (λ xs. record w { lists = xs; tickets = set w.tickets g None }) lists ∙ ap (λ xs. record w { tickets = xs }) tickets)
+
+pub unparked-is : (m : Scheduler) (statuses : Contents RunStatus) (queue : queue.Contents) (w : Waiting) (g : ℕ) → IsScheduler m
+    → statuses.items ≡ change_numbered m.statuses.items g (λ _. RunStatus.Queued)
+    → queue.queues ≡ set m.run_queue.queues 0 (waiting_in m.run_queue.queues 0 ++ g ∷ [])
+    → w ≡ gone m.waiters g
+    → schedule_of (record m { statuses = statuses; run_queue = queue; waiters = w }) ≡ unparked (schedule_of m) g
+unparked-is m statuses queue w g kept items queues now =
+    let one : length m.run_queue.queues ≡ 1 = kept.queues in
+    let run : List ℕ = waiting_in m.run_queue.queues 0 ++ g ∷ [] in
+    schedule-is (schedule_of (record m { statuses = statuses; run_queue = queue; waiters = w })) (unparked (schedule_of m) g)
+    items
+    (ap (λ q. waiting_in q 0) queues ∙ get_or-set_same m.run_queue.queues 0 run [] (omega arith))
+    (ap (λ (x : Waiting). take m.declared x.lists) now ∙ take-map (without_goroutine g) m.declared m.waiters.lists)
+    (ap (λ (x : Waiting). drop m.declared x.lists) now ∙ drop-map (without_goroutine g) m.declared m.waiters.lists)
+    refl
+    refl
+
+-- its ticket is gone, and the others have theirs
+pub gone-own : (w : Waiting) (g : ℕ) → IsSome (ticket_of (gone w g) g) → ⊥
+gone-own w g has =
+    elim (cases_lt g (length w.tickets)) [
+      | inl inside ↦ false≢true (sym (ap is_some (get_or-set_same w.tickets g None None inside)) ∙ has)
+      | inr past ↦
+          let size : length (set w.tickets g None) ≡ length w.tickets = length-set w.tickets g None in
+          false≢true (sym (ap is_some (get_or_past (set w.tickets g None) g None (omega arith))) ∙ has)
+    ]
+
+pub gone-tickets : (w : Waiting) (g h : ℕ) → IsSome (ticket_of (gone w g) h) → IsSome (ticket_of w h)
+gone-tickets w g h has =
+    elim (cases_eq h g) [
+      | inl e ↦ absurd (gone-own w g (subst (λ k. IsSome (ticket_of (gone w g) k)) e has))
+      | inr other ↦ subst (λ (o : Option ℕ). IsSome o) (get_or-set_other w.tickets g h None None other) has
+    ]
 
 -- ---- the first schedule
 
-plain-nothing : (n : ℕ) → map (map plainly) (replicate n []) ≡ replicate n []
-plain-nothing zero = refl
-plain-nothing (suc n) = ap (λ xs. [] ∷ xs) (plain-nothing n)
-
--- there are as many empty queues of receivers as of senders
-nobody-receives : (d : ℕ) → map (map plainly) (take d (replicate (d + d) [])) ≡ replicate d []
-nobody-receives d = ap (map (map plainly)) (take-replicate d (d + d) [] (omega arith)) ∙ plain-nothing d
-
-nobody-sends : (d : ℕ) (run : List ℕ) → map (map plainly) (drop (d + 1) (run ∷ replicate (d + d) [])) ≡ replicate d []
-nobody-sends d run =
-    let next : d + 1 ≡ suc d = omega arith in
-    let left : (d + d) - d ≡ d = omega arith in
-    ap (λ k. map (map plainly) (drop k (run ∷ replicate (d + d) []))) next
-    ∙ (ap (map (map plainly)) (drop-replicate d (d + d) [] ∙ ap (λ k. replicate k []) left) ∙ plain-nothing d)
-
-pub begun-is : (m : Scheduler) (script : Script) (made : List (List ℕ)) → m.statuses.items ≡ RunStatus.Queued ∷ [] → m.declared ≡ length script.decls
-    → made ≡ replicate (length script.decls + length script.decls + 1) []
-    → m.queues.queues ≡ set made 0 (waiting_in made 0 ++ 1 ∷ []) → m.parks ≡ 0 → m.marks.items ≡ None ∷ [] → schedule_of m ≡ first_schedule script
-begun-is m script made statuses declared empty queues parks marks =
+pub begun-is : (m : Scheduler) (script : Script) (made : List (List ℕ)) (goroutines : ℕ) → m.statuses.items ≡ RunStatus.Queued ∷ [] → m.declared ≡ length script.decls
+    → made ≡ replicate 1 []
+    → m.run_queue.queues ≡ set made 0 (waiting_in made 0 ++ 1 ∷ []) → m.waiters ≡ nobody_waits goroutines (length script.decls + length script.decls)
+    → m.parks ≡ 0 → m.marks.items ≡ [] ∷ [] → schedule_of m ≡ first_schedule script
+begun-is m script made goroutines statuses declared empty queues waiters parks marks =
     let d : ℕ = length script.decls in
-    let next : d + d + 1 ≡ suc (d + d) = omega arith in
-    let all : made ≡ [] ∷ replicate (d + d) [] = empty ∙ ap (λ k. replicate k []) next in
-    let now : m.queues.queues ≡ (1 ∷ []) ∷ replicate (d + d) [] = queues ∙ ap (λ q. set q 0 (waiting_in q 0 ++ 1 ∷ [])) all in
+    let left : (d + d) - d ≡ d = omega arith in
     schedule-is (schedule_of m) (first_schedule script)
     statuses
-    (ap (λ q. waiting_in q 0) now)
-    (ap (λ q. map (map plainly) (take m.declared (drop 1 q))) now ∙ (ap (λ k. map (map plainly) (take k (replicate (d + d) []))) declared ∙ nobody-receives d))
-    (ap (λ q. map (map plainly) (drop (m.declared + 1) q)) now ∙ (ap (λ k. map (map plainly) (drop (k + 1) ((1 ∷ []) ∷ replicate (d + d) []))) declared ∙ nobody-sends d (1 ∷ [])))
+    (ap (λ q. waiting_in q 0) (queues ∙ ap (λ q. set q 0 (waiting_in q 0 ++ 1 ∷ [])) empty))
+    (ap (λ (x : Waiting). take m.declared x.lists) waiters ∙ (ap (λ k. take k (replicate (d + d) [])) declared ∙ take-replicate d (d + d) [] (omega arith)))
+    (ap (λ (x : Waiting). drop m.declared x.lists) waiters
+    ∙ (ap (λ k. drop k (replicate (d + d) [])) declared ∙ (drop-replicate d (d + d) [] ∙ ap (λ k. replicate k []) left)))
     parks
-    (ap (map mark_of) marks)
-
--- ---- the first of those at a declaration
-
-first-plain : (xs : List ℕ) → option_map plainly (slice_get xs 0) ≡ slice_get (map plainly xs) 0
-first-plain [] = refl
-first-plain (x ∷ xs) = refl
-
-pub first-receiver : (m : Scheduler) (t : ℕ) → t < length (schedule_of m).receivers
-    → option_map plainly (slice_get (waiting_in m.queues.queues (t + 1)) 0) ≡ slice_get (parties_at (schedule_of m).receivers t) 0
-first-receiver m t h =
-    let next : t + 1 ≡ 1 + t = omega arith in
-    ap (λ k. option_map plainly (slice_get (waiting_in m.queues.queues k) 0)) next
-    ∙ (first-plain (waiting_in m.queues.queues (1 + t)) ∙ ap (λ ps. slice_get ps 0) (sym (parties-receivers m.declared m.queues.queues t (names-receivers m t h))))
-
-pub first-sender : (m : Scheduler) (c : ℕ) → option_map plainly (slice_get (waiting_in m.queues.queues (1 + m.declared + c)) 0) ≡ slice_get (parties_at (schedule_of m).senders c) 0
-first-sender m c =
-    first-plain (waiting_in m.queues.queues (1 + m.declared + c)) ∙ ap (λ ps. slice_get ps 0) (sym (parties-senders m.declared m.queues.queues c))
+    marks

@@ -3,5 +3,6 @@ pub mod Parties
 pub mod Counting
 pub mod Keeping
 pub mod Moving
-pub mod Marks
+pub mod Marked
 pub mod Back
+pub mod Cases

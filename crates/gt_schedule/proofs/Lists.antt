@@ -1,12 +1,12 @@
 -- How often a number and a party stand in a list, and who stands at a declaration, after a change.
-use Rattle.std.proofs.Common.{◌≡◌, ◌≢◌, ℕ, zero, suc, ◌+◌, ◌<◌, List, [], ◌∷◌, ◌++◌, length, map, drop, replicate, refl, sym, ap, ◌∙◌, arith, slice_get, Some, Bool, true, false, ◌&&◌, ◌≤◌, ◌⊎◌, eqb, subst, get_or-set_same, get_or-set_other, inl, inr}
+use Rattle.std.proofs.Common.{◌≡◌, ◌≢◌, ℕ, zero, suc, ◌+◌, ◌<◌, List, [], ◌∷◌, ◌++◌, length, map, drop, replicate, refl, sym, ap, ◌∙◌, arith, slice_get, Some, true, false, ◌&&◌, ◌≤◌, ◌⊎◌, eqb, subst, get_or-set_same, get_or-set_other, inl, inr}
 use Rattle.std.specs.List.{Contains}
 use Rattle.std.proofs.lemmas.Bool.{cases_eq, cases_lt, eq-eqb, ne_eqb}
 use Rattle.std.proofs.lemmas.List.{get_or_past, length-set}
 use Rattle.gt_model.specs.declared.entry.Party.{Party}
 use Rattle.gt_queue.proofs.Members.{Contains-nil, Contains_cases}
 use Rattle.gt_schedule.specs.Counts.{as_number, times, is_party, often}
-use Rattle.gt_schedule.specs.Schedule.{plainly, parties_at, without_goroutine, joins}
+use Rattle.gt_schedule.specs.Schedule.{parties_at, without_goroutine, joins}
 
 -- ---- how often a number stands in a list
 
@@ -98,18 +98,6 @@ often-first p (x ∷ ps) e =
     let is : x ≡ p = cc in
     let one : as_number (is_party x p) ≡ 1 = ap (λ (q : Party). as_number (is_party q p)) is ∙ ap as_number (is_party-same p) in
     omega arith
-
--- parties at plain instructions
-pub often-plain : (g : ℕ) (xs : List ℕ) → often (plainly g) (map plainly xs) ≡ times g xs
-often-plain g [] = refl
-often-plain g (x ∷ xs) =
-    let rest : often (plainly g) (map plainly xs) ≡ times g xs = often-plain g xs in
-    let one : as_number (is_party (plainly x) (plainly g)) ≡ as_number (eqb x g) = ap as_number (with_true (eqb x g)) in
-    omega arith
-  where
-    with_true : (b : Bool) → (b && true) ≡ b
-    with_true true = refl
-    with_true false = refl
 
 -- ---- who stands at a declaration
 

@@ -6,7 +6,9 @@ use Rattle.gt_model.specs.declared.script.Script.{Script}
 use Rattle.gt_model.specs.declared.entry.Entry.{Entry}
 use Rattle.gt_model.specs.declared.entry.Limits.{Limits}
 use Rattle.gt_model.specs.declared.entry.Party.{Party}
+use Rattle.gt_model.specs.declared.script.Case.{Case}
 use Rattle.gt_model.specs.declared.script.CaseKind.{CaseKind}
+use Rattle.gt_model.specs.Good.{most_cases}
 use Rattle.gt_model.specs.Tables.{numbered, change_numbered}
 use Rattle.gt_rules.specs.declared.change.Move.{Move}
 use Rattle.gt_rules.specs.declared.change.Start.{Start}
@@ -62,9 +64,9 @@ marks_at m g = list_or_none (numbered m.marks g)
 abbrev pub mark_count : Schedule → ℕ → ℕ
 mark_count m t = sum_by (times t) m.marks
 
--- a goroutine may get a mark: it has none, as a plain receive waits at one timer
+-- a goroutine may get a mark: it has fewer than a choice may have cases
 abbrev pub HasMarkRoom : Schedule → ℕ → Type 0
-HasMarkRoom m g = length (marks_at m g) < 1
+HasMarkRoom m g = length (marks_at m g) < most_cases
 
 -- a goroutine gets a mark of a timer
 abbrev pub marked : Schedule → ℕ → ℕ → Schedule
@@ -158,6 +160,18 @@ waiting_at m p (CaseKind.Send c v) = record m { senders = joins m.senders c p }
 
 abbrev pub parked_at : Schedule → Party → CaseKind → Schedule
 parked_at m p kind = waiting_at (parked m p.g) p kind
+
+-- a goroutine at its case with this number
+abbrev pub at_case : ℕ → ℕ → Party
+at_case g case_no = record { g = g; case_no = case_no }
+
+-- a goroutine waits at all cases of a choice, in their order, behind those that wait there, where the first case has the number k
+abbrev pub waiting_at_cases : Schedule → ℕ → ℕ → List Case → Schedule
+waiting_at_cases m g k [] = m
+waiting_at_cases m g k (c ∷ cases) = waiting_at_cases (waiting_at m (at_case g k) c.kind) g (k + 1) cases
+
+abbrev pub parked_cases : Schedule → ℕ → List Case → Schedule
+parked_cases m g cases = waiting_at_cases (parked m g) g 1 cases
 
 -- the object of an operation
 abbrev pub object_of : CaseKind → ℕ

@@ -1,6 +1,7 @@
 //! Who runs, who is to run and who waits: the schedule of a run's goroutines.
 #![tactic(auto)]
 
+mod marks;
 mod scheduler;
 mod status;
 

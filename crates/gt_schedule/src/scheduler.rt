@@ -1,22 +1,28 @@
 //! Who runs, who is to run and who waits.
 
-ghost use Rattle.std.specs.Prelude.{◌≡◌, ◌+◌, ◌<◌, ◌≤◌, ◌↔◌, [], length, slice_get, IsTrue, IsSome, IsNone, IfNone, IfSome, IfOk};
+ghost use Rattle.std.specs.Prelude.{ℕ, ◌≡◌, ◌≢◌, ◌+◌, ◌<◌, ◌≤◌, ◌↔◌, [], length, slice_get, IsTrue, IsSome, IsNone, IfNone, IfSome, IfOk};
 ghost use Rattle.std.specs.Option.{option_map};
-ghost use Rattle.gt_model.specs.Good.{IsGood, AreLimits};
+ghost use Rattle.std.specs.List.{All};
+ghost use Rattle.gt_model.specs.Good.{IsGood, AreLimits, most_cases};
+ghost use Rattle.gt_model.specs.declared.entry.Party.{Party};
+ghost use Rattle.gt_model.specs.declared.script.Case.{Case};
 ghost use Rattle.gt_model.specs.Tables.{numbered, change_numbered};
 ghost use Rattle.gt_queue.specs.Contents.{waiting_in};
 ghost use Rattle.gt_rules.specs.Change.{change_of};
+ghost use Rattle.gt_select.specs.Waiting.{MayEnrol, MayWait, gone};
 ghost use Rattle.gt_schedule.specs.Counts.{times};
 ghost use Rattle.gt_schedule.specs.declared.status.RunStatus.{RunStatus};
 ghost use Rattle.gt_schedule.specs.Schedule as table;
-ghost use Rattle.gt_schedule.specs.Schedule.{first_schedule, status_of, with_status, with_new, parked, parked_at, unparked, taken, turned, scheduled, is_parked, parties_at, ticket_of, marks_at, marked, unmarked, HasMarkRoom, object_of, put_back, given_back, in_hand, is_in_hand, IsLive, RunsQueued, MayMove};
-ghost use Rattle.gt_schedule.specs.Scheduler.{schedule_of, capacity, queue_of, IsScheduler, IsOrderly, CanApply};
+ghost use Rattle.gt_schedule.specs.Schedule.{first_schedule, status_of, with_status, with_new, parked, parked_at, waiting_at, at_case, waiting_at_cases, parked_cases, unparked, taken, turned, scheduled, is_parked, parties_at, ticket_of, marks_at, marked, unmarked, HasMarkRoom, object_of, put_back, given_back, in_hand, is_in_hand, IsLive, RunsQueued, MayMove};
+ghost use Rattle.gt_schedule.specs.Scheduler.{schedule_of, capacity, list_of, IsScheduler, IsOrderly, CanApply};
 
+use crate::marks::Marks;
 use crate::status::{RunStatus, Ticket};
-use gt_model::{CaseKind, Entry, Limits, NoMemory, Party, Script};
+use gt_model::{Case, CaseKind, Entry, Limits, NoMemory, Party, Script};
 use gt_queue::Queues;
 use gt_room::Room;
 use gt_rules::{Move, mover_of, partner_of, start_of};
+use gt_select::Waiters;
 use std::alloc::Global;
 
 /// The number of the run queue.
@@ -29,15 +35,17 @@ pub struct Scheduler {
     pub statuses: Room<RunStatus>,
     /// How many names are declared.
     pub declared: u32,
-    /// The run queue; then for each declaration those that are parked at a receive from it, and behind them for each declaration those that are
-    /// parked at a send to it, by goroutine number.
-    pub queues: Queues,
+    /// The run queue, by goroutine number.
+    pub run_queue: Queues,
+    /// For each declaration those that are parked at a receive from it, and behind them for each declaration those that are parked at a send to it.
+    /// Who is parked at an operation has a ticket there; who sleeps has none.
+    pub waiters: Waiters,
     /// How many times a goroutine was parked.
     pub parks: u64,
     /// How many goroutines are in a worker's hand.
     pub running: u64,
-    /// By goroutine, as `statuses`: the timer whose record counts it among those that wait there, if one does.
-    pub marks: Room<Option<u32>>,
+    /// By goroutine, as `statuses`: the timers whose records count it among those that wait there.
+    pub marks: Room<Marks>,
 }
 
 /// The greatest number of goroutines of a run: main's, and one for each entry.
@@ -64,6 +72,16 @@ fn mark(statuses: &mut Room<RunStatus>, g: u32, status: RunStatus)
     statuses.set(g as usize - 1, status);
 }
 
+/// Lets a goroutine go on: it has no ticket any more, and stands in no list. It may have had none.
+fn let_go(waiters: &mut Waiters, g: u32)
+    ensures { waiters.new ≡ gone waiters.old g }
+{
+    waiters.lawful();
+    if let Some(turn) = waiters.ticket(g) {
+        waiters.withdraw(gt_select::Ticket { g, turn });
+    }
+}
+
 impl Scheduler {
     /// The schedule as a run begins: goroutine 1 is to be taken. There is room for all goroutines of a run of 1 to 200,000 entries. It alone takes
     /// memory.
@@ -78,16 +96,16 @@ impl Scheduler {
         let mut statuses = Room::with_room(alloc, most).map_err(|_| NoMemory)?;
         statuses.put(RunStatus::Queued);
         let mut marks = Room::with_room(alloc, most).map_err(|_| NoMemory)?;
-        marks.put(None);
+        marks.put(Marks::none());
         let declared = script.decls.as_slice().len();
-        let mut queues = Queues::with_room(alloc, declared + declared + 1, most + 1).map_err(
-            |_| NoMemory,
-        )?;
-        queues.enqueue(RUN_QUEUE, 1);
+        let mut run_queue = Queues::with_room(alloc, 1, most + 1).map_err(|_| NoMemory)?;
+        run_queue.enqueue(RUN_QUEUE, 1);
+        let waiters = Waiters::with_room(alloc, most, declared + declared).map_err(|_| NoMemory)?;
         Ok(Scheduler {
             statuses,
             declared: declared as u32,
-            queues,
+            run_queue,
+            waiters,
             parks: 0,
             running: 0,
             marks,
@@ -105,7 +123,7 @@ impl Scheduler {
         ensures room { capacity self.new ≡ capacity self.old }
         ensures kept { IsScheduler self.new }
     {
-        let g = self.queues.dequeue(RUN_QUEUE)?;
+        let g = self.run_queue.dequeue(RUN_QUEUE)?;
         mark(&mut self.statuses, g, RunStatus::InHand);
         self.running += 1;
         Some(g)
@@ -117,7 +135,8 @@ impl Scheduler {
         requires in_hand { status_of (schedule_of self.old) g ≡ Some RunStatus.InHand }
         ensures schedule { schedule_of self.new ≡ parked (schedule_of self.old) g }
         ensures room { capacity self.new ≡ capacity self.old }
-        ensures queues { self.new.queues ≡ self.old.queues }
+        ensures waiters { self.new.waiters ≡ self.old.waiters }
+        ensures declared { self.new.declared ≡ self.old.declared }
         ensures kept { IsScheduler self.new }
     {
         let status = RunStatus::Parked { since: self.parks };
@@ -126,16 +145,60 @@ impl Scheduler {
         self.running -= 1;
     }
 
-    /// The queue of those that are parked at an operation.
-    fn queue_of(&self, kind: CaseKind) -> u32
+    /// The list of those that are parked at an operation.
+    fn list_of(&self, kind: CaseKind) -> u32
         requires kept { IsScheduler self.now }
         requires declared { object_of kind < length (schedule_of self.now).receivers }
-        ensures within { result < length self.now.queues.queues }
-        ensures side { result ≡ queue_of self.now.declared kind }
+        ensures within { result < length self.now.waiters.lists }
+        ensures side { result ≡ list_of self.now.declared kind }
     {
         match kind {
-            CaseKind::Recv(o) => 1 + o,
-            CaseKind::Send(c, _) => 1 + self.declared + c,
+            CaseKind::Recv(o) => o,
+            CaseKind::Send(c, _) => self.declared + c,
+        }
+    }
+
+    /// A goroutine that is parked gets a ticket: so it may wait in lists.
+    fn enrol(&mut self, g: u32)
+        requires kept { IsScheduler self.old }
+        requires parked { IsTrue (is_parked (status_of (schedule_of self.old) g)) }
+        requires may { MayEnrol self.old.waiters g }
+        ensures schedule { schedule_of self.new ≡ schedule_of self.old }
+        ensures room { capacity self.new ≡ capacity self.old }
+        ensures may { (k : ℕ) → k ≤ 16 → MayWait self.new.waiters (at_case g k) }
+        ensures kept { IsScheduler self.new }
+    {
+        self.waiters.lawful();
+        self.waiters.enrol(g);
+    }
+
+    /// A party waits at an operation, behind those that wait there.
+    fn wait_at(&mut self, p: Party, kind: CaseKind)
+        requires kept { IsScheduler self.old }
+        requires declared { object_of kind < length (schedule_of self.old).receivers }
+        requires may { MayWait self.old.waiters p }
+        ensures schedule { schedule_of self.new ≡ waiting_at (schedule_of self.old) p kind }
+        ensures room { capacity self.new ≡ capacity self.old }
+        ensures may { (q : Party) → p ≢ q → MayWait self.old.waiters q → MayWait self.new.waiters q }
+        ensures kept { IsScheduler self.new }
+    {
+        let list = self.list_of(kind);
+        self.waiters.wait(list, p);
+    }
+
+    /// A goroutine waits at all cases of a choice, in their order, behind those that wait there.
+    fn wait_at_cases(&mut self, g: u32, cases: &[Case])
+        requires kept { IsScheduler self.old }
+        requires few { length cases.now ≤ 16 }
+        requires declared { All (λ (c : Case). object_of c.kind < length (schedule_of self.old).receivers) cases.now }
+        requires may { (k : ℕ) → k ≤ 16 → MayWait self.old.waiters (at_case g k) }
+        ensures schedule { schedule_of self.new ≡ waiting_at_cases (schedule_of self.old) g 1 cases.now }
+        ensures room { capacity self.new ≡ capacity self.old }
+        ensures kept { IsScheduler self.new }
+    {
+        for k in 0..cases.len() {
+            let case_no = k as u32 + 1;
+            self.wait_at(Party { g, case_no }, cases[k].kind);
         }
     }
 
@@ -155,8 +218,31 @@ impl Scheduler {
             turn: self.parks,
         };
         self.park(g);
-        let queue = self.queue_of(kind);
-        self.queues.enqueue(queue, g);
+        self.enrol(g);
+        self.wait_at(plainly(g), kind);
+        ticket
+    }
+
+    /// A goroutine that was in hand waits at all cases of its choice from now on, in each list behind those that wait there. Its cases count from 1. The
+    /// answer is the ticket of this parking.
+    pub fn park_cases(&mut self, g: u32, cases: &[Case]) -> Ticket
+        requires kept { IsScheduler self.old }
+        requires orderly { IsOrderly (schedule_of self.old) }
+        requires in_hand { status_of (schedule_of self.old) g ≡ Some RunStatus.InHand }
+        requires few { length cases.now ≤ most_cases }
+        requires declared { All (λ (c : Case). object_of c.kind < length (schedule_of self.old).receivers) cases.now }
+        ensures ticket { result ≡ ticket_of (schedule_of self.old) g }
+        ensures schedule { schedule_of self.new ≡ parked_cases (schedule_of self.old) g cases.now }
+        ensures room { capacity self.new ≡ capacity self.old }
+        ensures kept { IsScheduler self.new }
+    {
+        let ticket = Ticket {
+            g,
+            turn: self.parks,
+        };
+        self.park(g);
+        self.enrol(g);
+        self.wait_at_cases(g, cases);
         ticket
     }
 
@@ -166,7 +252,7 @@ impl Scheduler {
         requires in_hand { status_of (schedule_of self.old) g ≡ Some RunStatus.InHand }
         ensures schedule { schedule_of self.new ≡ with_status (schedule_of self.old) g RunStatus.Ended }
         ensures room { capacity self.new ≡ capacity self.old }
-        ensures queues { self.new.queues ≡ self.old.queues }
+        ensures waiters { self.new.waiters ≡ self.old.waiters }
         ensures kept { IsScheduler self.new }
     {
         mark(&mut self.statuses, g, RunStatus::Ended);
@@ -183,8 +269,8 @@ impl Scheduler {
         ensures kept { IsScheduler self.new }
     {
         mark(&mut self.statuses, g, RunStatus::Queued);
-        self.queues.withdraw(g);
-        self.queues.enqueue(RUN_QUEUE, g);
+        let_go(&mut self.waiters, g);
+        self.run_queue.enqueue(RUN_QUEUE, g);
     }
 
     /// Does what a move of a goroutine means.
@@ -219,8 +305,8 @@ impl Scheduler {
     {
         let child = self.statuses.len() as u32 + 1;
         self.statuses.put(RunStatus::Queued);
-        self.marks.put(None);
-        self.queues.enqueue(RUN_QUEUE, child);
+        self.marks.put(Marks::none());
+        self.run_queue.enqueue(RUN_QUEUE, child);
     }
 
     /// Does to the schedule what an entry means for it.
@@ -250,7 +336,7 @@ impl Scheduler {
         ensures room { capacity self.new ≡ capacity self.old }
         ensures kept { IsScheduler self.new }
     {
-        self.marks.set(g as usize - 1, Some(t));
+        self.marks.at_mut(g as usize - 1).push(t);
     }
 
     /// The timer of a goroutine's earliest mark, or None where it has no mark.
@@ -259,7 +345,7 @@ impl Scheduler {
     {
         let place = (g as usize).checked_sub(1)?;
         match self.marks.as_slice().get(place) {
-            Some(mark) => *mark,
+            Some(marks) => marks.first(),
             None => None,
         }
     }
@@ -272,7 +358,7 @@ impl Scheduler {
         ensures room { capacity self.new ≡ capacity self.old }
         ensures kept { IsScheduler self.new }
     {
-        self.marks.set(g as usize - 1, None);
+        self.marks.at_mut(g as usize - 1).remove(t);
     }
 
     /// Whether a goroutine is in a worker's hand.
@@ -292,7 +378,7 @@ impl Scheduler {
     {
         if self.is_in_hand(g) {
             mark(&mut self.statuses, g, RunStatus::Queued);
-            self.queues.enqueue(RUN_QUEUE, g);
+            self.run_queue.enqueue(RUN_QUEUE, g);
             self.running -= 1;
         }
     }
@@ -343,7 +429,7 @@ impl Scheduler {
         requires declared { t < length (schedule_of self.now).receivers }
         ensures { result ≡ slice_get (parties_at (schedule_of self.now).receivers t) 0 }
     {
-        self.queues.first(t + 1).map(plainly)
+        self.waiters.first(t)
     }
 
     /// The party that has waited longest at a send to `c`, or None where nobody waits there.
@@ -352,7 +438,7 @@ impl Scheduler {
         requires declared { c < length (schedule_of self.now).senders }
         ensures { result ≡ slice_get (parties_at (schedule_of self.now).senders c) 0 }
     {
-        self.queues.first(1 + self.declared + c).map(plainly)
+        self.waiters.first(self.declared + c)
     }
 
     /// How many goroutines are in workers' hands.

@@ -1,3 +1,5 @@
 pub mod DurationLemmas
 pub mod ReadingLemmas
 pub mod TextLemmas
+pub mod Blocks
+pub mod CodeLeft

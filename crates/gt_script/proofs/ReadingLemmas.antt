@@ -1,17 +1,15 @@
 -- How lines are read one by one.
-use Rattle.std.proofs.Common.{◌≡◌, ℕ, zero, suc, ◌+◌, ◌<◌, ◌≤◌, Bool, true, false, not, ◌&&◌, ◌||◌, List, [], ◌∷◌, ◌++◌, length, Option, Some, None, IfSome, IsSome, Result, Ok, Err, OnOk, IfOk, IfErr, refl, sym, ap, subst, ◌∙◌, append_assoc, length-append, get_or, set, add-one, arith, codes}
+use Rattle.std.proofs.Common.{◌≡◌, ℕ, ◌+◌, ◌-◌, ◌<◌, ◌≤◌, Bool, true, false, not, ◌&&◌, ◌||◌, List, [], ◌∷◌, ◌++◌, length, Option, Some, None, IfSome, IsSome, Result, Ok, Err, OnOk, IfOk, IfErr, refl, sym, ap, subst, ◌∙◌, append_assoc, leb, arith, codes}
 use Rattle.std.specs.Option.{option_map, option_and_then, option_to_list, unwrap_or}
 use Rattle.std.specs.Str.{bytes_eq}
-use Rattle.std.proofs.lemmas.Bool.{both_ways}
-use Rattle.std.proofs.lemmas.Option.{slice_get_read}
+use Rattle.std.proofs.lemmas.Bool.{both_ways, leb-false}
 use Rattle.gt_model.specs.declared.script.Decl.{Decl}
 use Rattle.gt_model.specs.declared.script.Func.{Func}
 use Rattle.gt_model.specs.declared.script.Script.{Script}
-use Rattle.gt_model.specs.Tables.{change}
 use Rattle.gt_model.proofs.Changes.{length-change}
-use Rattle.gt_model.proofs.Tables.{change-set}
 use Rattle.gt_model.specs.declared.script.What.{What}
 use Rattle.gt_model.specs.declared.script.Instr.{Instr}
+use Rattle.gt_model.specs.declared.script.Case.{Case}
 use Rattle.gt_lines.specs.Words.{Words, NumberedLine, is_end}
 use Rattle.gt_table.specs.declared.form.Arg.{Arg}
 use Rattle.gt_table.specs.declared.form.Role.{Role}
@@ -22,109 +20,36 @@ use Rattle.gt_table.specs.Table.{form_of}
 use Rattle.gt_names.specs.Names.{Names, names_of}
 use Rattle.gt_grammar.specs.declared.fault.Why.{Why}
 use Rattle.gt_grammar.specs.declared.fault.ScriptFault.{ScriptFault}
-use Rattle.gt_grammar.specs.declared.progress.OpenLoop.{OpenLoop}
+use Rattle.gt_grammar.specs.declared.progress.OpenBlock.{OpenBlock}
 use Rattle.gt_grammar.specs.declared.progress.Held.{Held}
 use Rattle.gt_grammar.specs.Progress.{Progress}
 use Rattle.gt_grammar.specs.declared.statement.Statement.{Statement}
-use Rattle.gt_grammar.specs.Statements.{Command, command_of, statement_of, value_of, step_with, is_head}
-use Rattle.gt_grammar.specs.Deeds.{Deed, declares, opens, does, loops, closes, deed_of, deed_with, deeds_of, decl_of, func_of, decls_in, span, code_from, code_in, funcs_in, func_place, script_of, script_with}
-use Rattle.gt_grammar.specs.Faults.{causes, first_cause, role_of, stands, are_none_open, inside_after, ends_wrongly, nests_wrongly, holding, ended_in, loop_ended, count_of, progress_with, progress_after, cause_at, fault_or, fault_from, fault_in_lines, head_cause, no_progress}
+use Rattle.gt_grammar.specs.Statements.{Command, awaits_timer, command_of, statement_of, value_of, step_with, is_head}
+use Rattle.gt_grammar.specs.Deeds.{Deed, declares, opens, does, loops, selects, chooses, defaults, closes, deed_of, deed_with, deeds_of, decl_of, func_of, decls_in, case_at, code_in, funcs_in, func_place, script_of, script_with}
+use Rattle.gt_grammar.specs.Faults.{causes, first_cause, role_of, stands, are_none_open, inside_after, ends_wrongly, nests_wrongly, selects_wrongly, in_choice, loop_count, holding, ended_in, block_ended, case_added, default_added, count_of, progress_with, progress_after, cause_at, fault_or, fault_from, fault_in_lines, head_cause, no_progress}
 use Rattle.gt_grammar.proofs.Fits.{FitsRole}
 use Rattle.gt_grammar.proofs.Rightly.{kind_in, Starts}
+use Rattle.gt_grammar.proofs.OpenLoops.{depth-holding, depth-ended}
 use Rattle.gt_grammar.proofs.RightLines.{IsRight, is_right, Doing, doing}
 use Rattle.gt_script.specs.Unread.{fault_of, IfRefused}
 use Rattle.gt_script.specs.declared.unread.Unread.{Unread}
-use Rattle.gt_script.specs.Reading.{only_word, Built, Reader, leading, closed, built_after, led, past_ends, code_left, script_by, Goes, AllWithin, Agrees}
+use Rattle.gt_script.specs.Reading.{only_word, Built, Reader, leading, loops_open, closed, case_put, default_put, built_after, made, script_by, Goes, AreWithin, AllWithin, AreAlike, Agrees}
+use Rattle.gt_script.specs.declared.reader.Block.{Block}
+use Rattle.gt_script.proofs.CodeLeft.{one-more, within-more, length-chosen, built, does-left, loops-left, closes-left, selects-left, finishes-left, chooses-left, defaults-left}
 
--- ---- tops lead past their loops
-
-change-append_left : {X : Type 0} (xs ys : List X) (i : ℕ) (f : X → X) → i < length xs → change (xs ++ ys) i f ≡ change xs i f ++ ys
-change-append_left [] ys i f h = absurd (omega arith)
-change-append_left (x ∷ xs) ys zero f h = refl
-change-append_left (x ∷ xs) ys (suc i) f h = ap (λ zs. x ∷ zs) (change-append_left xs ys i f (omega arith))
-
-change-append_seam : {X : Type 0} (xs : List X) (x : X) (f : X → X) → change (xs ++ x ∷ []) (length xs) f ≡ xs ++ f x ∷ []
-change-append_seam [] x f = refl
-change-append_seam (y ∷ ys) x f = ap (λ zs. y ∷ zs) (change-append_seam ys x f)
-
-pub change-past : {X : Type 0} (xs : List X) (i : ℕ) (f : X → X) → length xs ≤ i → change xs i f ≡ xs
-change-past [] i f h = refl
-change-past (x ∷ xs) zero f h = absurd (omega arith)
-change-past (x ∷ xs) (suc i) f h = ap (λ zs. x ∷ zs) (change-past xs i f (omega arith))
-
-pub lead-is : (code : List Instr) (i index : ℕ) (x y : Instr) → i < length code → x ≡ get_or code i x → y ≡ leading index x → set code i y ≡ change code i (leading index)
-lead-is code i index x y h here is =
-    ap (set code i) is ∙ sym (change-set code i (leading index) x (slice_get_read code (length code) i x refl h here))
-
-one-more : {X : Type 0} (xs : List X) (x : X) → length (xs ++ x ∷ []) ≡ length xs + 1
-one-more xs x = omega (arith, length-append xs (x ∷ []))
-
-within-more : (n m : ℕ) (tops : List ℕ) → n ≤ m → AllWithin n tops → AllWithin m tops
-within-more n m [] h w = tt
-within-more n m (top ∷ tops) h w = let here = w.0 in (omega arith, within-more n m tops h w.1)
-
-led-append : (tops : List ℕ) (pasts : ℕ → ℕ) (code more : List Instr) → AllWithin (length code) tops → led tops pasts (code ++ more) ≡ led tops pasts code ++ more
-led-append [] pasts code more w = refl
-led-append (top ∷ tops) pasts code more w =
-    let changed : List Instr = change code top (leading (pasts 0)) in
-    let later : ℕ → ℕ = λ k. pasts (suc k) in
-    let inside : AllWithin (length changed) tops = subst (λ n. AllWithin n tops) (sym (length-change code top (leading (pasts 0)))) w.1 in
-    ap (led tops later) (change-append_left code more top (leading (pasts 0)) w.0) ∙ led-append tops later changed more inside
-
-led-same : (tops : List ℕ) (p q : ℕ → ℕ) (code : List Instr) → ((k : ℕ) → p k ≡ q k) → led tops p code ≡ led tops q code
-led-same [] p q code h = refl
-led-same (top ∷ tops) p q code h =
-    ap (λ n. led tops (λ k. p (suc k)) (change code top (leading n))) (h 0)
-    ∙ led-same tops (λ k. p (suc k)) (λ k. q (suc k)) (change code top (leading (q 0))) (λ k. h (suc k))
-
--- the code with an instruction more, where the open loops lead as far
-grown : (tops : List ℕ) (code rest : List Instr) (x : Instr) (p q : ℕ → ℕ) → AllWithin (length code) tops → ((k : ℕ) → p k ≡ q k) → led tops p (code ++ x ∷ []) ++ rest ≡ led tops q code ++ x ∷ rest
-grown tops code rest x p q w h =
-    ap (λ c. c ++ rest) (led-same tops p q (code ++ x ∷ []) h ∙ led-append tops q code (x ∷ []) w) ∙ append_assoc (led tops q code) (x ∷ []) rest
-
--- ---- behind a line that is right the same script is left
-
-abbrev built : List Decl → List Func → ℕ → List Instr → List ℕ → Built
-built decls funcs open_decl code tops = record { decls = decls; funcs = funcs; open_decl = open_decl; code = code; tops = tops }
-
-does-left : (b : Built) (instr : Instr) (deeds : List Deed) → AllWithin (length b.code) b.tops → code_left (built_after b (does instr)) deeds ≡ code_left b (does instr ∷ deeds)
-does-left b instr deeds w =
-    let n : length (b.code ++ instr ∷ []) ≡ length b.code + 1 = one-more b.code instr in
-    ap (λ i. led b.tops (past_ends i deeds) (b.code ++ instr ∷ []) ++ code_from b.tops i deeds) n
-    ∙ grown b.tops b.code (code_from b.tops (length b.code + 1) deeds) instr (past_ends (length b.code + 1) deeds) (past_ends (length b.code) (does instr ∷ deeds)) w (λ k. omega arith)
-
-loops-left : (b : Built) (count : ℕ) (deeds : List Deed) → AllWithin (length b.code) b.tops → code_left (built_after b (loops count)) deeds ≡ code_left b (loops count ∷ deeds)
-loops-left b count deeds w =
-    let i : ℕ = length b.code in
-    let depth : ℕ = length b.tops in
-    let top : Instr = Instr.LoopTop depth count (i + 1 + span 0 deeds) in
-    let later : ℕ → ℕ = λ k. past_ends (i + 1) deeds (suc k) in
-    ap (λ n. led (i ∷ b.tops) (past_ends n deeds) (b.code ++ Instr.LoopTop depth count 0 ∷ []) ++ code_from (i ∷ b.tops) n deeds) (one-more b.code (Instr.LoopTop depth count 0))
-    ∙ ap (λ c. led b.tops later c ++ code_from (i ∷ b.tops) (i + 1) deeds) (change-append_seam b.code (Instr.LoopTop depth count 0) (leading (i + 1 + span 0 deeds)))
-    ∙ grown b.tops b.code (code_from (i ∷ b.tops) (i + 1) deeds) top later (past_ends i (loops count ∷ deeds)) w
-    (λ k. let e : span (suc k) deeds ≡ span (k + 1) deeds = ap (λ m. span m deeds) (sym (add-one k)) in omega (arith, e))
-
-closes-left : (decls : List Decl) (funcs : List Func) (open_decl : ℕ) (code : List Instr) (top : ℕ) (tops : List ℕ) (deeds : List Deed) → AllWithin (length code) (top ∷ tops)
-    → code_left (built_after (built decls funcs open_decl code (top ∷ tops)) closes) deeds ≡ code_left (built decls funcs open_decl code (top ∷ tops)) (closes ∷ deeds)
-closes-left decls funcs open_decl code top tops deeds w =
-    let i : ℕ = length code in
-    let end : Instr = Instr.LoopEnd (length tops) top in
-    let changed : List Instr = change code top (leading (i + 1)) in
-    let size : length changed ≡ i = length-change code top (leading (i + 1)) in
-    let same : change (code ++ end ∷ []) top (leading (i + 1)) ≡ changed ++ end ∷ [] = change-append_left code (end ∷ []) top (leading (i + 1)) w.0 in
-    let inside : AllWithin (length changed) tops = subst (λ n. AllWithin n tops) (sym size) w.1 in
-    ap (λ c. led tops (past_ends (length c) deeds) c ++ code_from tops (length c) deeds) same
-    ∙ ap (λ n. led tops (past_ends n deeds) (changed ++ end ∷ []) ++ code_from tops n deeds) (one-more changed end ∙ ap (λ n. n + 1) size)
-    ∙ grown tops changed (code_from tops (i + 1) deeds) end (past_ends (i + 1) deeds) (λ k. past_ends i (closes ∷ deeds) (suc k)) inside (λ k. omega arith)
-
--- where a deed stands behind open loops, and where the reader stands behind it
-abbrev Moves : Deed → List ℕ → Bool → Bool → Type 0
-Moves (declares name what) tops inside inside' = (inside ≡ false) × (inside' ≡ false)
-Moves (opens name decl) tops inside inside' = (inside ≡ false) × (inside' ≡ true)
-Moves (does instr) tops inside inside' = (inside ≡ true) × (inside' ≡ true)
-Moves (loops count) tops inside inside' = (inside ≡ true) × (inside' ≡ true)
+-- where a deed stands behind open blocks, and where the reader stands behind it
+abbrev Moves : Deed → List Block → Bool → Bool → Type 0
+Moves (declares name what) blocks inside inside' = (inside ≡ false) × (inside' ≡ false)
+Moves (opens name decl) blocks inside inside' = (inside ≡ false) × (inside' ≡ true)
+Moves (does instr) blocks inside inside' = (inside ≡ true) × (inside' ≡ true)
+Moves (loops count) blocks inside inside' = (inside ≡ true) × (inside' ≡ true)
+Moves selects blocks inside inside' = (inside ≡ true) × (inside' ≡ true)
+Moves (chooses kind) (Block.Choice cases None ∷ blocks) inside inside' = (inside ≡ true) × (inside' ≡ true)
+Moves (chooses kind) _ inside inside' = ⊥
+Moves defaults (Block.Choice cases None ∷ blocks) inside inside' = (inside ≡ true) × (inside' ≡ true)
+Moves defaults _ inside inside' = ⊥
 Moves closes [] inside inside' = (inside ≡ true) × (inside' ≡ false)
-Moves closes (top ∷ tops) inside inside' = (inside ≡ true) × (inside' ≡ true)
+Moves closes (b ∷ blocks) inside inside' = (inside ≡ true) × (inside' ≡ true)
 
 not-true : (b : Bool) → not b ≡ true → b ≡ false
 not-true true h = cc
@@ -136,149 +61,372 @@ started names (What.AfterFunc f) s = refl
 started names (What.Chan cap) s = refl
 started names What.Function s = absurd s
 
-moves-closes : (inside : Bool) (tops : List ℕ) (open_loops : List OpenLoop) → length tops ≡ length open_loops → (inside ≡ false → tops ≡ []) → ends_wrongly inside open_loops ≡ false → Moves closes tops inside (not (are_none_open open_loops))
+moves-closes : (inside : Bool) (blocks : List Block) (open_blocks : List OpenBlock) → AreAlike blocks open_blocks → (inside ≡ false → blocks ≡ []) → ends_wrongly inside open_blocks ≡ false → Moves closes blocks inside (not (are_none_open open_blocks))
 moves-closes true [] [] e out h = (refl, refl)
 moves-closes false [] [] e out h = cc
-moves-closes inside [] (inner ∷ outer) e out h = absurd (omega arith)
-moves-closes inside (top ∷ tops) [] e out h = absurd (omega arith)
-moves-closes true (top ∷ tops) (inner ∷ outer) e out h = (refl, refl)
-moves-closes false (top ∷ tops) (inner ∷ outer) e out h = let none = out refl in cc
+moves-closes inside [] (inner ∷ outer) e out h = absurd e
+moves-closes inside (Block.Loop top ∷ blocks) [] e out h = absurd e
+moves-closes inside (Block.Choice cases d ∷ blocks) [] e out h = absurd e
+moves-closes true (b ∷ blocks) (inner ∷ outer) e out h = (refl, refl)
+moves-closes false (b ∷ blocks) (inner ∷ outer) e out h = let none = out refl in cc
 
-moves : (names : Names) (name : List ℕ) (role : Role) (arg : Arg) (a : ℕ) (step : Step) (p : Progress) (b : Built) → FitsRole names role arg a step → stands p.inside role ≡ true → nests_wrongly p role ≡ false → Agrees p b → Moves (deed_of name step) b.tops p.inside (inside_after p role)
-moves names name (Role.Declares kind) arg a (Step.Declare what) p b fit h c agrees =
+-- a select without its default so far is open in front of a case, and of its default
+has-choice : (deed : Deed) (inside : Bool) (blocks : List Block) (open_blocks : List OpenBlock) → ((cases : List Case) (outer : List Block) → (inside ≡ true) → Moves deed (Block.Choice cases None ∷ outer) inside inside) → AreAlike blocks open_blocks → (inside ≡ false → blocks ≡ []) → not (in_choice open_blocks) ≡ false
+    → ((cases timers : ℕ) (has_default : Bool) (outer : List OpenBlock) → open_blocks ≡ OpenBlock.Choice cases timers has_default ∷ outer → has_default ≡ false) → Moves deed blocks inside inside
+has-choice deed inside blocks [] by e out h none = cc
+has-choice deed inside blocks (OpenBlock.Loop repeats held ∷ outer) by e out h none = cc
+has-choice deed inside [] (OpenBlock.Choice cases timers has_default ∷ outer) by e out h none = absurd e
+has-choice deed inside (Block.Loop top ∷ blocks) (OpenBlock.Choice cases timers has_default ∷ outer) by e out h none = absurd e
+has-choice deed inside (Block.Choice items (Some to) ∷ blocks) (OpenBlock.Choice cases timers has_default ∷ outer) by e out h none =
+    let no : has_default ≡ false = none cases timers has_default outer refl in let yes = e.0 in cc
+has-choice deed false (Block.Choice items None ∷ blocks) (OpenBlock.Choice cases timers has_default ∷ outer) by e out h none = let no = out refl in cc
+has-choice deed true (Block.Choice items None ∷ blocks) (OpenBlock.Choice cases timers has_default ∷ outer) by e out h none = by items blocks refl
+
+or-left : (a b : Bool) → (a || b) ≡ false → a ≡ false
+or-left true b h = cc
+or-left false b h = refl
+
+case-left : (blocks : List OpenBlock) → selects_wrongly blocks Role.Chooses ≡ false → (cases timers : ℕ) (has_default : Bool) (outer : List OpenBlock) → blocks ≡ OpenBlock.Choice cases timers has_default ∷ outer → has_default ≡ false
+case-left blocks c cases timers has_default outer e = or-left has_default _ (ap (λ bs. selects_wrongly bs Role.Chooses) (sym e) ∙ c)
+
+default-left : (blocks : List OpenBlock) → selects_wrongly blocks Role.Defaults ≡ false → (cases timers : ℕ) (has_default : Bool) (outer : List OpenBlock) → blocks ≡ OpenBlock.Choice cases timers has_default ∷ outer → has_default ≡ false
+default-left blocks c cases timers has_default outer e = or-left has_default _ (ap (λ bs. selects_wrongly bs Role.Defaults) (sym e) ∙ c)
+
+moves : (names : Names) (name : List ℕ) (role : Role) (arg : Arg) (a : ℕ) (awaits : Bool) (step : Step) (p : Progress) (b : Built) → FitsRole names role arg a awaits step → stands p.inside role ≡ true → nests_wrongly p role ≡ false → selects_wrongly p.blocks role ≡ false → Agrees p b → Moves (deed_of name step) b.blocks p.inside (inside_after p role)
+moves names name (Role.Declares kind) arg a awaits (Step.Declare what) p b fit h c d agrees =
     let outside : p.inside ≡ false = not-true p.inside h in
     (outside, ap (λ k. is_kind_function k || p.inside) fit.1 ∙ ap (λ x. x || p.inside) (started names what fit.2) ∙ outside)
-moves names name (Role.Declares kind) arg a (Step.Open decl) p b fit h c agrees =
+moves names name (Role.Declares kind) arg a awaits (Step.Open decl) p b fit h c d agrees =
     (not-true p.inside h, ap (λ k. is_kind_function k || p.inside) fit.1)
-moves names name (Role.Declares kind) arg a (Step.Do instr) p b fit h c agrees = absurd fit
-moves names name (Role.Declares kind) arg a (Step.Loop count) p b fit h c agrees = absurd fit
-moves names name (Role.Declares kind) arg a Step.Close p b fit h c agrees = absurd fit
-moves names name Role.Closes arg a Step.Close p b fit h c agrees = moves-closes p.inside b.tops p.loops agrees.tops agrees.outside c
-moves names name Role.Closes arg a (Step.Declare what) p b fit h c agrees = absurd fit
-moves names name Role.Closes arg a (Step.Open decl) p b fit h c agrees = absurd fit
-moves names name Role.Closes arg a (Step.Do instr) p b fit h c agrees = absurd fit
-moves names name Role.Closes arg a (Step.Loop count) p b fit h c agrees = absurd fit
-moves names name Role.Acts arg a (Step.Do instr) p b fit h c agrees = (h, h)
-moves names name Role.Acts arg a (Step.Declare what) p b fit h c agrees = absurd fit
-moves names name Role.Acts arg a (Step.Open decl) p b fit h c agrees = absurd fit
-moves names name Role.Acts arg a (Step.Loop count) p b fit h c agrees = absurd fit
-moves names name Role.Acts arg a Step.Close p b fit h c agrees = absurd fit
-moves names name Role.Loops arg a (Step.Loop count) p b fit h c agrees = (h, h)
-moves names name Role.Loops arg a (Step.Declare what) p b fit h c agrees = absurd fit
-moves names name Role.Loops arg a (Step.Open decl) p b fit h c agrees = absurd fit
-moves names name Role.Loops arg a (Step.Do instr) p b fit h c agrees = absurd fit
-moves names name Role.Loops arg a Step.Close p b fit h c agrees = absurd fit
+moves names name Role.Closes arg a awaits Step.Close p b fit h c d agrees = moves-closes p.inside b.blocks p.blocks agrees.alike agrees.outside c
+moves names name Role.Acts arg a awaits (Step.Do instr) p b fit h c d agrees = (h, h)
+moves names name Role.Loops arg a awaits (Step.Loop passes) p b fit h c d agrees = (h, h)
+moves names name Role.Selects arg a awaits Step.Select p b fit h c d agrees = (h, h)
+moves names name Role.Chooses arg a awaits (Step.Case case) p b fit h c d agrees =
+    has-choice (chooses case) p.inside b.blocks p.blocks (λ cases outer e. (e, e)) agrees.alike agrees.outside c (case-left p.blocks d)
+moves names name Role.Defaults arg a awaits Step.Default p b fit h c d agrees =
+    has-choice defaults p.inside b.blocks p.blocks (λ cases outer e. (e, e)) agrees.alike agrees.outside c (default-left p.blocks d)
+moves names name (Role.Declares kind) arg a awaits (Step.Do instr) p b fit h c d agrees = absurd fit
+moves names name (Role.Declares kind) arg a awaits (Step.Loop passes) p b fit h c d agrees = absurd fit
+moves names name (Role.Declares kind) arg a awaits Step.Select p b fit h c d agrees = absurd fit
+moves names name (Role.Declares kind) arg a awaits (Step.Case case) p b fit h c d agrees = absurd fit
+moves names name (Role.Declares kind) arg a awaits Step.Default p b fit h c d agrees = absurd fit
+moves names name (Role.Declares kind) arg a awaits Step.Close p b fit h c d agrees = absurd fit
+moves names name Role.Closes arg a awaits (Step.Declare what) p b fit h c d agrees = absurd fit
+moves names name Role.Closes arg a awaits (Step.Open decl) p b fit h c d agrees = absurd fit
+moves names name Role.Closes arg a awaits (Step.Do instr) p b fit h c d agrees = absurd fit
+moves names name Role.Closes arg a awaits (Step.Loop passes) p b fit h c d agrees = absurd fit
+moves names name Role.Closes arg a awaits Step.Select p b fit h c d agrees = absurd fit
+moves names name Role.Closes arg a awaits (Step.Case case) p b fit h c d agrees = absurd fit
+moves names name Role.Closes arg a awaits Step.Default p b fit h c d agrees = absurd fit
+moves names name Role.Acts arg a awaits (Step.Declare what) p b fit h c d agrees = absurd fit
+moves names name Role.Acts arg a awaits (Step.Open decl) p b fit h c d agrees = absurd fit
+moves names name Role.Acts arg a awaits (Step.Loop passes) p b fit h c d agrees = absurd fit
+moves names name Role.Acts arg a awaits Step.Select p b fit h c d agrees = absurd fit
+moves names name Role.Acts arg a awaits (Step.Case case) p b fit h c d agrees = absurd fit
+moves names name Role.Acts arg a awaits Step.Default p b fit h c d agrees = absurd fit
+moves names name Role.Acts arg a awaits Step.Close p b fit h c d agrees = absurd fit
+moves names name Role.Loops arg a awaits (Step.Declare what) p b fit h c d agrees = absurd fit
+moves names name Role.Loops arg a awaits (Step.Open decl) p b fit h c d agrees = absurd fit
+moves names name Role.Loops arg a awaits (Step.Do instr) p b fit h c d agrees = absurd fit
+moves names name Role.Loops arg a awaits Step.Select p b fit h c d agrees = absurd fit
+moves names name Role.Loops arg a awaits (Step.Case case) p b fit h c d agrees = absurd fit
+moves names name Role.Loops arg a awaits Step.Default p b fit h c d agrees = absurd fit
+moves names name Role.Loops arg a awaits Step.Close p b fit h c d agrees = absurd fit
+moves names name Role.Selects arg a awaits (Step.Declare what) p b fit h c d agrees = absurd fit
+moves names name Role.Selects arg a awaits (Step.Open decl) p b fit h c d agrees = absurd fit
+moves names name Role.Selects arg a awaits (Step.Do instr) p b fit h c d agrees = absurd fit
+moves names name Role.Selects arg a awaits (Step.Loop passes) p b fit h c d agrees = absurd fit
+moves names name Role.Selects arg a awaits (Step.Case case) p b fit h c d agrees = absurd fit
+moves names name Role.Selects arg a awaits Step.Default p b fit h c d agrees = absurd fit
+moves names name Role.Selects arg a awaits Step.Close p b fit h c d agrees = absurd fit
+moves names name Role.Chooses arg a awaits (Step.Declare what) p b fit h c d agrees = absurd fit
+moves names name Role.Chooses arg a awaits (Step.Open decl) p b fit h c d agrees = absurd fit
+moves names name Role.Chooses arg a awaits (Step.Do instr) p b fit h c d agrees = absurd fit
+moves names name Role.Chooses arg a awaits (Step.Loop passes) p b fit h c d agrees = absurd fit
+moves names name Role.Chooses arg a awaits Step.Select p b fit h c d agrees = absurd fit
+moves names name Role.Chooses arg a awaits Step.Default p b fit h c d agrees = absurd fit
+moves names name Role.Chooses arg a awaits Step.Close p b fit h c d agrees = absurd fit
+moves names name Role.Defaults arg a awaits (Step.Declare what) p b fit h c d agrees = absurd fit
+moves names name Role.Defaults arg a awaits (Step.Open decl) p b fit h c d agrees = absurd fit
+moves names name Role.Defaults arg a awaits (Step.Do instr) p b fit h c d agrees = absurd fit
+moves names name Role.Defaults arg a awaits (Step.Loop passes) p b fit h c d agrees = absurd fit
+moves names name Role.Defaults arg a awaits Step.Select p b fit h c d agrees = absurd fit
+moves names name Role.Defaults arg a awaits (Step.Case case) p b fit h c d agrees = absurd fit
+moves names name Role.Defaults arg a awaits Step.Close p b fit h c d agrees = absurd fit
 
 -- the script, with this code of the open function
 abbrev with_code : Built → List Deed → ℕ → List Instr → Script
 with_code b deeds main code = record { decls = b.decls ++ decls_in deeds; funcs = b.funcs ++ (func_of b.open_decl code ∷ funcs_in deeds); main = main }
 
-deed-left : (decls : List Decl) (funcs : List Func) (open_decl : ℕ) (code : List Instr) (tops : List ℕ) (deed : Deed) (deeds : List Deed) (main : ℕ) (inside inside' : Bool) → AllWithin (length code) tops → (inside ≡ false → tops ≡ []) → Moves deed tops inside inside'
-    → script_by inside' (built_after (built decls funcs open_decl code tops) deed) deeds main ≡ script_by inside (built decls funcs open_decl code tops) (deed ∷ deeds) main
-deed-left decls funcs open_decl code tops (declares name what) deeds main false false w out h =
+deed-left : (decls : List Decl) (funcs : List Func) (open_decl : ℕ) (code : List Instr) (blocks : List Block) (deed : Deed) (deeds : List Deed) (main : ℕ) (inside inside' : Bool) → AllWithin (length code) blocks → (inside ≡ false → blocks ≡ []) → Moves deed blocks inside inside'
+    → script_by inside' (built_after (built decls funcs open_decl code blocks) deed) deeds main ≡ script_by inside (built decls funcs open_decl code blocks) (deed ∷ deeds) main
+deed-left decls funcs open_decl code blocks (declares name what) deeds main false false w out h =
     ap (λ ds. record { decls = ds; funcs = funcs ++ funcs_in deeds; main = main }) (append_assoc decls (decl_of name what ∷ []) (decls_in deeds))
-deed-left decls funcs open_decl code tops (declares name what) deeds main true inside' w out h = let e = h.0 in cc
-deed-left decls funcs open_decl code tops (declares name what) deeds main false true w out h = let e = h.1 in cc
+deed-left decls funcs open_decl code blocks (declares name what) deeds main true inside' w out h = let e = h.0 in cc
+deed-left decls funcs open_decl code blocks (declares name what) deeds main false true w out h = let e = h.1 in cc
 deed-left decls funcs open_decl code [] (opens name d) deeds main false true w out h =
     ap (λ ds. record { decls = ds; funcs = funcs ++ (func_of d (code_in deeds) ∷ funcs_in deeds); main = main }) (append_assoc decls (decl_of name What.Function ∷ []) (decls_in deeds))
-deed-left decls funcs open_decl code (top ∷ tops) (opens name d) deeds main false true w out h = let none = out refl in cc
-deed-left decls funcs open_decl code tops (opens name d) deeds main true inside' w out h = let e = h.0 in cc
-deed-left decls funcs open_decl code tops (opens name d) deeds main false false w out h = let e = h.1 in cc
-deed-left decls funcs open_decl code tops (does instr) deeds main true true w out h =
-    let b : Built = built decls funcs open_decl code tops in
+deed-left decls funcs open_decl code (b ∷ blocks) (opens name d) deeds main false true w out h = let none = out refl in cc
+deed-left decls funcs open_decl code blocks (opens name d) deeds main true inside' w out h = let e = h.0 in cc
+deed-left decls funcs open_decl code blocks (opens name d) deeds main false false w out h = let e = h.1 in cc
+deed-left decls funcs open_decl code blocks (does instr) deeds main true true w out h =
+    let b : Built = built decls funcs open_decl code blocks in
     ap (with_code b deeds main) (does-left b instr deeds w)
-deed-left decls funcs open_decl code tops (does instr) deeds main false inside' w out h = let e = h.0 in cc
-deed-left decls funcs open_decl code tops (does instr) deeds main true false w out h = let e = h.1 in cc
-deed-left decls funcs open_decl code tops (loops count) deeds main true true w out h =
-    let b : Built = built decls funcs open_decl code tops in
+deed-left decls funcs open_decl code blocks (does instr) deeds main false inside' w out h = let e = h.0 in cc
+deed-left decls funcs open_decl code blocks (does instr) deeds main true false w out h = let e = h.1 in cc
+deed-left decls funcs open_decl code blocks (loops count) deeds main true true w out h =
+    let b : Built = built decls funcs open_decl code blocks in
     ap (with_code b deeds main) (loops-left b count deeds w)
-deed-left decls funcs open_decl code tops (loops count) deeds main false inside' w out h = let e = h.0 in cc
-deed-left decls funcs open_decl code tops (loops count) deeds main true false w out h = let e = h.1 in cc
+deed-left decls funcs open_decl code blocks (loops count) deeds main false inside' w out h = let e = h.0 in cc
+deed-left decls funcs open_decl code blocks (loops count) deeds main true false w out h = let e = h.1 in cc
 deed-left decls funcs open_decl code [] closes deeds main true false w out h =
     ap (λ fs. record { decls = decls ++ decls_in deeds; funcs = fs; main = main }) (append_assoc funcs (func_of open_decl (code ++ Instr.Finish ∷ []) ∷ []) (funcs_in deeds))
 deed-left decls funcs open_decl code [] closes deeds main false inside' w out h = let e = h.0 in cc
 deed-left decls funcs open_decl code [] closes deeds main true true w out h = let e = h.1 in cc
-deed-left decls funcs open_decl code (top ∷ tops) closes deeds main true true w out h =
-    ap (with_code (built decls funcs open_decl code (top ∷ tops)) deeds main) (closes-left decls funcs open_decl code top tops deeds w)
-deed-left decls funcs open_decl code (top ∷ tops) closes deeds main false inside' w out h = let e = h.0 in cc
-deed-left decls funcs open_decl code (top ∷ tops) closes deeds main true false w out h = let e = h.1 in cc
+deed-left decls funcs open_decl code (Block.Loop top ∷ blocks) closes deeds main true true w out h =
+    ap (with_code (built decls funcs open_decl code (Block.Loop top ∷ blocks)) deeds main) (closes-left decls funcs open_decl code top blocks deeds w)
+deed-left decls funcs open_decl code (Block.Choice cases d ∷ blocks) closes deeds main true true w out h =
+    ap (with_code (built decls funcs open_decl code (Block.Choice cases d ∷ blocks)) deeds main) (finishes-left decls funcs open_decl code cases d blocks deeds w)
+deed-left decls funcs open_decl code (b ∷ blocks) closes deeds main false inside' w out h = let e = h.0 in cc
+deed-left decls funcs open_decl code (b ∷ blocks) closes deeds main true false w out h = let e = h.1 in cc
+deed-left decls funcs open_decl code blocks selects deeds main true true w out h =
+    let b : Built = built decls funcs open_decl code blocks in
+    ap (with_code b deeds main) (selects-left b deeds)
+deed-left decls funcs open_decl code blocks selects deeds main false inside' w out h = let e = h.0 in cc
+deed-left decls funcs open_decl code blocks selects deeds main true false w out h = let e = h.1 in cc
+deed-left decls funcs open_decl code [] (chooses kind) deeds main inside inside' w out h = absurd h
+deed-left decls funcs open_decl code (Block.Loop top ∷ blocks) (chooses kind) deeds main inside inside' w out h = absurd h
+deed-left decls funcs open_decl code (Block.Choice cases (Some to) ∷ blocks) (chooses kind) deeds main inside inside' w out h = absurd h
+deed-left decls funcs open_decl code (Block.Choice cases None ∷ blocks) (chooses kind) deeds main true true w out h =
+    ap (with_code (built decls funcs open_decl code (Block.Choice cases None ∷ blocks)) deeds main) (chooses-left decls funcs open_decl code cases blocks kind deeds w)
+deed-left decls funcs open_decl code (Block.Choice cases None ∷ blocks) (chooses kind) deeds main false inside' w out h = let e = h.0 in cc
+deed-left decls funcs open_decl code (Block.Choice cases None ∷ blocks) (chooses kind) deeds main true false w out h = let e = h.1 in cc
+deed-left decls funcs open_decl code [] defaults deeds main inside inside' w out h = absurd h
+deed-left decls funcs open_decl code (Block.Loop top ∷ blocks) defaults deeds main inside inside' w out h = absurd h
+deed-left decls funcs open_decl code (Block.Choice cases (Some to) ∷ blocks) defaults deeds main inside inside' w out h = absurd h
+deed-left decls funcs open_decl code (Block.Choice cases None ∷ blocks) defaults deeds main true true w out h =
+    ap (with_code (built decls funcs open_decl code (Block.Choice cases None ∷ blocks)) deeds main) (defaults-left decls funcs open_decl code cases blocks deeds w)
+deed-left decls funcs open_decl code (Block.Choice cases None ∷ blocks) defaults deeds main false inside' w out h = let e = h.0 in cc
+deed-left decls funcs open_decl code (Block.Choice cases None ∷ blocks) defaults deeds main true false w out h = let e = h.1 in cc
 
 -- ---- what is made agrees with how far the reader is
 
-length-holding : (held : Held) (open_loops : List OpenLoop) → length (holding held open_loops) ≡ length open_loops
-length-holding held [] = refl
-length-holding held (inner ∷ outer) = refl
+alike-depth : (blocks : List Block) (open_blocks : List OpenBlock) → AreAlike blocks open_blocks → loops_open blocks ≡ loop_count open_blocks
+alike-depth [] [] h = refl
+alike-depth [] (inner ∷ outer) h = absurd h
+alike-depth (Block.Loop top ∷ blocks) [] h = absurd h
+alike-depth (Block.Choice cases d ∷ blocks) [] h = absurd h
+alike-depth (Block.Loop top ∷ blocks) (OpenBlock.Choice n t e ∷ outer) h = absurd h
+alike-depth (Block.Choice cases d ∷ blocks) (OpenBlock.Loop repeats held ∷ outer) h = absurd h
+alike-depth (Block.Loop top ∷ blocks) (OpenBlock.Loop repeats held ∷ outer) h = omega (arith, alike-depth blocks outer h)
+alike-depth (Block.Choice cases d ∷ blocks) (OpenBlock.Choice n t e ∷ outer) h = alike-depth blocks outer h.1
 
-length-ended : (repeats : Bool) (open_loops : List OpenLoop) → length (ended_in repeats open_loops) ≡ length open_loops
-length-ended repeats [] = refl
-length-ended repeats (inner ∷ outer) = refl
+pub agrees-depth : (p : Progress) (b : Built) → Agrees p b → loops_open b.blocks ≡ loop_count p.blocks
+agrees-depth p b agrees = alike-depth b.blocks p.blocks agrees.alike
 
-agrees-closes : (p : Progress) (b : Built) (count : ℕ) (tops : List ℕ) (open_loops : List OpenLoop) → p.loops ≡ open_loops → b.tops ≡ tops → length tops ≡ length open_loops → AllWithin (length b.code) tops → Agrees (progress_with p Role.Closes count) (closed b tops)
-agrees-closes p b count [] [] l t e w = record {
-  tops = ap length t ∙ sym (ap (λ ls. length (loop_ended ls)) l);
+alike-holding : (held : Held) (blocks : List Block) (open_blocks : List OpenBlock) → AreAlike blocks open_blocks → AreAlike blocks (holding held open_blocks)
+alike-holding held blocks [] h = h
+alike-holding held [] (OpenBlock.Loop repeats before ∷ outer) h = absurd h
+alike-holding held (Block.Loop top ∷ blocks) (OpenBlock.Loop repeats before ∷ outer) h = h
+alike-holding held (Block.Choice cases d ∷ blocks) (OpenBlock.Loop repeats before ∷ outer) h = absurd h
+alike-holding held blocks (OpenBlock.Choice n t e ∷ outer) h = h
+
+alike-ended : (repeats : Bool) (blocks : List Block) (open_blocks : List OpenBlock) → AreAlike blocks open_blocks → AreAlike blocks (ended_in repeats open_blocks)
+alike-ended repeats blocks [] h = h
+alike-ended repeats [] (OpenBlock.Loop again before ∷ outer) h = absurd h
+alike-ended repeats (Block.Loop top ∷ blocks) (OpenBlock.Loop again before ∷ outer) h = h
+alike-ended repeats (Block.Choice cases d ∷ blocks) (OpenBlock.Loop again before ∷ outer) h = absurd h
+alike-ended repeats blocks (OpenBlock.Choice n t e ∷ outer) h = h
+
+alike-case : (awaits : Bool) (c : Case) (blocks : List Block) (open_blocks : List OpenBlock) → AreAlike blocks open_blocks → AreAlike (case_put c blocks) (case_added awaits open_blocks)
+alike-case awaits c [] [] h = tt
+alike-case awaits c [] (inner ∷ outer) h = absurd h
+alike-case awaits c (Block.Loop top ∷ blocks) [] h = absurd h
+alike-case awaits c (Block.Choice cases d ∷ blocks) [] h = absurd h
+alike-case awaits c (Block.Loop top ∷ blocks) (OpenBlock.Choice n t e ∷ outer) h = absurd h
+alike-case awaits c (Block.Choice cases d ∷ blocks) (OpenBlock.Loop repeats held ∷ outer) h = absurd h
+alike-case awaits c (Block.Loop top ∷ blocks) (OpenBlock.Loop repeats held ∷ outer) h = h
+alike-case awaits c (Block.Choice cases d ∷ blocks) (OpenBlock.Choice n t e ∷ outer) h = h
+
+alike-default : (to : ℕ) (blocks : List Block) (open_blocks : List OpenBlock) → AreAlike blocks open_blocks → AreAlike (default_put to blocks) (default_added open_blocks)
+alike-default to [] [] h = tt
+alike-default to [] (inner ∷ outer) h = absurd h
+alike-default to (Block.Loop top ∷ blocks) [] h = absurd h
+alike-default to (Block.Choice cases d ∷ blocks) [] h = absurd h
+alike-default to (Block.Loop top ∷ blocks) (OpenBlock.Choice n t e ∷ outer) h = absurd h
+alike-default to (Block.Choice cases d ∷ blocks) (OpenBlock.Loop repeats held ∷ outer) h = absurd h
+alike-default to (Block.Loop top ∷ blocks) (OpenBlock.Loop repeats held ∷ outer) h = h
+alike-default to (Block.Choice cases d ∷ blocks) (OpenBlock.Choice n t e ∷ outer) h = (refl, h.1)
+
+depth-case : (awaits : Bool) (blocks : List OpenBlock) → loop_count (case_added awaits blocks) ≡ loop_count blocks
+depth-case awaits [] = refl
+depth-case awaits (OpenBlock.Loop repeats held ∷ outer) = refl
+depth-case awaits (OpenBlock.Choice n t e ∷ outer) = refl
+
+depth-default : (blocks : List OpenBlock) → loop_count (default_added blocks) ≡ loop_count blocks
+depth-default [] = refl
+depth-default (OpenBlock.Loop repeats held ∷ outer) = refl
+depth-default (OpenBlock.Choice n t e ∷ outer) = refl
+
+last-within : (n : ℕ) (cases : List Case) (c : Case) → c.to - 1 < n → AreWithin n cases → AreWithin n (cases ++ c ∷ [])
+last-within n [] c h w = (h, tt)
+last-within n (x ∷ cases) c h w = (w.0, last-within n cases c h w.1)
+
+case-within : (n : ℕ) (c : Case) (blocks : List Block) → c.to - 1 < n → AllWithin n blocks → AllWithin n (case_put c blocks)
+case-within n c [] h w = tt
+case-within n c (Block.Loop top ∷ blocks) h w = w
+case-within n c (Block.Choice cases d ∷ blocks) h w = (last-within n cases c h w.0, w.1, w.2)
+
+default-within : (n to : ℕ) (blocks : List Block) → to - 1 < n → AllWithin n blocks → AllWithin n (default_put to blocks)
+default-within n to [] h w = tt
+default-within n to (Block.Loop top ∷ blocks) h w = w
+default-within n to (Block.Choice cases d ∷ blocks) h w = (w.0, h, w.2)
+
+-- outside functions no block is open
+no-case : (c : Case) (blocks : List Block) → blocks ≡ [] → case_put c blocks ≡ []
+no-case c blocks e = ap (case_put c) e
+
+no-default : (to : ℕ) (blocks : List Block) → blocks ≡ [] → default_put to blocks ≡ []
+no-default to blocks e = ap (default_put to) e
+
+agrees-closes : (p : Progress) (b : Built) (count : ℕ) (awaits : Bool) (blocks : List Block) (open_blocks : List OpenBlock) → p.blocks ≡ open_blocks → b.blocks ≡ blocks → loop_count open_blocks ≤ 4 → AreAlike blocks open_blocks → AllWithin (length b.code) blocks → Agrees (progress_with p Role.Closes count awaits) (closed b blocks)
+agrees-closes p b count awaits [] [] l t few e w = record {
+  alike = subst (λ bs. AreAlike b.blocks (block_ended bs)) (sym l) (subst (λ bs. AreAlike bs []) (sym t) tt);
+  shallow = omega (arith, ap (λ bs. loop_count (block_ended bs)) l);
   outside = λ _. t;
   within = subst (AllWithin 0) (sym t) tt;
 }
-agrees-closes p b count [] (inner ∷ outer) l t e w = absurd (omega arith)
-agrees-closes p b count (top ∷ tops) [] l t e w = absurd (omega arith)
-agrees-closes p b count (top ∷ tops) (inner ∷ outer) l t e w =
-    let end : Instr = Instr.LoopEnd (length tops) top in
+agrees-closes p b count awaits [] (inner ∷ outer) l t few e w = absurd e
+agrees-closes p b count awaits (Block.Loop top ∷ blocks) [] l t few e w = absurd e
+agrees-closes p b count awaits (Block.Choice cases d ∷ blocks) [] l t few e w = absurd e
+agrees-closes p b count awaits (Block.Loop top ∷ blocks) (OpenBlock.Choice n u f ∷ outer) l t few e w = absurd e
+agrees-closes p b count awaits (Block.Choice cases d ∷ blocks) (OpenBlock.Loop repeats held ∷ outer) l t few e w = absurd e
+agrees-closes p b count awaits (Block.Loop top ∷ blocks) (OpenBlock.Loop repeats held ∷ outer) l t few e w =
+    let end : Instr = Instr.LoopEnd (loops_open blocks) top in
     let size = length-change (b.code ++ end ∷ []) top (leading (length b.code + 1)) in
     let more = one-more b.code end in
-    let same : length tops ≡ length outer = omega arith in
     record {
-      tops = same ∙ sym (length-ended inner.repeats outer) ∙ sym (ap (λ ls. length (loop_ended ls)) l);
+      alike = subst (λ bs. AreAlike blocks (block_ended bs)) (sym l) (alike-ended repeats blocks outer e);
+      shallow = omega (arith, few, ap (λ bs. loop_count (block_ended bs)) l, depth-ended repeats outer);
       outside = λ h. let none : true ≡ false = ap (λ ls. not (are_none_open ls)) (sym l) ∙ h in cc;
-      within = within-more (length b.code) _ tops (omega (arith, size, more)) w.1;
+      within = within-more (length b.code) _ blocks (omega (arith, size, more)) w.1;
+    }
+agrees-closes p b count awaits (Block.Choice cases d ∷ blocks) (OpenBlock.Choice n u f ∷ outer) l t few e w =
+    let end : Instr = Instr.Jump (length b.code + 1) in
+    let size = length-chosen (length b.code + 1) cases d cases d (b.code ++ end ∷ []) in
+    let more = one-more b.code end in
+    record {
+      alike = subst (λ bs. AreAlike blocks (block_ended bs)) (sym l) e.1;
+      shallow = omega (arith, few, ap (λ bs. loop_count (block_ended bs)) l);
+      outside = λ h. let none : true ≡ false = ap (λ ls. not (are_none_open ls)) (sym l) ∙ h in cc;
+      within = within-more (length b.code) _ blocks (omega (arith, size, more)) w.2;
     }
 
-agrees-by : (names : Names) (name : List ℕ) (role : Role) (arg : Arg) (a : ℕ) (step : Step) (count : ℕ) (p : Progress) (b : Built) → FitsRole names role arg a step → stands p.inside role ≡ true → Agrees p b → Agrees (progress_with p role count) (built_after b (deed_of name step))
-agrees-by names name (Role.Declares kind) arg a (Step.Declare what) count p b fit h agrees =
-    record { tops = agrees.tops; outside = λ e. agrees.outside (not-true p.inside h); within = agrees.within }
-agrees-by names name (Role.Declares kind) arg a (Step.Open decl) count p b fit h agrees =
-    let none : b.tops ≡ [] = agrees.outside (not-true p.inside h) in
-    record { tops = agrees.tops; outside = λ e. none; within = subst (AllWithin 0) (sym none) tt }
-agrees-by names name (Role.Declares kind) arg a (Step.Do instr) count p b fit h agrees = absurd fit
-agrees-by names name (Role.Declares kind) arg a (Step.Loop passes) count p b fit h agrees = absurd fit
-agrees-by names name (Role.Declares kind) arg a Step.Close count p b fit h agrees = absurd fit
-agrees-by names name Role.Closes arg a Step.Close count p b fit h agrees = agrees-closes p b count b.tops p.loops refl refl agrees.tops agrees.within
-agrees-by names name Role.Closes arg a (Step.Declare what) count p b fit h agrees = absurd fit
-agrees-by names name Role.Closes arg a (Step.Open decl) count p b fit h agrees = absurd fit
-agrees-by names name Role.Closes arg a (Step.Do instr) count p b fit h agrees = absurd fit
-agrees-by names name Role.Closes arg a (Step.Loop passes) count p b fit h agrees = absurd fit
-agrees-by names name Role.Acts arg a (Step.Do instr) count p b fit h agrees = record {
-  tops = agrees.tops ∙ sym (length-holding Held.Entered p.loops);
+agrees-by : (names : Names) (name : List ℕ) (role : Role) (arg : Arg) (a : ℕ) (awaits : Bool) (step : Step) (count : ℕ) (p : Progress) (b : Built) → FitsRole names role arg a awaits step → stands p.inside role ≡ true → nests_wrongly p role ≡ false → Agrees p b → Agrees (progress_with p role count awaits) (built_after b (deed_of name step))
+agrees-by names name (Role.Declares kind) arg a awaits (Step.Declare what) count p b fit h c agrees =
+    record { alike = agrees.alike; shallow = agrees.shallow; outside = λ e. agrees.outside (not-true p.inside h); within = agrees.within }
+agrees-by names name (Role.Declares kind) arg a awaits (Step.Open decl) count p b fit h c agrees =
+    let none : b.blocks ≡ [] = agrees.outside (not-true p.inside h) in
+    record { alike = agrees.alike; shallow = agrees.shallow; outside = λ e. none; within = subst (AllWithin 0) (sym none) tt }
+agrees-by names name Role.Closes arg a awaits Step.Close count p b fit h c agrees = agrees-closes p b count awaits b.blocks p.blocks refl refl agrees.shallow agrees.alike agrees.within
+agrees-by names name Role.Acts arg a awaits (Step.Do instr) count p b fit h c agrees = record {
+  alike = alike-holding Held.Entered b.blocks p.blocks agrees.alike;
+  shallow = omega (arith, agrees.shallow, depth-holding Held.Entered p.blocks);
   outside = agrees.outside;
-  within = within-more (length b.code) (length (b.code ++ instr ∷ [])) b.tops (omega (arith, one-more b.code instr)) agrees.within;
+  within = within-more (length b.code) (length (b.code ++ instr ∷ [])) b.blocks (omega (arith, one-more b.code instr)) agrees.within;
 }
-agrees-by names name Role.Acts arg a (Step.Declare what) count p b fit h agrees = absurd fit
-agrees-by names name Role.Acts arg a (Step.Open decl) count p b fit h agrees = absurd fit
-agrees-by names name Role.Acts arg a (Step.Loop passes) count p b fit h agrees = absurd fit
-agrees-by names name Role.Acts arg a Step.Close count p b fit h agrees = absurd fit
-agrees-by names name Role.Loops arg a (Step.Loop passes) count p b fit h agrees =
-    let top : Instr = Instr.LoopTop (length b.tops) passes 0 in
+agrees-by names name Role.Loops arg a awaits (Step.Loop passes) count p b fit h c agrees =
+    let top : Instr = Instr.LoopTop (loops_open b.blocks) passes 0 in
     let more : length (b.code ++ top ∷ []) ≡ length b.code + 1 = one-more b.code top in
     record {
-      tops = ap suc agrees.tops;
+      alike = agrees.alike;
+      shallow = omega (arith, leb-false 4 (loop_count p.blocks) (or-left (leb 4 (loop_count p.blocks)) (leb 16 (length p.blocks)) c));
       outside = λ e. absurd (both_ways p.inside e h);
-      within = (omega (arith, more), within-more (length b.code) (length (b.code ++ top ∷ [])) b.tops (omega (arith, more)) agrees.within);
+      within = (omega (arith, more), within-more (length b.code) (length (b.code ++ top ∷ [])) b.blocks (omega (arith, more)) agrees.within);
     }
-agrees-by names name Role.Loops arg a (Step.Declare what) count p b fit h agrees = absurd fit
-agrees-by names name Role.Loops arg a (Step.Open decl) count p b fit h agrees = absurd fit
-agrees-by names name Role.Loops arg a (Step.Do instr) count p b fit h agrees = absurd fit
-agrees-by names name Role.Loops arg a Step.Close count p b fit h agrees = absurd fit
+agrees-by names name Role.Selects arg a awaits Step.Select count p b fit h c agrees = record {
+  alike = (refl, alike-holding Held.Entered b.blocks p.blocks agrees.alike);
+  shallow = omega (arith, agrees.shallow, depth-holding Held.Entered p.blocks);
+  outside = λ e. absurd (both_ways p.inside e h);
+  within = (tt, tt, agrees.within);
+}
+agrees-by names name Role.Chooses arg a awaits (Step.Case case) count p b fit h c agrees =
+    let more : length (b.code ++ Instr.Jump 0 ∷ []) ≡ length b.code + 1 = one-more b.code (Instr.Jump 0) in
+    record {
+      alike = alike-case awaits (case_at case (length b.code + 1)) b.blocks p.blocks agrees.alike;
+      shallow = omega (arith, agrees.shallow, depth-case awaits p.blocks);
+      outside = λ e. no-case (case_at case (length b.code + 1)) b.blocks (agrees.outside e);
+      within = case-within (length (b.code ++ Instr.Jump 0 ∷ [])) (case_at case (length b.code + 1)) b.blocks (omega (arith, more)) (within-more (length b.code) (length (b.code ++ Instr.Jump 0 ∷ [])) b.blocks (omega (arith, more)) agrees.within);
+    }
+agrees-by names name Role.Defaults arg a awaits Step.Default count p b fit h c agrees =
+    let more : length (b.code ++ Instr.Jump 0 ∷ []) ≡ length b.code + 1 = one-more b.code (Instr.Jump 0) in
+    record {
+      alike = alike-default (length b.code + 1) b.blocks p.blocks agrees.alike;
+      shallow = omega (arith, agrees.shallow, depth-default p.blocks);
+      outside = λ e. no-default (length b.code + 1) b.blocks (agrees.outside e);
+      within = default-within (length (b.code ++ Instr.Jump 0 ∷ [])) (length b.code + 1) b.blocks (omega (arith, more)) (within-more (length b.code) (length (b.code ++ Instr.Jump 0 ∷ [])) b.blocks (omega (arith, more)) agrees.within);
+    }
+agrees-by names name (Role.Declares kind) arg a awaits (Step.Do instr) count p b fit h c agrees = absurd fit
+agrees-by names name (Role.Declares kind) arg a awaits (Step.Loop passes) count p b fit h c agrees = absurd fit
+agrees-by names name (Role.Declares kind) arg a awaits Step.Select count p b fit h c agrees = absurd fit
+agrees-by names name (Role.Declares kind) arg a awaits (Step.Case case) count p b fit h c agrees = absurd fit
+agrees-by names name (Role.Declares kind) arg a awaits Step.Default count p b fit h c agrees = absurd fit
+agrees-by names name (Role.Declares kind) arg a awaits Step.Close count p b fit h c agrees = absurd fit
+agrees-by names name Role.Closes arg a awaits (Step.Declare what) count p b fit h c agrees = absurd fit
+agrees-by names name Role.Closes arg a awaits (Step.Open decl) count p b fit h c agrees = absurd fit
+agrees-by names name Role.Closes arg a awaits (Step.Do instr) count p b fit h c agrees = absurd fit
+agrees-by names name Role.Closes arg a awaits (Step.Loop passes) count p b fit h c agrees = absurd fit
+agrees-by names name Role.Closes arg a awaits Step.Select count p b fit h c agrees = absurd fit
+agrees-by names name Role.Closes arg a awaits (Step.Case case) count p b fit h c agrees = absurd fit
+agrees-by names name Role.Closes arg a awaits Step.Default count p b fit h c agrees = absurd fit
+agrees-by names name Role.Acts arg a awaits (Step.Declare what) count p b fit h c agrees = absurd fit
+agrees-by names name Role.Acts arg a awaits (Step.Open decl) count p b fit h c agrees = absurd fit
+agrees-by names name Role.Acts arg a awaits (Step.Loop passes) count p b fit h c agrees = absurd fit
+agrees-by names name Role.Acts arg a awaits Step.Select count p b fit h c agrees = absurd fit
+agrees-by names name Role.Acts arg a awaits (Step.Case case) count p b fit h c agrees = absurd fit
+agrees-by names name Role.Acts arg a awaits Step.Default count p b fit h c agrees = absurd fit
+agrees-by names name Role.Acts arg a awaits Step.Close count p b fit h c agrees = absurd fit
+agrees-by names name Role.Loops arg a awaits (Step.Declare what) count p b fit h c agrees = absurd fit
+agrees-by names name Role.Loops arg a awaits (Step.Open decl) count p b fit h c agrees = absurd fit
+agrees-by names name Role.Loops arg a awaits (Step.Do instr) count p b fit h c agrees = absurd fit
+agrees-by names name Role.Loops arg a awaits Step.Select count p b fit h c agrees = absurd fit
+agrees-by names name Role.Loops arg a awaits (Step.Case case) count p b fit h c agrees = absurd fit
+agrees-by names name Role.Loops arg a awaits Step.Default count p b fit h c agrees = absurd fit
+agrees-by names name Role.Loops arg a awaits Step.Close count p b fit h c agrees = absurd fit
+agrees-by names name Role.Selects arg a awaits (Step.Declare what) count p b fit h c agrees = absurd fit
+agrees-by names name Role.Selects arg a awaits (Step.Open decl) count p b fit h c agrees = absurd fit
+agrees-by names name Role.Selects arg a awaits (Step.Do instr) count p b fit h c agrees = absurd fit
+agrees-by names name Role.Selects arg a awaits (Step.Loop passes) count p b fit h c agrees = absurd fit
+agrees-by names name Role.Selects arg a awaits (Step.Case case) count p b fit h c agrees = absurd fit
+agrees-by names name Role.Selects arg a awaits Step.Default count p b fit h c agrees = absurd fit
+agrees-by names name Role.Selects arg a awaits Step.Close count p b fit h c agrees = absurd fit
+agrees-by names name Role.Chooses arg a awaits (Step.Declare what) count p b fit h c agrees = absurd fit
+agrees-by names name Role.Chooses arg a awaits (Step.Open decl) count p b fit h c agrees = absurd fit
+agrees-by names name Role.Chooses arg a awaits (Step.Do instr) count p b fit h c agrees = absurd fit
+agrees-by names name Role.Chooses arg a awaits (Step.Loop passes) count p b fit h c agrees = absurd fit
+agrees-by names name Role.Chooses arg a awaits Step.Select count p b fit h c agrees = absurd fit
+agrees-by names name Role.Chooses arg a awaits Step.Default count p b fit h c agrees = absurd fit
+agrees-by names name Role.Chooses arg a awaits Step.Close count p b fit h c agrees = absurd fit
+agrees-by names name Role.Defaults arg a awaits (Step.Declare what) count p b fit h c agrees = absurd fit
+agrees-by names name Role.Defaults arg a awaits (Step.Open decl) count p b fit h c agrees = absurd fit
+agrees-by names name Role.Defaults arg a awaits (Step.Do instr) count p b fit h c agrees = absurd fit
+agrees-by names name Role.Defaults arg a awaits (Step.Loop passes) count p b fit h c agrees = absurd fit
+agrees-by names name Role.Defaults arg a awaits Step.Select count p b fit h c agrees = absurd fit
+agrees-by names name Role.Defaults arg a awaits (Step.Case case) count p b fit h c agrees = absurd fit
+agrees-by names name Role.Defaults arg a awaits Step.Close count p b fit h c agrees = absurd fit
 
 -- ---- how far the reader is
 
 -- the count of a loop is the value of its first word; no other line has one
-count-is : (names : Names) (p : Progress) (k : Keyword) (word : List ℕ) → progress_with p (form_of k).role (unwrap_or (value_of names (form_of k).first word) 0) ≡ progress_with p (form_of k).role (count_of word)
-count-is names p Keyword.Loop word = refl
-count-is names p _ word = refl
+count-is : (names : Names) (p : Progress) (k : Keyword) (word : List ℕ) (awaits : Bool) → progress_with p (form_of k).role (unwrap_or (value_of names (form_of k).first word) 0) awaits ≡ progress_with p (form_of k).role (count_of word) awaits
+count-is names p Keyword.Loop word awaits = refl
+count-is names p _ word awaits = refl
 
-pub passed : (names : Names) (p : Progress) (line : NumberedLine) (c : Command) (s : Statement) → command_of line.words ≡ Some c → s ≡ statement_of names c → progress_with p (role_of s) (unwrap_or s.first 0) ≡ progress_after p line
+pub passed : (names : Names) (p : Progress) (line : NumberedLine) (c : Command) (s : Statement) → command_of line.words ≡ Some c → s ≡ statement_of names c → progress_with p (role_of s) (unwrap_or s.first 0) s.awaits ≡ progress_after names p line
 passed names p line c s h e =
-    ap (λ (t : Statement). progress_with p (role_of t) (unwrap_or t.first 0)) e ∙ count-is names p c.keyword c.first
-    ∙ sym (ap (λ (o : Option Command). elim o [ None ↦ p | Some d ↦ progress_with p (form_of d.keyword).role (count_of d.first) ]) h)
+    ap (λ (t : Statement). progress_with p (role_of t) (unwrap_or t.first 0) t.awaits) e ∙ count-is names p c.keyword c.first (awaits_timer names c)
+    ∙ sym (ap (λ (o : Option Command). elim o [ None ↦ p | Some d ↦ progress_with p (form_of d.keyword).role (count_of d.first) (awaits_timer names d) ]) h)
 
 -- where a cause is looked for and none is found, the statement is right
 pub right-at : (r r' : Reader) (is_last lacks_main : Bool) (s : Statement) → r ≡ r' → None ≡ first_cause (causes is_last lacks_main r.progress s) → IsRight is_last lacks_main r'.progress s
@@ -309,19 +457,19 @@ goes names p b b' line c s inside' is_last lacks_main h e right agrees i made = 
     let b_is : b' ≡ built_after b deed = built-is b b' c.first (step_with s) what.step (ap step_with e ∙ what.step_is) made in
     ap (λ x. script_by x b' rest main) (i ∙ ap (λ (t : Statement). inside_after p (role_of t)) e)
     ∙ ap (λ x. script_by (inside_after p role) x rest main) b_is
-    ∙ deed-left b.decls b.funcs b.open_decl b.code b.tops deed rest main p.inside (inside_after p role) agrees.within agrees.outside
-    (moves names c.first role (form_of c.keyword).first what.first what.step p b what.fits r.stands_here r.nested agrees)
+    ∙ deed-left b.decls b.funcs b.open_decl b.code b.blocks deed rest main p.inside (inside_after p role) agrees.within agrees.outside
+    (moves names c.first role (form_of c.keyword).first what.first (awaits_timer names c) what.step p b what.fits r.stands_here r.nested r.chosen agrees)
     ∙ ap (λ ds. script_by p.inside b ds main) (sym deeds)
 
-pub agrees : (names : Names) (p p' : Progress) (b b' : Built) (c : Command) (s : Statement) (count : ℕ) (is_last lacks_main : Bool) → s ≡ statement_of names c → IsRight is_last lacks_main p s → Agrees p b → p' ≡ progress_with p (role_of s) count → IfSome (step_with s) (λ step. b' ≡ built_after b (deed_of c.first step)) → Agrees p' b'
+pub agrees : (names : Names) (p p' : Progress) (b b' : Built) (c : Command) (s : Statement) (count : ℕ) (is_last lacks_main : Bool) → s ≡ statement_of names c → IsRight is_last lacks_main p s → Agrees p b → p' ≡ progress_with p (role_of s) count s.awaits → IfSome (step_with s) (λ step. b' ≡ built_after b (deed_of c.first step)) → Agrees p' b'
 agrees names p p' b b' c s count is_last lacks_main e right old i made =
     let role : Role = (form_of c.keyword).role in
     let r : IsRight is_last lacks_main p (statement_of names c) = subst (IsRight is_last lacks_main p) e right in
     let what : Doing names c = doing names c r.names r.counts in
     let b_is : b' ≡ built_after b (deed_of c.first what.step) = built-is b b' c.first (step_with s) what.step (ap step_with e ∙ what.step_is) made in
-    let p_is : p' ≡ progress_with p role count = i ∙ ap (λ (t : Statement). progress_with p (role_of t) count) e in
+    let p_is : p' ≡ progress_with p role count (awaits_timer names c) = i ∙ ap (λ (t : Statement). progress_with p (role_of t) count t.awaits) e in
     subst (Agrees p') (sym b_is) (subst (λ q. Agrees q (built_after b (deed_of c.first what.step))) (sym p_is)
-    (agrees-by names c.first role (form_of c.keyword).first what.first what.step count p b what.fits r.stands_here old))
+    (agrees-by names c.first role (form_of c.keyword).first what.first (awaits_timer names c) what.step count p b what.fits r.stands_here r.nested old))
 
 -- ---- faults
 
@@ -331,13 +479,13 @@ fault-is f line why e h = ap (λ l. fault_of l why) (sym e) ∙ ap (λ w. fault_
 -- the first line with a cause has the fault
 pub fault-here : (names : Names) (p : Progress) (line : NumberedLine) (rest : List NumberedLine) (is_last : Bool) (f : ScriptFault) → is_last ≡ is_end rest → f.line ≡ line.number → cause_at names is_last p line ≡ Some f.why → fault_from names p (line ∷ rest) ≡ Some f
 fault-here names p line rest is_last f last at h =
-    ap (λ o. fault_or o line.number (fault_from names (progress_after p line) rest)) (ap (λ b. cause_at names b p line) (sym last) ∙ h)
+    ap (λ o. fault_or o line.number (fault_from names (progress_after names p line) rest)) (ap (λ b. cause_at names b p line) (sym last) ∙ h)
     ∙ ap (λ (x : ScriptFault). Some x) (fault-is f line.number f.why at refl)
 
 -- a line with none leads to the next one
-pub fault-later : (names : Names) (p : Progress) (line : NumberedLine) (rest : List NumberedLine) (is_last : Bool) → is_last ≡ is_end rest → cause_at names is_last p line ≡ None → fault_from names p (line ∷ rest) ≡ fault_from names (progress_after p line) rest
+pub fault-later : (names : Names) (p : Progress) (line : NumberedLine) (rest : List NumberedLine) (is_last : Bool) → is_last ≡ is_end rest → cause_at names is_last p line ≡ None → fault_from names p (line ∷ rest) ≡ fault_from names (progress_after names p line) rest
 fault-later names p line rest is_last last h =
-    ap (λ o. fault_or o line.number (fault_from names (progress_after p line) rest)) (ap (λ b. cause_at names b p line) (sym last) ∙ h)
+    ap (λ o. fault_or o line.number (fault_from names (progress_after names p line) rest)) (ap (λ b. cause_at names b p line) (sym last) ∙ h)
 
 -- the words of the head
 pub is_head-words : (name kind version : List ℕ) (words rest : Words) → words ≡ kind ∷ rest → only_word rest ≡ Some version → is_head (name ∷ words) ≡ (bytes_eq name (codes "gotime") && bytes_eq kind (codes "script") && bytes_eq version (codes "1"))

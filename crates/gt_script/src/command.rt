@@ -4,13 +4,13 @@ ghost use Rattle.std.specs.Prelude.{◌≡◌, ◌≤◌, ◌∷◌, MatchOption
 ghost use Rattle.gt_lines.specs.Words.{words_of};
 ghost use Rattle.gt_table.specs.Forms.{is_wanted, most_of};
 ghost use Rattle.gt_table.specs.Table.{form_of};
-ghost use Rattle.gt_grammar.specs.Statements.{command, command_of, taken, taking, step_with};
+ghost use Rattle.gt_grammar.specs.Statements.{command, command_of, command_with, case_of, is_ticking, is_case_recv, taken, taking, step_with};
 
 use crate::value::read_value;
 use gt_grammar::Statement;
-use gt_lines::first_word;
-use gt_names::NameTable;
-use gt_table::{Arg, Keyword, Step, read_keyword};
+use gt_lines::{first_word, is_text};
+use gt_names::{Declared, NameTable};
+use gt_table::{Arg, Keyword, Kind, Step, read_case, read_keyword};
 
 /// A keyword with the words behind it that it wants. A word that it does not want is empty.
 #[derive(Clone, Copy)]
@@ -33,12 +33,11 @@ fn take_word<'a>(arg: Arg, rest: &'a [u8]) -> Option<(&'a [u8], &'a [u8])>
     }
 }
 
-/// The command of a line with this first word. `None` where that is no keyword, or wants another number of words.
-pub(crate) fn read_command<'a>(word: &[u8], rest: &'a [u8]) -> Option<Command<'a>>
-    ensures { MatchOption result (command_of (word.now ∷ words_of rest.now) ≡ None)
-        (λ c. command_of (word.now ∷ words_of rest.now) ≡ Some (command c.keyword c.first.now c.second.now)) }
+// The command of a keyword and what follows it. `None` where the keyword wants another number of words.
+fn read_behind<'a>(keyword: Keyword, rest: &'a [u8]) -> Option<Command<'a>>
+    ensures { MatchOption result (command_with keyword (words_of rest.now) ≡ None)
+        (λ c. command_with keyword (words_of rest.now) ≡ Some (command c.keyword c.first.now c.second.now)) }
 {
-    let keyword = read_keyword(word)?;
     let form = keyword.form();
     let (first, rest) = take_word(form.first, rest)?;
     let (second, rest) = take_word(form.second, rest)?;
@@ -52,12 +51,56 @@ pub(crate) fn read_command<'a>(word: &[u8], rest: &'a [u8]) -> Option<Command<'a
     }
 }
 
+// The command of what follows `case`.
+fn read_case_behind<'a>(rest: &'a [u8]) -> Option<Command<'a>>
+    ensures { MatchOption result (case_of (words_of rest.now) ≡ None)
+        (λ c. case_of (words_of rest.now) ≡ Some (command c.keyword c.first.now c.second.now)) }
+{
+    let (word, rest) = first_word(rest)?;
+    read_behind(read_case(word)?, rest)
+}
+
+/// The command of a line with this first word. `None` where that is no keyword, or wants other words or another number of them.
+pub(crate) fn read_command<'a>(word: &[u8], rest: &'a [u8]) -> Option<Command<'a>>
+    ensures { MatchOption result (command_of (word.now ∷ words_of rest.now) ≡ None)
+        (λ c. command_of (word.now ∷ words_of rest.now) ≡ Some (command c.keyword c.first.now c.second.now)) }
+{
+    if is_text(word, b"case") {
+        return read_case_behind(rest);
+    }
+    read_behind(read_keyword(word)?, rest)
+}
+
+// Whether a name is declared as a channel timer.
+fn is_ticking(declared: Option<Declared>) -> bool
+    ensures { result ≡ is_ticking declared }
+{
+    match declared {
+        None => false,
+        Some(d) => matches!(d.kind, Kind::Timer),
+    }
+}
+
+fn is_case_recv(keyword: Keyword) -> bool
+    ensures { result ≡ is_case_recv keyword }
+{
+    matches!(keyword, Keyword::CaseRecv)
+}
+
 impl<'a> Command<'a> {
     ghost use Rattle.std.specs.Prelude.{◌≡◌, ◌≤◌, IfSome};
     ghost use Rattle.gt_table.specs.Forms.{most_of};
     ghost use Rattle.gt_table.specs.Table.{form_of};
     ghost use Rattle.gt_names.specs.Known.{known};
-    ghost use Rattle.gt_grammar.specs.Statements.{command, statement_of};
+    ghost use Rattle.gt_grammar.specs.Statements.{command, awaits_timer, statement_of};
+
+    // Whether it is a case that receives from a timer.
+    fn awaits_timer(&self, names: &NameTable<'a>) -> bool
+        ensures { result
+            ≡ awaits_timer (known names.now) (command self.now.keyword self.now.first.now self.now.second.now) }
+    {
+        is_case_recv(self.keyword) && is_ticking(names.find(self.first))
+    }
 
     /// What it says, with these names.
     pub(crate) fn read(&self, names: &NameTable<'a>) -> Statement
@@ -71,6 +114,7 @@ impl<'a> Command<'a> {
             keyword: self.keyword,
             first: read_value(names, form.first, self.first),
             second: read_value(names, form.second, self.second),
+            awaits: self.awaits_timer(names),
         }
     }
 }

@@ -1,6 +1,7 @@
 //! The reader of the script language.
 #![tactic(auto)]
 
+mod cases;
 mod command;
 mod read;
 mod reader;

@@ -132,8 +132,10 @@ fn earlier(line: u32, read: Result<Script, Unread>) -> Unread
 /// and in between has instructions, each a keyword and what follows it, as the rows of [`gt_table::Keyword::form`] say: numbers of
 /// 32 bits, durations of at most [`gt_model::CAP`] nanoseconds, and names that are declared as what is wanted there. Among them
 /// stand loops: a block `loop N` .. `end` with N from 0 to 1,000,000, up to four in one another, which holds something, and more
-/// than loops with 0 where N is above 0. One function is `main`. Each name is declared once, before or after its uses. A script has
-/// at most 4,096 names, 256 functions among them, and 100,000 instructions.
+/// than loops with 0 where N is above 0. And selects: a block `select` .. `end` of 1 to 16 cases, each a line `case recv O` or
+/// `case send C N` with its body behind it, and then, if wanted, a line `default` with its body; with a default at most one case
+/// receives from a timer. A select is an instruction. Up to 16 blocks stand in one another. One function is `main`. Each name is
+/// declared once, before or after its uses. A script has at most 4,096 names, 256 functions among them, and 100,000 instructions.
 ///
 /// # Errors
 ///

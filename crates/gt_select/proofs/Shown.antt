@@ -127,7 +127,7 @@ module _ (goroutines turns : ℕ) (keys places : List (Option ℕ)) (tickets : S
           rw (get_or-map at xs i 0 p il', get_or-map at xs j 0 p jl')
           (is_party-other (at x) (at y) (λ e. differ (same_node goroutines turns keys tickets a x y (stands x (i, il', get_or_default_zero xs i x il')) (stands y (j, jl', get_or_default_zero xs j y jl')) e))))
 
-      early : (g turn : ℕ) (o : Option ℕ) → get_or keys g None ≡ o → get_or (turns_of tickets keys) g None ≡ Some turn → turn < turns
+      early : (g turn : ℕ) (o : Option ℕ) → get_or keys g None ≡ o → get_or (turns_of tickets keys) g None ≡ Some turn → turn ≤ turns
       early g turn None e is = let no = sym is ∙ turn_at-turns tickets keys g ∙ ap (turn_at tickets) e in absurd (cc)
       early g turn (Some key) e is =
           let t = a.keyed g key e in

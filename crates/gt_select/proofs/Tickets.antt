@@ -6,6 +6,7 @@ use Rattle.std.proofs.lemmas.List.Sums.{sum_by-set, count_by-le-length}
 use Rattle.slab.specs.Slab.{Slab, get, slab_len, HasRoomFor, Updates}
 use Rattle.gt_select.specs.declared.nodes.Ticket.{Ticket}
 use Rattle.gt_select.specs.Kept.{turn_at, turn_of, turns_of, AreTickets}
+use Rattle.gt_select.specs.Waiting.{next_turn}
 use Rattle.gt_select.proofs.Parties.{some_value, turn_at-turns, set-agree}
 
 abbrev one_of : Option ℕ → ℕ
@@ -91,11 +92,12 @@ module _ (goroutines turns : ℕ) (keys : List (Option ℕ)) (tickets : Slab Tic
           | inr other ↦ inr (other, sym (u.others k other) ∙ e)
         ]
 
-    pub AreTickets-given : t.g ≡ g → t.turn ≡ turns → slab_len tickets' ≡ slab_len tickets + 1 → key < tickets'.capacity → tickets'.capacity ≡ tickets.capacity → AreTickets goroutines (turns + 1) (set keys g (Some key)) tickets'
+    pub AreTickets-given : t.g ≡ g → t.turn ≡ turns → slab_len tickets' ≡ slab_len tickets + 1 → key < tickets'.capacity → tickets'.capacity ≡ tickets.capacity → AreTickets goroutines (next_turn turns) (set keys g (Some key)) tickets'
     AreTickets-given mine turn len inside capacity =
         let size = a.size in
         let room = a.room in
         let counted = a.counted in
+        let most = a.most in
         let gin : g < length keys = omega arith in
         record {
           size = length-set keys g (Some key) ∙ a.size;
@@ -123,6 +125,7 @@ module _ (goroutines turns : ℕ) (keys : List (Option ℕ)) (tickets : Slab Tic
                 | inl new ↦ let same = ap (λ w. w.turn) new.1 in omega arith
                 | inr old ↦ let before = a.earlier k v old.1 in omega arith
               ];
+          most = omega arith;
           inside = λ k v e.
               elim (stood k v e) [
                 | inl new ↦ let same = new.0 in omega arith
@@ -190,6 +193,7 @@ module _ (goroutines turns : ℕ) (keys : List (Option ℕ)) (tickets : Slab Tic
               let before = a.held k v old.1 in
               get_or-set_other keys g v.g None None (λ same. let no : Some k ≡ Some key = sym before ∙ ap (λ h. get_or keys h None) same ∙ known in old.0 (cc)) ∙ before;
           earlier = λ k v e. a.earlier k v (remains k v e).1;
+          most = a.most;
           inside = λ k v e. let before = a.inside k v (remains k v e).1 in omega arith;
         }
 
@@ -212,5 +216,6 @@ AreTickets-first goroutines tickets empty room =
       keyed = λ g key e. let no = sym (none-replicate (goroutines + 1) g) ∙ e in absurd (cc);
       held = λ key t e. let no = sym (nothing key) ∙ e in absurd (cc);
       earlier = λ key t e. let no = sym (nothing key) ∙ e in absurd (cc);
+      most = omega arith;
       inside = λ key t e. let no = sym (nothing key) ∙ e in absurd (cc);
     }

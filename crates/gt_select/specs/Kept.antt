@@ -1,6 +1,6 @@
 -- How queues of nodes make the lists: the goroutine whose ticket has the key k has the seventeen nodes from 17 k on, one for
 -- each number of a case.
-use Rattle.std.specs.Prelude.{◌≡◌, ℕ, zero, suc, ◌+◌, ◌*◌, ◌/◌, ◌%◌, ◌==◌, ◌≤◌, ◌<◌, ◌^◌, not, Option, Some, None, IsSome, is_some, List, [], ◌∷◌, map, filter, length, count_by, slice_index_or, Contains}
+use Rattle.std.specs.Prelude.{◌≡◌, ℕ, zero, suc, ◌+◌, ◌-◌, ◌*◌, ◌/◌, ◌%◌, ◌==◌, ◌≤◌, ◌<◌, ◌^◌, not, Option, Some, None, IsSome, is_some, List, [], ◌∷◌, map, filter, length, count_by, slice_index_or, Contains}
 use Rattle.slab.specs.Slab.{Slab, get, slab_len}
 use Rattle.gt_model.specs.declared.entry.Party.{Party}
 use Rattle.gt_queue.specs.Contents.{Contents, waiting_in, without, behind}
@@ -56,7 +56,8 @@ pub record AreTickets (goroutines turns : ℕ) (keys : List (Option ℕ)) (ticke
   pub counted : slab_len tickets ≡ count_by is_some keys
   pub keyed : (g key : ℕ) → slice_index_or keys g None ≡ Some key → HoldsTicket tickets key g
   pub held : (key : ℕ) (t : Ticket) → get tickets key ≡ Some t → slice_index_or keys t.g None ≡ Some key
-  pub earlier : (key : ℕ) (t : Ticket) → get tickets key ≡ Some t → t.turn < turns
+  pub earlier : (key : ℕ) (t : Ticket) → get tickets key ≡ Some t → t.turn ≤ turns
+  pub most : turns ≤ 2 ^ 64 - 1
   pub inside : (key : ℕ) (t : Ticket) → get tickets key ≡ Some t → key < tickets.capacity
 
 -- who stands in a queue has its number at its place, and its goroutine has a ticket

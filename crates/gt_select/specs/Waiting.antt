@@ -1,5 +1,5 @@
 -- Who waits in which list, and who has a live ticket.
-use Rattle.std.specs.Prelude.{◌≡◌, ℕ, ◌+◌, ◌≤◌, ◌<◌, ◌==◌, ◌^◌, Bool, not, Option, Some, None, IsSome, List, [], ◌∷◌, ◌++◌, map, filter, length, replicate, slice_set, slice_index_or, Contains, if◌then◌else◌, false}
+use Rattle.std.specs.Prelude.{◌≡◌, ℕ, ◌+◌, ◌-◌, ◌≤◌, ◌==◌, ◌^◌, min, Bool, not, Option, Some, None, IsSome, List, [], ◌∷◌, ◌++◌, map, filter, length, replicate, slice_set, slice_index_or, Contains, if◌then◌else◌, false}
 use Rattle.std.specs.List.{IsDistinct}
 use Rattle.gt_model.specs.declared.entry.Party.{Party}
 use Rattle.gt_select.specs.declared.nodes.Ticket.{Ticket}
@@ -7,7 +7,7 @@ use Rattle.gt_select.specs.declared.nodes.Ticket.{Ticket}
 pub record Waiting : Type 0 where
   pub lists : List (List Party)  -- by list: the parties that wait there, the longest waiting first
   pub tickets : List (Option ℕ)  -- by goroutine: the turn of its live ticket, if it has one
-  pub turns : ℕ  -- how many tickets were given
+  pub turns : ℕ  -- how many tickets were given; it stands still at its greatest value
   pub goroutines : ℕ  -- the greatest number of a goroutine
 
 -- who wait in a list, the longest waiting first
@@ -27,7 +27,6 @@ pub record MayEnrol (w : Waiting) (g : ℕ) : Type 0 where
   pub first : 1 ≤ g
   pub last : g ≤ w.goroutines
   pub none : ticket_of w g ≡ None
-  pub turns : w.turns + 1 < 2 ^ 64
 
 -- p can wait: its goroutine has a live ticket, and p stands in no list
 pub record MayWait (w : Waiting) (p : Party) : Type 0 where
@@ -56,9 +55,13 @@ nobody_waits goroutines lists = record {
   goroutines = goroutines;
 }
 
+-- a count stands still at its greatest value
+abbrev pub next_turn : ℕ → ℕ
+next_turn turns = min (turns + 1) (2 ^ 64 - 1)
+
 -- g has the next ticket
 abbrev pub enrolled : Waiting → ℕ → Waiting
-enrolled w g = record w { tickets = slice_set w.tickets g (Some w.turns); turns = w.turns + 1 }
+enrolled w g = record w { tickets = slice_set w.tickets g (Some w.turns); turns = next_turn w.turns }
 
 -- p is the last in a list
 abbrev pub joined : Waiting → ℕ → Party → Waiting
@@ -88,4 +91,4 @@ pub record IsLawful (w : Waiting) : Type 0 where
   pub apart : (m n : ℕ) (p : Party) → Contains (parties_in w.lists m) p → Contains (parties_in w.lists n) p → m ≡ n
   pub once : (list : ℕ) → IsDistinct is_party (parties_in w.lists list)
   pub goroutines : length w.tickets ≡ w.goroutines + 1
-  pub earlier : (g turn : ℕ) → ticket_of w g ≡ Some turn → turn < w.turns
+  pub earlier : (g turn : ℕ) → ticket_of w g ≡ Some turn → turn ≤ w.turns

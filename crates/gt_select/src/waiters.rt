@@ -14,8 +14,8 @@ use std::marker::Model;
 const MOST_NODES: usize = 0xffff_ffff;
 
 /// Those that wait. They are seen as the `lists`, each the list of the parties that wait there with the longest waiting first;
-/// the `tickets`, by goroutine the turn of its live ticket or none; the number `turns` of tickets that were given; and the
-/// greatest number `goroutines` of a goroutine.
+/// the `tickets`, by goroutine the turn of its live ticket or none; the number `turns` of tickets that were given, which stands
+/// still at 2^64 - 1; and the greatest number `goroutines` of a goroutine.
 ///
 /// Each party in a list is of a goroutine with a live ticket, and stands in that list alone, once.
 #[derive(Drop)]
@@ -101,7 +101,7 @@ impl Waiters {
         self.ticket(t.g) == Some(t.turn)
     }
 
-    /// Gives a ticket to a goroutine that has none. The turns are below 2^64 - 1.
+    /// Gives a ticket to a goroutine that has none. `turns` stands still at 2^64 - 1, and from then on all tickets have that turn.
     pub fn enrol(&mut self, g: u32) -> Ticket
         requires { MayEnrol self.old g }
         ensures g { result.g ≡ g }
@@ -114,7 +114,7 @@ impl Waiters {
         };
         let key = self.tickets.insert_reserved(ticket);
         self.keys.set(g, Some(key as u32));
-        self.turns += 1;
+        self.turns = self.turns.saturating_add(1);
         ticket
     }
 

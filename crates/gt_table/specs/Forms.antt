@@ -14,12 +14,18 @@ declared_kind (Role.Declares kind) = Some kind
 declared_kind Role.Closes = None
 declared_kind Role.Acts = None
 declared_kind Role.Loops = None
+declared_kind Role.Selects = None
+declared_kind Role.Chooses = None
+declared_kind Role.Defaults = None
 
 abbrev pub is_declaration : Role → Bool
 is_declaration (Role.Declares kind) = true
 is_declaration Role.Closes = false
 is_declaration Role.Acts = false
 is_declaration Role.Loops = false
+is_declaration Role.Selects = false
+is_declaration Role.Chooses = false
+is_declaration Role.Defaults = false
 
 abbrev pub is_kind_function : Kind → Bool
 is_kind_function Kind.Timer = false
@@ -33,6 +39,13 @@ is_kind_setting Kind.Timer = true
 is_kind_setting Kind.AfterFunc = true
 is_kind_setting Kind.Chan = false
 is_kind_setting Kind.Function = false
+
+-- a timer that is received from
+abbrev pub is_kind_timer : Kind → Bool
+is_kind_timer Kind.Timer = true
+is_kind_timer Kind.AfterFunc = false
+is_kind_timer Kind.Chan = false
+is_kind_timer Kind.Function = false
 
 abbrev pub is_kind_chan : Kind → Bool
 is_kind_chan Kind.Timer = false
@@ -53,12 +66,18 @@ opens (Role.Declares kind) = is_kind_function kind
 opens Role.Closes = false
 opens Role.Acts = false
 opens Role.Loops = false
+opens Role.Selects = false
+opens Role.Chooses = false
+opens Role.Defaults = false
 
 abbrev pub closes : Role → Bool
 closes (Role.Declares kind) = false
 closes Role.Closes = true
 closes Role.Acts = false
 closes Role.Loops = false
+closes Role.Selects = false
+closes Role.Chooses = false
+closes Role.Defaults = false
 
 -- whether it is an instruction
 abbrev pub acts : Role → Bool
@@ -66,6 +85,9 @@ acts (Role.Declares kind) = false
 acts Role.Closes = false
 acts Role.Acts = true
 acts Role.Loops = false
+acts Role.Selects = true
+acts Role.Chooses = false
+acts Role.Defaults = false
 
 -- whether it opens a loop
 abbrev pub loops : Role → Bool
@@ -73,6 +95,9 @@ loops (Role.Declares kind) = false
 loops Role.Closes = false
 loops Role.Acts = false
 loops Role.Loops = true
+loops Role.Selects = false
+loops Role.Chooses = false
+loops Role.Defaults = false
 
 -- whether a word is wanted there
 abbrev pub is_wanted : Arg → Bool

@@ -1,8 +1,9 @@
--- The table of the words that a line may begin with: where such a line stands, what follows the word, and what the line does.
+-- The table of the words that a line may begin with, or that may stand behind `case`: where such a line stands, what follows the word, and what the line does.
 use Rattle.std.specs.Prelude.{ℕ, if◌then◌else◌, List, [], ◌∷◌, codes}
 use Rattle.std.specs.Str.{bytes_eq}
 use Rattle.std.specs.declared.option.Option.{Option}
 use Rattle.std.specs.declared.option.Option.TheVariants.{None, Some}
+use Rattle.gt_model.specs.declared.script.CaseKind.{CaseKind}
 use Rattle.gt_model.specs.declared.script.Instr.{Instr}
 use Rattle.gt_model.specs.declared.script.What.{What}
 use Rattle.gt_table.specs.declared.form.Arg.{Arg}
@@ -29,6 +30,10 @@ row_of Keyword.Chan = row (codes "chan") (Role.Declares Kind.Chan) Arg.NewName A
 row_of Keyword.Func = row (codes "func") (Role.Declares Kind.Function) Arg.NewName Arg.Nothing (λ decl b. Step.Open decl)
 row_of Keyword.End = row (codes "end") Role.Closes Arg.Nothing Arg.Nothing (λ a b. Step.Close)
 row_of Keyword.Loop = row (codes "loop") Role.Loops Arg.Passes Arg.Nothing (λ n b. Step.Loop n)
+row_of Keyword.Select = row (codes "select") Role.Selects Arg.Nothing Arg.Nothing (λ a b. Step.Select)
+row_of Keyword.CaseRecv = row (codes "recv") Role.Chooses Arg.Source Arg.Nothing (λ o b. Step.Case (CaseKind.Recv o))
+row_of Keyword.CaseSend = row (codes "send") Role.Chooses Arg.Channel Arg.Number (λ c v. Step.Case (CaseKind.Send c v))
+row_of Keyword.Default = row (codes "default") Role.Defaults Arg.Nothing Arg.Nothing (λ a b. Step.Default)
 row_of Keyword.Say = row (codes "say") Role.Acts Arg.Number Arg.Nothing (λ n b. Step.Do (Instr.Say n))
 row_of Keyword.Now = row (codes "now") Role.Acts Arg.Nothing Arg.Nothing (λ a b. Step.Do Instr.Now)
 row_of Keyword.Sleep = row (codes "sleep") Role.Acts Arg.Duration Arg.Nothing (λ d b. Step.Do (Instr.Sleep d))
@@ -43,16 +48,24 @@ row_of Keyword.Close = row (codes "close") Role.Acts Arg.Channel Arg.Nothing (λ
 
 abbrev pub keywords : List Keyword
 keywords =
-    Keyword.Timer ∷ Keyword.AfterFunc ∷ Keyword.Chan ∷ Keyword.Func ∷ Keyword.End ∷ Keyword.Loop ∷ Keyword.Say ∷ Keyword.Now ∷ Keyword.Sleep ∷ Keyword.Go ∷ Keyword.New
+    Keyword.Timer ∷ Keyword.AfterFunc ∷ Keyword.Chan ∷ Keyword.Func ∷ Keyword.End ∷ Keyword.Loop ∷ Keyword.Select ∷ Keyword.Default ∷ Keyword.Say ∷ Keyword.Now ∷ Keyword.Sleep ∷ Keyword.Go ∷ Keyword.New
     ∷ Keyword.Stop ∷ Keyword.Reset ∷ Keyword.Recv ∷ Keyword.Make ∷ Keyword.Send ∷ Keyword.Close ∷ []
 
 abbrev pub keyword_in : List Keyword → List ℕ → Option Keyword
 keyword_in [] word = None
 keyword_in (k ∷ ks) word = if bytes_eq word (row_of k).word then Some k else keyword_in ks word
 
--- the keyword that a word is
+-- what a case does
+abbrev pub case_keywords : List Keyword
+case_keywords = Keyword.CaseRecv ∷ Keyword.CaseSend ∷ []
+
+-- the keyword that the first word of a line is
 abbrev pub keyword_of : List ℕ → Option Keyword
 keyword_of word = keyword_in keywords word
+
+-- the keyword of a case that has this word behind `case`
+abbrev pub case_keyword_of : List ℕ → Option Keyword
+case_keyword_of word = keyword_in case_keywords word
 
 abbrev pub form_of : Keyword → Form
 form_of k = (row_of k).form

@@ -2,7 +2,7 @@
 
 ghost use Rattle.std.specs.Prelude.{◌≡◌};
 
-use gt_model::{Instr, What};
+use gt_model::{CaseKind, Instr, What};
 
 /// What kind of thing a name is declared as.
 #[derive(Clone, Copy, Debug, PartialEq, Eq)]
@@ -43,12 +43,18 @@ pub enum Arg {
 pub enum Role {
     /// It stands outside functions and declares a name. The declaration of a function opens it.
     Declares { kind: Kind },
-    /// It closes the innermost loop that is open, or else the function.
+    /// It closes the innermost block that is open, or else the function.
     Closes,
     /// It stands inside a function and is an instruction.
     Acts,
     /// It stands inside a function and opens a loop.
     Loops,
+    /// It stands inside a function, is an instruction, and opens a select.
+    Selects,
+    /// It is a case of the select that is the innermost block.
+    Chooses,
+    /// It is the default of the select that is the innermost block.
+    Defaults,
 }
 
 /// What a keyword makes of its line.
@@ -70,7 +76,13 @@ pub enum Step {
     Do { instr: Instr },
     /// Opens a loop with so many passes.
     Loop { count: u32 },
-    /// Closes the innermost loop that is open, or else the function.
+    /// Opens a select.
+    Select,
+    /// Goes on with a case of the innermost select.
+    Case { kind: CaseKind },
+    /// Goes on with the default of the innermost select.
+    Default,
+    /// Closes the innermost block that is open, or else the function.
     Close,
 }
 
@@ -106,7 +118,12 @@ impl Role {
     {
         match self {
             Role::Declares { kind } => Some(kind),
-            Role::Closes | Role::Acts | Role::Loops => None,
+            Role::Closes
+            | Role::Acts
+            | Role::Loops
+            | Role::Selects
+            | Role::Chooses
+            | Role::Defaults => None,
         }
     }
 
@@ -123,11 +140,16 @@ impl Role {
     {
         match self {
             Role::Declares { kind } => matches!(kind, Kind::Function),
-            Role::Closes | Role::Acts | Role::Loops => false,
+            Role::Closes
+            | Role::Acts
+            | Role::Loops
+            | Role::Selects
+            | Role::Chooses
+            | Role::Defaults => false,
         }
     }
 
-    /// Whether it closes a loop or a function.
+    /// Whether it closes a block or a function.
     pub fn closes(self) -> bool
         ensures { result ≡ closes self }
     {
@@ -138,7 +160,7 @@ impl Role {
     pub fn acts(self) -> bool
         ensures { result ≡ acts self }
     {
-        matches!(self, Role::Acts)
+        matches!(self, Role::Acts | Role::Selects)
     }
 
     /// Whether it opens a loop.

@@ -5,4 +5,4 @@ mod form;
 mod table;
 
 pub use form::{Arg, Form, Kind, Role, Step};
-pub use table::{Keyword, read_keyword};
+pub use table::{Keyword, read_case, read_keyword};

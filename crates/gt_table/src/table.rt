@@ -1,12 +1,12 @@
 //! The keywords: one row for each says what it wants and what it does.
 
 ghost use Rattle.std.specs.Prelude.{◌≡◌};
-ghost use Rattle.gt_table.specs.Table.{keyword_of};
+ghost use Rattle.gt_table.specs.Table.{keyword_of, case_keyword_of};
 
 use crate::form::{Arg, Form, Kind, Role, Step};
-use gt_model::{Instr, What};
+use gt_model::{CaseKind, Instr, What};
 
-/// A word that a line may begin with.
+/// A word that a line may begin with, or that may stand behind `case`.
 #[derive(Clone, Copy, Debug, PartialEq, Eq)]
 pub enum Keyword {
     Timer,
@@ -15,6 +15,12 @@ pub enum Keyword {
     Func,
     End,
     Loop,
+    Select,
+    /// `case recv`
+    CaseRecv,
+    /// `case send`
+    CaseSend,
+    Default,
     Say,
     Now,
     Sleep,
@@ -28,7 +34,7 @@ pub enum Keyword {
     Close,
 }
 
-/// The keyword that a word is, if it is one.
+/// The keyword that the first word of a line is, if it is one. That of a case has two words: [`read_case`] reads the second one.
 pub fn read_keyword(word: &[u8]) -> Option<Keyword>
     ensures { result ≡ keyword_of word.now }
 {
@@ -39,6 +45,8 @@ pub fn read_keyword(word: &[u8]) -> Option<Keyword>
         b"func" => Some(Keyword::Func),
         b"end" => Some(Keyword::End),
         b"loop" => Some(Keyword::Loop),
+        b"select" => Some(Keyword::Select),
+        b"default" => Some(Keyword::Default),
         b"say" => Some(Keyword::Say),
         b"now" => Some(Keyword::Now),
         b"sleep" => Some(Keyword::Sleep),
@@ -50,6 +58,17 @@ pub fn read_keyword(word: &[u8]) -> Option<Keyword>
         b"make" => Some(Keyword::Make),
         b"send" => Some(Keyword::Send),
         b"close" => Some(Keyword::Close),
+        _ => None,
+    }
+}
+
+/// The keyword of a case that has this word behind `case`, if it is one.
+pub fn read_case(word: &[u8]) -> Option<Keyword>
+    ensures { result ≡ case_keyword_of word.now }
+{
+    match word {
+        b"recv" => Some(Keyword::CaseRecv),
+        b"send" => Some(Keyword::CaseSend),
         _ => None,
     }
 }
@@ -78,6 +97,10 @@ impl Keyword {
             Keyword::Func => Form::new(function, Arg::NewName, Arg::Nothing),
             Keyword::End => Form::new(Role::Closes, Arg::Nothing, Arg::Nothing),
             Keyword::Loop => Form::new(Role::Loops, Arg::Passes, Arg::Nothing),
+            Keyword::Select => Form::new(Role::Selects, Arg::Nothing, Arg::Nothing),
+            Keyword::CaseRecv => Form::new(Role::Chooses, Arg::Source, Arg::Nothing),
+            Keyword::CaseSend => Form::new(Role::Chooses, Arg::Channel, Arg::Number),
+            Keyword::Default => Form::new(Role::Defaults, Arg::Nothing, Arg::Nothing),
             Keyword::Say => Form::new(Role::Acts, Arg::Number, Arg::Nothing),
             Keyword::Now => Form::new(Role::Acts, Arg::Nothing, Arg::Nothing),
             Keyword::Sleep => Form::new(Role::Acts, Arg::Duration, Arg::Nothing),
@@ -111,6 +134,14 @@ impl Keyword {
             Keyword::Loop => Step::Loop {
                 count: first as u32,
             },
+            Keyword::Select => Step::Select,
+            Keyword::CaseRecv => Step::Case {
+                kind: CaseKind::Recv(first as u32),
+            },
+            Keyword::CaseSend => Step::Case {
+                kind: CaseKind::Send(first as u32, second as u32),
+            },
+            Keyword::Default => Step::Default,
             Keyword::Say => act(Instr::Say { n: first as u32 }),
             Keyword::Now => act(Instr::Now),
             Keyword::Sleep => act(Instr::Sleep { d: first }),

@@ -7,3 +7,5 @@ mod channels;
 mod durations;
 #[cfg(test)]
 mod scripts;
+#[cfg(test)]
+mod selects;

@@ -136,25 +136,41 @@ fn has_kinds(script: &Script) -> bool {
     }
 }
 
-fn is_main(code: &[Instr]) -> bool {
-    match code {
-        [
-            Instr::Go { f: 2 },
-            Instr::New {
-                t: 1,
-                d: 10_000_000,
-            },
-            Instr::New { t: 0, d: 5_000_000 },
-            Instr::Stop { t: 1 },
-            Instr::Reset { t: 0, d: 0 },
-            Instr::Recv { o: 1 },
-            Instr::Say { n: 7 },
-            Instr::Now,
-            Instr::Sleep { d: 3_000_000 },
-            Instr::Finish,
-        ] => true,
+fn is_new(instr: &Instr, timer: u32, duration: u64) -> bool {
+    match instr {
+        Instr::New { t, d } => *t == timer && *d == duration,
         _ => false,
     }
+}
+
+fn is_front(code: &[Instr]) -> bool {
+    match code {
+        [start, made, other, stopped, again] => {
+            matches!(start, Instr::Go { f: 2 })
+                && is_new(made, 1, 10_000_000)
+                && is_new(other, 0, 5_000_000)
+                && matches!(stopped, Instr::Stop { t: 1 })
+                && matches!(again, Instr::Reset { t: 0, d: 0 })
+        }
+        _ => false,
+    }
+}
+
+fn is_back(code: &[Instr]) -> bool {
+    match code {
+        [received, said, looked, slept, last] => {
+            matches!(received, Instr::Recv { o: 1 })
+                && matches!(said, Instr::Say { n: 7 })
+                && matches!(looked, Instr::Now)
+                && matches!(slept, Instr::Sleep { d: 3_000_000 })
+                && matches!(last, Instr::Finish)
+        }
+        _ => false,
+    }
+}
+
+fn is_main(code: &[Instr]) -> bool {
+    code.len() == 10 && is_front(&code[..5]) && is_back(&code[5..])
 }
 
 fn has_code(script: &Script) -> bool {

@@ -2,4 +2,6 @@
 #![tactic(auto)]
 
 #[cfg(test)]
+mod selects;
+#[cfg(test)]
 mod tests;

@@ -51,6 +51,7 @@ fn fill_words(line: &mut Line, script: &Script, entry: &Entry)
         Entry::Recv { p, c, v } => fill_recv(line, script, p, c, v),
         Entry::Pair { from, to, c, v } => fill_pair(line, script, from, to, c, v),
         Entry::Close { g, c } => fill_channel(line, b"close", script, g, c),
+        Entry::Default { g } => fill_goroutine(line, b"default", g),
         Entry::Clock { world, at } => fill_clock(line, world, at),
         Entry::Panic { p, reason } => fill_panic(line, p, reason),
         Entry::Finish { outcome } => fill_outcome(line, outcome),
@@ -60,9 +61,9 @@ fn fill_words(line: &mut Line, script: &Script, entry: &Entry)
 // The words of a goroutine that did something which its line's first word tells.
 fn fill_goroutine(line: &mut Line, word: &[u8], g: u32)
     requires empty { line.old.items ≡ [] }
-    requires short { length word.now ≤ 5 }
+    requires short { length word.now ≤ 7 }
     ensures words { line.new.items ≡ join_with_byte space (word.now ∷ goroutine_word g ∷ []) }
-    ensures room { array_vec_len line.new ≤ 17 }
+    ensures room { array_vec_len line.new ≤ 19 }
 {
     push_bytes(line, word);
     push_goroutine(line, g);

@@ -1,10 +1,11 @@
-use Rattle.std.proofs.Common.{◌≡◌, [], ◌∷◌, None, Some, true, false, refl, sym, subst}
+use Rattle.std.proofs.Common.{◌≡◌, ℕ, List, [], ◌∷◌, arith, None, Some, true, false, refl, sym, subst}
+use Rattle.gt_model.specs.declared.script.CaseKind.{CaseKind}
 use Rattle.gt_model.specs.declared.script.Instr.{Instr}
 use Rattle.gt_model.specs.declared.entry.Entry.{Entry}
 use Rattle.gt_model.specs.declared.entry.Reason.{Reason}
 use Rattle.gt_laws.specs.GoesOn.{misuse_told}
-use Rattle.gt_laws.specs.Laws.{UsesRightly}
-use Rattle.gt_laws.specs.Broken.{two_calls, one_stop}
+use Rattle.gt_laws.specs.Laws.{IsMisuse, UsesRightly}
+use Rattle.gt_laws.specs.Broken.{two_calls, one_stop, one_unmade, two_polls}
 use Rattle.gt_laws.proofs.a_misuse_without_a_panic_breaks_the_law.Goals as goal
 
 pub returns-clause-made_twice : goal.returns-clause-made_twice
@@ -21,8 +22,7 @@ returns-clause-for_nothing c = λ h.
     h [] (Entry.Panic (record { g = 1; case_no = 0 }) Reason.Unmade) [] refl in
     let stands : Some (Instr.Say 1) ≡ Some panic.0 = panic.1 in
     let at : Instr.Say 1 ≡ panic.0 = cc in
-    let misuse : None ≡ Some Reason.Unmade = subst (λ (i : Instr). misuse_told [] i ≡ Some Reason.Unmade) (sym at) panic.2 in
-    cc misuse
+    subst (λ (i : Instr). IsMisuse [] i 0 Reason.Unmade (misuse_told [] i)) (sym at) panic.2
 
 pub returns-clause-for_another_reason : goal.returns-clause-for_another_reason
 returns-clause-for_another_reason c = λ h.
@@ -30,5 +30,32 @@ returns-clause-for_another_reason c = λ h.
     h [] (Entry.Panic (record { g = 1; case_no = 0 }) Reason.Twice) [] refl in
     let stands : Some (Instr.Stop 1) ≡ Some panic.0 = panic.1 in
     let at : Instr.Stop 1 ≡ panic.0 = cc in
-    let misuse : Some Reason.Unmade ≡ Some Reason.Twice = subst (λ (i : Instr). misuse_told [] i ≡ Some Reason.Twice) (sym at) panic.2 in
+    let misuse : IsMisuse [] (Instr.Stop 1) 0 Reason.Twice (Some Reason.Unmade) = subst (λ (i : Instr). IsMisuse [] i 0 Reason.Twice (misuse_told [] i)) (sym at) panic.2 in
+    cc misuse.0
+
+pub returns-clause-beside_a_misuse : goal.returns-clause-beside_a_misuse
+returns-clause-beside_a_misuse c = λ h.
+    let misuse : Some Reason.Unmade ≡ None = (h (Entry.Make 1 1 ∷ []) (Entry.Send (record { g = 1; case_no = 1 }) 1 7) [] refl).2 in
     cc misuse
+
+pub returns-clause-for_another_case : goal.returns-clause-for_another_case
+returns-clause-for_another_case c = λ h.
+    let front : List Entry = Entry.Make 1 1 ∷ [] in
+    let panic : UsesRightly one_unmade front (Entry.Panic (record { g = 1; case_no = 1 }) Reason.Unmade) =
+    h front (Entry.Panic (record { g = 1; case_no = 1 }) Reason.Unmade) [] refl in
+    let choice : Instr = Instr.Select ((record { kind = CaseKind.Send 1 7; to = 2 }) ∷ (record { kind = CaseKind.Recv 2; to = 3 }) ∷ []) None in
+    let same : Some choice ≡ Some panic.0 = panic.1 in
+    let at : choice ≡ panic.0 = cc in
+    let other : ◌≡◌ {A = ℕ} 1 2 = (subst (λ (i : Instr). IsMisuse front i 1 Reason.Unmade (misuse_told front i)) (sym at) panic.2).1 in
+    omega arith
+
+pub returns-clause-for_no_close : goal.returns-clause-for_no_close
+returns-clause-for_no_close c = λ h.
+    let front : List Entry = Entry.Make 1 1 ∷ Entry.Go 1 2 1 ∷ [] in
+    let panic : UsesRightly two_polls front (Entry.Panic (record { g = 2; case_no = 1 }) Reason.Closed) =
+    h front (Entry.Panic (record { g = 2; case_no = 1 }) Reason.Closed) [] refl in
+    let choice : Instr = Instr.Select ((record { kind = CaseKind.Send 1 1; to = 1 }) ∷ []) (Some 2) in
+    let same : Some choice ≡ Some panic.0 = panic.1 in
+    let at : choice ≡ panic.0 = cc in
+    let closed : false ≡ true = (subst (λ (i : Instr). IsMisuse front i 1 Reason.Closed (misuse_told front i)) (sym at) panic.2).0 in
+    cc closed

@@ -1,9 +1,10 @@
 use Rattle.std.proofs.Common.{◌≡◌, ℕ, [], ◌∷◌, None, Some, true, false, refl, sym, subst}
+use Rattle.gt_model.specs.declared.script.CaseKind.{CaseKind}
 use Rattle.gt_model.specs.declared.script.Instr.{Instr}
 use Rattle.gt_model.specs.declared.entry.Entry.{Entry}
 use Rattle.gt_rules.specs.Legal.{sleep_end}
 use Rattle.gt_laws.specs.Laws.{InOrder}
-use Rattle.gt_laws.specs.Broken.{one_sleep, one_start}
+use Rattle.gt_laws.specs.Broken.{case_taken, one_sleep, one_start, value_waits}
 use Rattle.gt_laws.proofs.calls_out_of_order_break_the_law.Goals as goal
 
 pub returns-clause-swapped : goal.returns-clause-swapped
@@ -38,3 +39,13 @@ pub returns-clause-wakes_awake : goal.returns-clause-wakes_awake
 returns-clause-wakes_awake c = λ h.
     let sleeps : false ≡ true = h [] (Entry.Wake 1) [] refl in
     cc sleeps
+
+pub returns-clause-other_body : goal.returns-clause-other_body
+returns-clause-other_body c = λ h.
+    let body : Some (Instr.Say 1) ≡ Some (Instr.Say 2) = h case_taken (Entry.Say 1 2) [] refl in
+    cc body
+
+pub returns-clause-other_case : goal.returns-clause-other_case
+returns-clause-other_case c = λ h.
+    let none : None ≡ Some (CaseKind.Recv 1) = (h value_waits (Entry.Recv (record { g = 1; case_no = 0 }) 1 (Some 7)) [] refl).0 in
+    cc none

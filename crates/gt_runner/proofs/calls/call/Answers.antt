@@ -1,6 +1,4 @@
-use Rattle.gt_rules.specs.State.{stands_at}
-use Rattle.std.proofs.Common.{ℕ, Option, ◌≡◌, refl, sym, ap, subst, ◌∙◌, Some}
-use Rattle.gt_model.specs.declared.script.Instr.{Instr}
+use Rattle.std.proofs.Common.{ℕ, ◌≡◌, refl, sym, ap, subst, ◌∙◌, Some}
 use Rattle.gt_book.specs.declared.answers.TimerOp.{TimerOp}
 use Rattle.gt_book.specs.declared.step.Step.{Step}
 use Rattle.gt_book.specs.View.{BookView}
@@ -9,11 +7,11 @@ use Rattle.gt_book.specs.declared.answers.Did.{Did}
 use Rattle.gt_book.proofs.Setting.{NeedsOnly, ParksUnder, steps-timer, steps-enrolled, is_enrolled}
 use Rattle.gt_rows.specs.Rows.{next_of}
 use Rattle.gt_schedule.specs.declared.status.Ticket.{Ticket}
-use Rattle.gt_runner.specs.Calls.{WantsSet, IsEnrolled, Enrols}
+use Rattle.gt_runner.specs.declared.runner.Runner.{Runner}
+use Rattle.gt_runner.specs.Calls.{Ready, WantsSet, IsUncounted}
 use Rattle.gt_runner.proofs.Growing.{ready-same, after-same}
-use Rattle.gt_runner.proofs.Calling.{stands-recv}
-use Rattle.gt_runner.proofs.Parking.{steps-after, waits-timer}
-use Rattle.gt_runner.proofs.Waiting.{parked-enrolled, after-enrols}
+use Rattle.gt_runner.proofs.Parking.{steps-after}
+use Rattle.gt_runner.proofs.Enrolling.{Parks, parks-under, parked-uncounted, after-enrols}
 use Rattle.gt_runner.proofs.calls.call.Goals as goal
 
 pub returns-in_default : goal.returns-in_default
@@ -40,21 +38,35 @@ sleep-requires-clause-ready c =
     steps-timer x.book c.args.g c.step_plain.new.self c.in-Timer.wanted c.requires.ready.running (ap is_enrolled c.in-Sleep.is) c.in-Timer.ensures in
     ready-same x c.step_plain.new.self c.args.g needs.same c.requires.ready
 
+-- the goroutine was parked where it awaits timers
+under : (x : Runner) (g : ℕ) (b : BookView) (wanted : TimerOp) (ticket : Ticket) → Ready x g → wanted ≡ TimerOp.Enrolled ticket → Steps x.book g b (Did.Timer wanted) → ParksUnder x.book g ticket b
+under x g b wanted ticket ready is steps = steps-enrolled x.book g b ticket ready.running (subst (λ w. Steps x.book g b (Did.Timer w)) is steps)
+
 pub wait-requires : goal.wait-requires
 wait-requires c =
     let x = c.args.run.now in
-    let steps : Steps x.book c.args.g c.step_plain.new.self (Did.Timer (TimerOp.Enrolled c.in-Enrolled.ticket)) =
-    subst (λ w. Steps x.book c.args.g c.step_plain.new.self (Did.Timer w)) c.in-Enrolled.is c.in-Timer.ensures in
-    let parks : ParksUnder x.book c.args.g c.in-Enrolled.ticket c.step_plain.new.self = steps-enrolled x.book c.args.g c.step_plain.new.self c.in-Enrolled.ticket c.requires.ready.running steps in
+    let b = c.step_plain.new.self in
+    let its : ParksUnder x.book c.args.g c.in-Enrolled.ticket b = under x c.args.g b c.in-Timer.wanted c.in-Enrolled.ticket c.requires.ready c.in-Enrolled.is c.in-Timer.ensures in
+    let parks : Parks x.book c.args.g b = parks-under x.book c.args.g c.in-Enrolled.ticket b its in
     record {
-      enrolled = (
-        parks.at,
-        subst (λ ticket. IsEnrolled (record x { book = c.step_plain.new.self }) ticket parks.at) (sym parks.its)
-            (parked-enrolled x (record x { book = c.step_plain.new.self }) c.args.g parks.at c.requires.ready (stands-recv x.book c.args.g parks.at c.requires.ready.lawful parks.waits)
-            (waits-timer x.book c.args.g parks.at c.requires.ready.lawful parks.waits) parks.parked refl refl refl
-            c.lawful.ensures.lawful c.lawful.ensures.marks),
-      );
+      uncounted = subst (λ ticket. IsUncounted (record x { book = b }) ticket) (sym its.its)
+          (parked-uncounted x (record x { book = b }) c.args.g parks.schedule parks.instr c.requires.ready parks.stands parks.is parks.was refl refl refl
+          c.lawful.ensures.lawful c.lawful.ensures.marks);
     }
+
+pub poll-requires-clause-ready : goal.poll-requires-clause-ready
+poll-requires-clause-ready c =
+    let x = c.args.run.now in
+    let needs : NeedsOnly x.book c.args.g c.in-Timer.wanted c.step_plain.new.self =
+    steps-timer x.book c.args.g c.step_plain.new.self c.in-Timer.wanted c.requires.ready.running (ap is_enrolled c.in-Poll.is) c.in-Timer.ensures in
+    ready-same x c.step_plain.new.self c.args.g needs.same c.requires.ready
+
+pub poll-requires-clause-wants : goal.poll-requires-clause-wants
+poll-requires-clause-wants c =
+    let x = c.args.run.now in
+    let needs : NeedsOnly x.book c.args.g c.in-Timer.wanted c.step_plain.new.self =
+    steps-timer x.book c.args.g c.step_plain.new.self c.in-Timer.wanted c.requires.ready.running (ap is_enrolled c.in-Poll.is) c.in-Timer.ensures in
+    subst (λ b. next_of b c.args.g ≡ Some (Step.Needs (TimerOp.Poll c.in-Poll.t))) (sym needs.same) (needs.needs ∙ ap (λ op. Some (Step.Needs op)) c.in-Poll.is)
 
 pub set-requires-clause-ready : goal.set-requires-clause-ready
 set-requires-clause-ready c =
@@ -99,21 +111,17 @@ returns-in-Set c =
     steps-timer x.book c.args.g c.step_plain.new.self c.in-Timer.wanted c.requires.ready.running (ap is_enrolled c.in-Set.is) c.in-Timer.ensures in
     after-same x (record x { book = c.step_plain.new.self }) c.set.new.run c.args.g needs.same c.set.ensures
 
-same-recv : (o : Option Instr) (t u : ℕ) → o ≡ Some (Instr.Recv t) → o ≡ Some (Instr.Recv u) → t ≡ u
-same-recv o t u e f = cc
+pub returns-in-Poll : goal.returns-in-Poll
+returns-in-Poll c =
+    let x = c.args.run.now in
+    let needs : NeedsOnly x.book c.args.g c.in-Timer.wanted c.step_plain.new.self =
+    steps-timer x.book c.args.g c.step_plain.new.self c.in-Timer.wanted c.requires.ready.running (ap is_enrolled c.in-Poll.is) c.in-Timer.ensures in
+    after-same x (record x { book = c.step_plain.new.self }) c.poll.new.run c.args.g needs.same c.poll.ensures
 
 pub returns-in-Enrolled : goal.returns-in-Enrolled
 returns-in-Enrolled c =
     let x = c.args.run.now in
     let b = c.step_plain.new.self in
-    let steps : Steps x.book c.args.g b (Did.Timer (TimerOp.Enrolled c.in-Enrolled.ticket)) =
-    subst (λ w. Steps x.book c.args.g b (Did.Timer w)) c.in-Enrolled.is c.in-Timer.ensures in
-    let parks : ParksUnder x.book c.args.g c.in-Enrolled.ticket b = steps-enrolled x.book c.args.g b c.in-Enrolled.ticket c.requires.ready.running steps in
-    let g_is : c.in-Enrolled.ticket.g ≡ c.args.g = ap (λ (t : Ticket). t.g) parks.its in
-    let stands : stands_at b.script b.state c.args.g ≡ Some (Instr.Recv parks.at) =
-    subst (λ (b : BookView). stands_at b.script b.state c.args.g ≡ Some (Instr.Recv parks.at)) (sym parks.parked) (stands-recv x.book c.args.g parks.at c.requires.ready.lawful parks.waits) in
-    let stands_too : stands_at b.script b.state c.args.g ≡ Some (Instr.Recv c.wait.ensures.0) = subst (λ g. stands_at b.script b.state g ≡ Some (Instr.Recv c.wait.ensures.0)) g_is c.wait.ensures.1.1 in
-    let same : c.wait.ensures.0 ≡ parks.at = same-recv (stands_at b.script b.state c.args.g) c.wait.ensures.0 parks.at stands_too stands in
-    let enrols : Enrols (record x { book = b }) c.wait.new.run c.args.g parks.at =
-    subst (λ g. Enrols (record x { book = b }) c.wait.new.run g parks.at) g_is (subst (λ t. Enrols (record x { book = b }) c.wait.new.run c.in-Enrolled.ticket.g t) same c.wait.ensures.1.0) in
-    after-enrols x (record x { book = b }) c.wait.new.run c.args.g parks.at c.requires.ready parks.parked c.lawful.ensures.lawful enrols
+    let its : ParksUnder x.book c.args.g c.in-Enrolled.ticket b = under x c.args.g b c.in-Timer.wanted c.in-Enrolled.ticket c.requires.ready c.in-Enrolled.is c.in-Timer.ensures in
+    let parks : Parks x.book c.args.g b = parks-under x.book c.args.g c.in-Enrolled.ticket b its in
+    after-enrols x (record x { book = b }) c.wait.new.run c.args.g parks.schedule c.requires.ready parks.is parks.was c.wait.ensures

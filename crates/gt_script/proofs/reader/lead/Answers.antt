@@ -1,5 +1,5 @@
 use Rattle.std.proofs.Common.{◌≤◌, length, sym, arith, refl}
-use Rattle.gt_script.proofs.ReadingLemmas.{lead-is, change-past}
+use Rattle.gt_script.proofs.CodeLeft.{lead-is, change-past}
 use Rattle.gt_script.specs.Reading.{leading}
 use Rattle.gt_script.proofs.reader.lead.Goals as goal
 

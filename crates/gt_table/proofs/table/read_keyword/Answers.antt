@@ -19,3 +19,22 @@ returns-in-close c =
     let word : List ℕ = c.args.word.now in
     let is : word ≡ codes "close" = text_from_reads word (codes "close") (omega arith) (search rules) in
     rw is
+
+pub returns-in-sleep : goal.returns-in-sleep
+returns-in-sleep c =
+    let word : List ℕ = c.args.word.now in
+    let is : word ≡ codes "sleep" = text_from_reads word (codes "sleep") (omega arith) (search rules) in
+    rw is
+
+pub returns-in-select : goal.returns-in-select
+returns-in-select c =
+    let word : List ℕ = c.args.word.now in
+    let is : word ≡ codes "select" = text_from_reads word (codes "select") (omega arith) (search rules) in
+    rw is
+
+-- `default`
+pub returns-in-100 : goal.returns-in-100
+returns-in-100 c =
+    let word : List ℕ = c.args.word.now in
+    let is : word ≡ codes "default" = text_from_reads word (codes "default") (omega arith) (search rules) in
+    rw is

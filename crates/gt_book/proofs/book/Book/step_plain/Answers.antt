@@ -1,8 +1,9 @@
-use Rattle.std.proofs.Common.{rules, sym, ◌≡◌, ◌∙◌, Some, None}
+use Rattle.std.proofs.Common.{rules, sym, subst, ◌≡◌, ◌∙◌, Some, None}
 use Rattle.gt_model.specs.declared.script.CaseKind.{CaseKind}
 use Rattle.gt_book.specs.declared.step.Step.{Step}
 use Rattle.gt_book.specs.Steps.{step_of}
-use Rattle.gt_book.specs.View.{outcome_of}
+use Rattle.gt_book.specs.View.{IsLawful, outcome_of}
+use Rattle.gt_book.proofs.Going.{in_hand-acts}
 use Rattle.gt_book.proofs.Parking.{may-seen, served-seen, MayPark, waits-may, parks-may, park-declared, kept-parked}
 use Rattle.gt_book.proofs.book.Book.step_plain.Goals as goal
 
@@ -41,3 +42,8 @@ invariant_of-self-in-Parks c =
     parks-may c.self.inside c.args.self.now c.args.g c.in-Parks.kind c.self.view_is c.self.invariant c.requires (search rules) in
     kept-parked c.self.inside c.args.g c.in-Parks.kind c.park_at-ticket-in-Parks.new.self c.self.invariant may c.park_at-ticket-in-Parks.ensures.schedule
     c.park_at-ticket-in-Parks.ensures.room c.park_at-ticket-in-Parks.ensures.kept
+
+pub unreachable-requires : goal.unreachable-requires
+unreachable-requires c =
+    let nowhere : step_of c.args.self.now.script c.args.self.now.state c.args.self.now.schedule c.args.g ≡ Some Step.Nowhere = search rules in
+    in_hand-acts c.args.self.now c.args.g (subst IsLawful c.self.view_is c.self.invariant.lawful) c.requires nowhere

@@ -1,54 +1,74 @@
-use Rattle.std.proofs.Common.{rules, ◌≡◌, ◌+◌, ◌∷◌, ◌++◌, [], length, length-set, replicate, arith, ℕ, ◌≤◌, List, inl, inr, subst, refl, ap, ◌∙◌, None}
-use Rattle.std.proofs.lemmas.List.{length-replicate, get_or-replicate, get_or_past}
-use Rattle.std.proofs.lemmas.Bool.{cases_lt}
+use Rattle.std.proofs.Common.{rules, ◌≡◌, ◌+◌, ◌≤◌, ◌∷◌, ◌++◌, [], length, length-set, replicate, arith, refl, ap, sym, subst, ◌∙◌, ℕ, zero, suc}
+use Rattle.std.proofs.lemmas.List.{length-replicate}
 use Rattle.std.specs.List.{Contains}
 use Rattle.gt_queue.specs.Contents.{waiting_in}
 use Rattle.gt_queue.proofs.Members.{Contains-nil}
+use Rattle.gt_select.specs.Waiting.{Waiting, nobody_waits}
 use Rattle.gt_schedule.specs.declared.status.RunStatus.{RunStatus}
-use Rattle.gt_schedule.proofs.Keeping.{begun-is}
+use Rattle.gt_schedule.specs.declared.scheduler.Scheduler.{Scheduler}
+use Rattle.gt_schedule.specs.Schedule.{most_goroutines}
+use Rattle.gt_schedule.proofs.Keeping.{begun-is, hold-first}
 use Rattle.gt_schedule.proofs.scheduler.Scheduler.begin.Goals as goal
 
 pub returns-clause-schedule : goal.returns-clause-schedule
 returns-clause-schedule c =
-    let empty : c.in_ok-statuses.statuses.items ≡ [] = search rules in
+    let empty : c.in_ok-statuses.statuses.items ≡ [] = search (rules, c.with_room.ensures.empty, c.map_err.ensures, c.in_ok-statuses.was) in
     let no_marks : c.in_ok-marks.marks.items ≡ [] = search rules in
-    let made : c.in_ok-queues.queues.queues ≡ replicate (length c.args.script.now.decls + length c.args.script.now.decls + 1) [] = search rules in
-    begun-is (record { statuses = c.put.new.self; declared = length c.as_slice-declared.result.now; queues = c.enqueue.new.self; parks = 0; running = 0; marks = c.put-2.new.self }) c.args.script.now c.in_ok-queues.queues.queues
-    (c.put.ensures.items ∙ ap (λ xs. xs ++ RunStatus.Queued ∷ []) empty) (ap length c.as_slice-declared.ensures) made c.enqueue.ensures.queues refl (c.put-2.ensures.items ∙ ap (λ xs. xs ++ None ∷ []) no_marks)
+    let made : c.in_ok-run_queue.run_queue.queues ≡ replicate 1 [] = search rules in
+    let names : ℕ = length c.args.script.now.decls in
+    let begun : c.in_ok-waiters.waiters ≡ nobody_waits (most_goroutines c.args.limits) (names + names) = search rules in
+    begun-is (record { statuses = c.put.new.self; declared = length c.as_slice-declared.result.now; run_queue = c.enqueue.new.self; waiters = c.in_ok-waiters.waiters; parks = 0; running = 0; marks = c.put-2.new.self }) c.args.script.now c.in_ok-run_queue.run_queue.queues (most_goroutines c.args.limits)
+    (c.put.ensures.items ∙ ap (λ xs. xs ++ RunStatus.Queued ∷ []) empty) (ap length c.as_slice-declared.ensures) made c.enqueue.ensures.queues begun refl (c.put-2.ensures.items ∙ (ap (λ ts. c.in_ok-marks.marks.items ++ ts ∷ []) c.none.ensures ∙ ap (λ xs. xs ++ [] ∷ []) no_marks))
+
+pub returns-clause-room : goal.returns-clause-room
+returns-clause-room c =
+    let spare : c.in_ok-statuses.statuses.spare ≡ most_goroutines c.args.limits = search (rules, c.most_goroutines-most.ensures, c.with_room.ensures.spare, c.map_err.ensures, c.in_ok-statuses.was) in
+    let empty : c.in_ok-statuses.statuses.items ≡ [] = search (rules, c.with_room.ensures.empty, c.map_err.ensures, c.in_ok-statuses.was) in
+    let one : length c.put.new.self.items ≡ 1 = ap length (c.put.ensures.items ∙ ap (λ xs. xs ++ RunStatus.Queued ∷ []) empty) in
+    let less : c.put.new.self.spare + 1 ≡ c.in_ok-statuses.statuses.spare = c.put.ensures.spare in
+    omega arith
 
 pub returns-clause-kept : goal.returns-clause-kept
 returns-clause-kept c =
-    let empty : c.in_ok-statuses.statuses.items ≡ [] = search rules in
+    let most : ℕ = most_goroutines c.args.limits in
+    let names : ℕ = length c.args.script.now.decls in
+    let m : Scheduler = record { statuses = c.put.new.self; declared = length c.as_slice-declared.result.now; run_queue = c.enqueue.new.self; waiters = c.in_ok-waiters.waiters; parks = 0; running = 0; marks = c.put-2.new.self } in
+    let empty : c.in_ok-statuses.statuses.items ≡ [] = search (rules, c.with_room.ensures.empty, c.map_err.ensures, c.in_ok-statuses.was) in
     let no_marks : c.in_ok-marks.marks.items ≡ [] = search rules in
+    let made : c.in_ok-run_queue.run_queue.queues ≡ replicate 1 [] = search rules in
+    let members : c.in_ok-run_queue.run_queue.members ≡ most + 1 = search rules in
+    let spare : c.in_ok-statuses.statuses.spare ≡ most = search (rules, c.most_goroutines-most.ensures, c.with_room.ensures.spare, c.map_err.ensures, c.in_ok-statuses.was) in
+    let mark_spare : c.in_ok-marks.marks.spare ≡ most = search rules in
+    let begun : c.in_ok-waiters.waiters ≡ nobody_waits most (names + names) = search rules in
+    let few_names : names ≤ 4096 = search rules in
+    let few_entries : c.args.limits.entries ≤ 200000 = search rules in
     let statuses : c.put.new.self.items ≡ RunStatus.Queued ∷ [] = c.put.ensures.items ∙ ap (λ xs. xs ++ RunStatus.Queued ∷ []) empty in
-    let marks : c.put-2.new.self.items ≡ None ∷ [] = c.put-2.ensures.items ∙ ap (λ xs. xs ++ None ∷ []) no_marks in
+    let marks : c.put-2.new.self.items ≡ [] ∷ [] = c.put-2.ensures.items ∙ (ap (λ ts. c.in_ok-marks.marks.items ++ ts ∷ []) c.none.ensures ∙ ap (λ xs. xs ++ [] ∷ []) no_marks) in
     let one : length c.put.new.self.items ≡ 1 = ap length statuses in
     let one_mark : length c.put-2.new.self.items ≡ 1 = ap length marks in
-    let made : c.in_ok-queues.queues.queues ≡ replicate (length c.args.script.now.decls + length c.args.script.now.decls + 1) [] = search rules in
-    let many : length c.enqueue.new.self.queues ≡ length c.args.script.now.decls + length c.args.script.now.decls + 1 =
-    ap length c.enqueue.ensures.queues ∙ (length-set c.in_ok-queues.queues.queues 0 _ ∙ (ap length made ∙ length-replicate (length c.args.script.now.decls + length c.args.script.now.decls + 1) [])) in
-    let names : length c.args.script.now.decls ≤ 4096 = search rules in
-    let same_names : length c.as_slice-declared.result.now ≡ length c.args.script.now.decls = ap length c.as_slice-declared.ensures in
+    let less : c.put.new.self.spare + 1 ≡ c.in_ok-statuses.statuses.spare = c.put.ensures.spare in
+    let fewer_marks : c.put-2.new.self.spare + 1 ≡ c.in_ok-marks.marks.spare = c.put-2.ensures.spare in
+    let room : length c.put.new.self.items + c.put.new.self.spare ≡ most = omega arith in
+    let declared : length c.as_slice-declared.result.now ≡ names = ap length c.as_slice-declared.ensures in
+    let lists : length c.in_ok-waiters.waiters.lists ≡ names + names = ap (λ (w : Waiting). length w.lists) begun ∙ length-replicate (names + names) [] in
     record {
       running = rw statuses refl;
-      members = search rules;
-      queues = omega arith;
-      few = search rules;
+      members = c.enqueue.ensures.members ∙ (members ∙ ap (λ k. k + 1) (sym room));
+      queues = ap length c.enqueue.ensures.queues ∙ (length-set c.in_ok-run_queue.run_queue.queues 0 _ ∙ ap length made);
+      goroutines = ap (λ (w : Waiting). w.goroutines) begun ∙ sym room;
+      lists = lists ∙ ap (λ k. k + k) (sym declared);
+      few = omega arith;
       parks = omega arith;
+      tickets = hold-first m most (names + names) begun;
       marks = omega arith;
-      mark_room = search rules;
+      mark_room = omega arith;
     }
 
 pub enqueue-requires-clause-free : goal.enqueue-requires-clause-free
 enqueue-requires-clause-free c w =
-    let made : c.in_ok-queues.queues.queues ≡ replicate (length c.args.script.now.decls + length c.args.script.now.decls + 1) [] = search rules in
-    let here : Contains (waiting_in (replicate (length c.args.script.now.decls + length c.args.script.now.decls + 1) []) w.0) 1 = subst (λ qs. Contains (waiting_in qs w.0) 1) made w.1 in
-    nobody (length c.args.script.now.decls + length c.args.script.now.decls + 1) w.0 here
+    let made : c.in_ok-run_queue.run_queue.queues ≡ replicate 1 [] = search rules in
+    nobody w.0 (subst (λ qs. Contains (waiting_in qs w.0) 1) made w.1)
   where
-    nobody : (n q : ℕ) → Contains (waiting_in (replicate n []) q) 1 → ⊥
-    nobody n q h =
-        let size : length (replicate {A = List ℕ} n []) ≡ n = length-replicate n [] in
-        let empty : waiting_in (replicate n []) q ≡ [] =
-        elim (cases_lt q n) [ inl inside ↦ get_or-replicate n q [] [] inside | inr past ↦ get_or_past (replicate n []) q [] (omega arith) ] in
-        let inside : Contains [] 1 = subst (λ xs. Contains xs 1) empty h in
-        Contains-nil 1 inside
+    nobody : (q : ℕ) → Contains (waiting_in (replicate 1 []) q) 1 → ⊥
+    nobody zero h = Contains-nil 1 h
+    nobody (suc q) h = Contains-nil 1 h

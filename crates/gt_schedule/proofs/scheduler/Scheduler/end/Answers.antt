@@ -1,6 +1,6 @@
 use Rattle.std.proofs.Common.{◌<◌, refl, arith}
 use Rattle.gt_schedule.specs.declared.status.RunStatus.{RunStatus}
-use Rattle.gt_schedule.proofs.Counting.{running-some, room-marks, kept-marks}
+use Rattle.gt_schedule.proofs.Counting.{running-some, room-marks, kept-marks, own-unparked}
 use Rattle.gt_schedule.proofs.scheduler.Scheduler.end.Goals as goal
 
 pub overflow_sub-self : goal.overflow_sub-self
@@ -18,6 +18,10 @@ returns-clause-kept c =
       spare = c.mark.ensures.spare;
       members = refl;
       queues = refl;
+      goroutines = refl;
+      lists = refl;
+      tickets = λ h has. has;
+      own = own-unparked c.args.self.now c.args.g RunStatus.InHand RunStatus.Ended c.requires.kept.tickets c.requires.in_hand refl;
       declared = refl;
       running = omega arith;
       parks = λ h. h;

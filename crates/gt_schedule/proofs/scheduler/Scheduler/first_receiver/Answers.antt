@@ -1,11 +1,8 @@
-use Rattle.std.proofs.Common.{rules, ◌≡◌, ◌+◌, slice_get, ◌∙◌}
-use Rattle.std.specs.Option.{option_map}
-use Rattle.gt_queue.specs.Contents.{waiting_in}
-use Rattle.gt_schedule.specs.Schedule.{plainly}
-use Rattle.gt_schedule.proofs.Keeping.{first-receiver}
+use Rattle.std.proofs.Common.{ap, sym, slice_get, ◌∙◌}
+use Rattle.gt_schedule.proofs.Keeping.{parties-receivers, names-receivers}
 use Rattle.gt_schedule.proofs.scheduler.Scheduler.first_receiver.Goals as goal
 
 pub returns : goal.returns
 returns c =
-    let is : c.map.result ≡ option_map plainly (slice_get (waiting_in c.args.self.now.queues.queues (c.args.t + 1)) 0) = search rules in
-    is ∙ first-receiver c.args.self.now c.args.t c.requires.declared
+    let m = c.args.self.now in
+    c.first.ensures.first ∙ ap (λ ps. slice_get ps 0) (sym (parties-receivers m.declared m.waiters.lists c.args.t (names-receivers m c.args.t c.requires.declared)))

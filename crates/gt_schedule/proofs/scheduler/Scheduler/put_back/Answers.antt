@@ -1,18 +1,18 @@
 use Rattle.std.proofs.Common.{◌≡◌, ◌<◌, Some, ap, sym, refl, length, ◌∙◌, arith}
 use Rattle.std.proofs.lemmas.List.{length-set}
 use Rattle.gt_schedule.specs.declared.status.RunStatus.{RunStatus}
-use Rattle.gt_schedule.specs.Schedule.{status_of, is_queued, is_parked}
+use Rattle.gt_schedule.specs.Schedule.{status_of, is_queued}
 use Rattle.gt_schedule.specs.Scheduler.{schedule_of}
 use Rattle.gt_schedule.proofs.Back.{hand-status}
-use Rattle.gt_schedule.proofs.Counting.{room-marks, kept-marks, running-some}
-use Rattle.gt_schedule.proofs.Keeping.{free-orderly}
+use Rattle.gt_schedule.proofs.Counting.{room-marks, kept-marks, running-some, own-unparked}
+use Rattle.gt_schedule.proofs.Keeping.{free-unqueued}
 use Rattle.gt_schedule.proofs.scheduler.Scheduler.put_back.Goals as goal
 
 pub enqueue-requires-clause-free : goal.enqueue-requires-clause-free
 enqueue-requires-clause-free c =
     let at : status_of (schedule_of c.args.self.now) c.args.g ≡ Some RunStatus.InHand =
     hand-status (status_of (schedule_of c.args.self.now) c.args.g) (sym c.is_in_hand.ensures ∙ c.if-is_in_hand.true) in
-    free-orderly c.args.self.now c.args.g c.requires.orderly (ap is_queued at) (ap is_parked at)
+    free-unqueued c.args.self.now c.args.g c.requires.kept c.requires.orderly.queued (ap is_queued at)
 
 pub overflow_sub-self : goal.overflow_sub-self
 overflow_sub-self c =
@@ -35,7 +35,11 @@ returns-then-is_in_hand-clause-kept c =
       items = c.mark.ensures.items;
       spare = c.mark.ensures.spare;
       members = c.enqueue.ensures.members;
-      queues = ap length c.enqueue.ensures.queues ∙ length-set m.queues.queues 0 _;
+      queues = ap length c.enqueue.ensures.queues ∙ length-set m.run_queue.queues 0 _;
+      goroutines = refl;
+      lists = refl;
+      tickets = λ h has. has;
+      own = λ has. own-unparked m c.args.g RunStatus.InHand RunStatus.Queued c.requires.kept.tickets at refl has;
       declared = refl;
       running = omega arith;
       parks = λ h. h;

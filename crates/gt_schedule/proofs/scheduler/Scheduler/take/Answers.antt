@@ -3,7 +3,7 @@ use Rattle.std.proofs.lemmas.List.{length-set}
 use Rattle.gt_schedule.specs.declared.status.RunStatus.{RunStatus}
 use Rattle.gt_schedule.specs.Schedule.{status_of}
 use Rattle.gt_schedule.specs.Scheduler.{schedule_of}
-use Rattle.gt_schedule.proofs.Counting.{room-marks, kept-marks}
+use Rattle.gt_schedule.proofs.Counting.{room-marks, kept-marks, own-unparked}
 use Rattle.gt_schedule.proofs.Moving.{first-queued}
 use Rattle.gt_schedule.proofs.scheduler.Scheduler.take.Goals as goal
 
@@ -20,7 +20,11 @@ returns-clause-kept c =
       items = c.mark.ensures.items;
       spare = c.mark.ensures.spare;
       members = c.dequeue.ensures.members;
-      queues = ap length c.dequeue.ensures.queues ∙ length-set m.queues.queues 0 _;
+      queues = ap length c.dequeue.ensures.queues ∙ length-set m.run_queue.queues 0 _;
+      goroutines = refl;
+      lists = refl;
+      tickets = λ h has. has;
+      own = own-unparked m g RunStatus.Queued RunStatus.InHand c.requires.kept.tickets is refl;
       declared = refl;
       running = omega arith;
       parks = λ h. h;

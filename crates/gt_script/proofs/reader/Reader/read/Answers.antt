@@ -3,12 +3,22 @@ use Rattle.gt_lines.specs.Lines.{line_at}
 use Rattle.gt_names.specs.Known.{known}
 use Rattle.gt_grammar.specs.Progress.{Progress}
 use Rattle.gt_grammar.specs.Statements.{command}
-use Rattle.gt_script.proofs.ReadingLemmas.{goes, agrees, passed, right-at, step-IsSome}
+use Rattle.gt_script.proofs.ReadingLemmas.{goes, agrees, agrees-depth, passed, right-at, step-IsSome}
 use Rattle.gt_script.proofs.reader.Reader.read.Goals as goal
 
 pub go_on-requires-clause-nests : goal.go_on-requires-clause-nests
 go_on-requires-clause-nests c =
     (right-at _ c.args.self.now c.args.is_last c.lacks_main-lacks_main.result c.read-statement.result c.self.view_is c.in-None.ensures).nested
+
+pub go_on-requires-clause-agrees : goal.go_on-requires-clause-agrees
+go_on-requires-clause-agrees c = agrees-depth c.args.self.now.progress c.args.self.now.built c.requires
+
+pub go_on-requires-clause-shallow : goal.go_on-requires-clause-shallow
+go_on-requires-clause-shallow c = c.requires.shallow
+
+pub go_on-requires-clause-selects : goal.go_on-requires-clause-selects
+go_on-requires-clause-selects c =
+    (right-at _ c.args.self.now c.args.is_last c.lacks_main-lacks_main.result c.read-statement.result c.self.view_is c.in-None.ensures).chosen
 
 pub go_on-requires-clause-room : goal.go_on-requires-clause-room
 go_on-requires-clause-room c =

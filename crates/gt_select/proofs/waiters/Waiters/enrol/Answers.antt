@@ -1,6 +1,7 @@
-use Rattle.std.proofs.Common.{◌≡◌, ◌+◌, ◌≤◌, None, get_or, refl, ap, ◌∙◌}
+use Rattle.std.proofs.Common.{rules, ◌≡◌, ◌≤◌, None, get_or, refl, ap, ◌∙◌}
 use Rattle.slab.specs.Slab.{get}
 use Rattle.gt_select.specs.Kept.{lists_of, turns_of}
+use Rattle.gt_select.specs.Waiting.{next_turn}
 use Rattle.gt_select.proofs.Tickets.{no_key, has_room, AreTickets-given, turns_of-given}
 use Rattle.gt_select.proofs.Places.{ArePlaced-given}
 use Rattle.gt_select.proofs.Shown.{shown, lists_of-given}
@@ -20,8 +21,9 @@ invariant_of-self c =
     let key = c.insert_reserved-key.result in
     let vacant : get f.tickets key ≡ None = e.was_vacant in
     let none : get_or f.keys c.args.g None ≡ None = no_key f.goroutines f.turns f.keys f.tickets c.self.invariant.0 c.args.g (rw (← c.self.view_is) at c.requires.none) in
-    let last : c.args.g ≤ f.goroutines = rw (← c.self.view_is) at c.requires.last in (
-      rw c.set.ensures (AreTickets-given f.goroutines f.turns f.keys f.tickets c.self.invariant.0 c.args.g key (record { g = c.args.g; turn = f.turns }) c.insert_reserved-key.new.self none last vacant e.updates refl refl e.len e.key_in_range e.capacity),
+    let last : c.args.g ≤ f.goroutines = rw (← c.self.view_is) at c.requires.last in
+    let next : c.saturating_add-self-inside.result ≡ next_turn f.turns = search rules in (
+      rw (c.set.ensures, next) (AreTickets-given f.goroutines f.turns f.keys f.tickets c.self.invariant.0 c.args.g key (record { g = c.args.g; turn = f.turns }) c.insert_reserved-key.new.self none last vacant e.updates refl refl e.len e.key_in_range e.capacity),
       ArePlaced-given f.places f.tickets c.insert_reserved-key.new.self f.queues key (record { g = c.args.g; turn = f.turns }) c.self.invariant.1 e.updates e.capacity,
     )
 
@@ -34,8 +36,9 @@ returns-clause-waiters c =
     let vacant : get f.tickets key ≡ None = e.was_vacant in
     let none : get_or f.keys c.args.g None ≡ None = no_key f.goroutines f.turns f.keys f.tickets c.self.invariant.0 c.args.g (rw (← c.self.view_is) at c.requires.none) in
     let last : c.args.g ≤ f.goroutines = rw (← c.self.view_is) at c.requires.last in
-    rw (← c.self.view_is)
-    (ap (λ lists. shown lists (turns_of t' c.set.new.self) (f.turns + 1) f.goroutines)
+    let next : c.saturating_add-self-inside.result ≡ next_turn f.turns = search rules in
+    rw (← c.self.view_is, next)
+    (ap (λ lists. shown lists (turns_of t' c.set.new.self) (next_turn f.turns) f.goroutines)
     (lists_of-given f.goroutines f.turns f.keys f.places f.tickets f.queues c.self.invariant.0 c.self.invariant.1 t' key (record { g = c.args.g; turn = f.turns }) vacant e.updates)
-    ∙ ap (λ tickets. shown (lists_of f.tickets f.queues.queues) tickets (f.turns + 1) f.goroutines)
+    ∙ ap (λ tickets. shown (lists_of f.tickets f.queues.queues) tickets (next_turn f.turns) f.goroutines)
     (ap (turns_of t') c.set.ensures ∙ turns_of-given f.goroutines f.turns f.keys f.tickets c.self.invariant.0 c.args.g key (record { g = c.args.g; turn = f.turns }) t' none last vacant e.updates refl))
