@@ -19,7 +19,7 @@ use Rattle.gt_rules.specs.Operations.{operation, offers, receives_from, sends_to
 use Rattle.gt_rules.specs.After.{after, changed, moved, in_mode, with_mover, with_starts, started_by}
 use Rattle.gt_rules.specs.Change.{Change, change_of}
 use Rattle.gt_rules.specs.Legal.{May, Does}
-use Rattle.gt_rules.specs.Panics.{fault, choice_fault, panic_at}
+use Rattle.gt_rules.specs.Panics.{fault, choice_fault}
 use Rattle.gt_rules.specs.Ready.{is_firm, is_ready_case, is_ready_alone, has_partner, partner_waits, no_timer, everyone}
 use Rattle.gt_rules.specs.declared.change.Move.{Move}
 use Rattle.gt_rules.specs.declared.change.Start.{Start}

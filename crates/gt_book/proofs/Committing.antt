@@ -1,21 +1,23 @@
 -- What an operation needs that is committed while the run goes on.
 use Rattle.std.proofs.lemmas.Bool.{le-leb, eq-eqb}
 use Rattle.std.specs.List.{list_any}
-use Rattle.std.proofs.Common.{◌≡◌, IsSomeAnd, ℕ, zero, suc, ◌+◌, ◌<◌, ◌≤◌, min, length, refl, sym, ap, subst, ◌∙◌, slice_get, Option, None, Some, Bool, true, false, not, ◌&&◌, ◌||◌, IsTrue, is_some, List, [], ◌∷◌, cond, arith, option_map}
+use Rattle.std.proofs.Common.{◌≡◌, IsSomeAnd, ℕ, zero, suc, ◌+◌, ◌<◌, ◌≤◌, min, length, refl, sym, ap, subst, ◌∙◌, slice_get, Option, None, Some, Bool, true, false, not, ◌&&◌, ◌||◌, IsTrue, is_some, List, [], ◌∷◌, ◌==◌, cond, arith, option_map}
 use Rattle.gt_model.specs.Times.{greatest_time}
 use Rattle.gt_model.specs.declared.script.Script.{Script}
 use Rattle.gt_model.specs.declared.script.Instr.{Instr}
 use Rattle.gt_model.specs.declared.script.Case.{Case}
 use Rattle.gt_model.specs.declared.entry.Outcome.{Outcome}
 use Rattle.gt_rules.specs.State.{State, timer_at, stands_at, clock, clock_of, due_of, sleeps_until}
-use Rattle.gt_model.specs.Script.{is_timer, is_func}
+use Rattle.gt_model.specs.Script.{is_timer, is_ticker, is_func}
 use Rattle.gt_model.specs.declared.state.Timer.{Timer}
 use Rattle.gt_rules.specs.Ready.{is_due}
 use Rattle.gt_model.specs.declared.script.CaseKind.{CaseKind}
 use Rattle.gt_rules.specs.Operations.{operation, offers, receives_from}
-use Rattle.gt_rules.specs.Panics.{fault}
-use Rattle.gt_rules.specs.Legal.{May, Does, Operates, operation_at, due_at, sleep_end}
+use Rattle.gt_rules.specs.Panics.{fault, when, zero_ticker}
+use Rattle.gt_rules.specs.After.{duration_of, new_period, period_of}
+use Rattle.gt_rules.specs.Legal.{May, Does, Operates, LeavesDue, operation_at, due_at, was_set, sleep_end}
 use Rattle.gt_model.specs.declared.entry.Party.{Party}
+use Rattle.gt_model.specs.declared.entry.Reason.{Reason}
 use Rattle.gt_schedule.specs.declared.status.RunStatus.{RunStatus}
 use Rattle.gt_book.specs.declared.step.Step.{Step}
 use Rattle.gt_book.specs.declared.answers.Op.{Op}
@@ -23,7 +25,9 @@ use Rattle.gt_book.specs.declared.answers.TimerOp.{TimerOp}
 use Rattle.gt_schedule.specs.Schedule.{Schedule, Served, status_of, is_in_hand, is_parked, parties_at}
 use Rattle.gt_book.specs.Steps.{come_timer, step_of, step_or_panic, step_of_instr, set_instr, set_entry, is_receiving, is_late, is_gone, MayCommit}
 use Rattle.gt_book.specs.View.{BookView, IsLawful, outcome_of, is_at, is_parked_at, first_case, case_of, receiver_of}
+use Rattle.gt_facts.specs.Formed.{IsPeriod}
 use Rattle.gt_facts.proofs.Within.{timer_within}
+use Rattle.gt_facts.proofs.Makers.{neither, calm-fault}
 use Rattle.gt_facts.proofs.Lookups.{Asleep, sleeper, offers-operation}
 use Rattle.gt_facts.proofs.Formed.{world_of-zero}
 use Rattle.gt_book.proofs.Firm.{calm-standing}
@@ -52,18 +56,21 @@ right-true true b h = h
 right-true false b h = cc
 
 -- who is parked at a receive from a timer may receive its tick that has come
-pub may-receive : (b : BookView) (t at : ℕ) (p : Party) → IsLawful b → outcome_of b ≡ None → IsTrue (is_timer b.script t) → due_of b.state t ≡ Some at
-    → at ≤ clock b.state 0 → is_parked_at b.script b.state b.schedule p (receives_from t) ≡ true
-    → MayCommit b (Op.TRecv p t at None) × (is_gone b (Op.TRecv p t at None) ≡ false)
-may-receive b t at p lawful running timer set due parked =
+pub may-receive : (b : BookView) (t at : ℕ) (next : Option ℕ) (p : Party) → IsLawful b → outcome_of b ≡ None → IsTrue (is_timer b.script t)
+    → due_of b.state t ≡ Some at → at ≤ clock b.state 0 → LeavesDue b.script b.state (clock b.state 0) t at next
+    → is_parked_at b.script b.state b.schedule p (receives_from t) ≡ true
+    → MayCommit b (Op.TRecv p t at next) × (is_gone b (Op.TRecv p t at next) ≡ false)
+may-receive b t at next p lawful running timer set due leaves parked =
     let waits : is_parked (status_of b.schedule p.g) ≡ true = left-true (is_parked (status_of b.schedule p.g)) (is_at b.script b.state p (receives_from t)) parked in
     let there : is_at b.script b.state p (receives_from t) ≡ true = right-true (is_parked (status_of b.schedule p.g)) (is_at b.script b.state p (receives_from t)) parked in
     let stands : operation_at b.script b.state p ≡ Some (CaseKind.Recv t) = at-receives b.script b.state p t there in
     let goes : IsTrue (is_in_hand (status_of b.schedule p.g) || is_parked (status_of b.schedule p.g)) = parked-goes (status_of b.schedule p.g) waits in
     let receiving : is_receiving b.script b.state b.schedule p t ≡ true = rw (goes, there) refl in
     let receives : Operates b.script b.state p (CaseKind.Recv t) = parked-operates b.script b.state b.schedule p (CaseKind.Recv t) (lawful.calm running) waits stands in
-    let come : at ≤ clock_of b.state p.g = subst (λ now. at ≤ now) (sym (one_clock b p.g lawful)) due in
-    (((receives, timer, set, come, refl), (goes, tt), tt), not_gone b (Op.TRecv p t at None) running (ap not receiving))
+    let now : clock b.state 0 ≡ clock_of b.state p.g = sym (one_clock b p.g lawful) in
+    let come : at ≤ clock_of b.state p.g = subst (λ now. at ≤ now) now due in
+    let left : LeavesDue b.script b.state (clock_of b.state p.g) t at next = subst (λ now. LeavesDue b.script b.state now t at next) now leaves in
+    (((receives, timer, set, come, left), (goes, tt), tt), not_gone b (Op.TRecv p t at next) running (ap not receiving))
 
 -- who waits longest at a timer is parked there
 pub parked-first : (b : BookView) (t : ℕ) (p : Party) → IsLawful b → IsTrue (is_timer b.script t) → slice_get (parties_at b.schedule.receivers t) 0 ≡ Some p
@@ -144,24 +151,55 @@ may-sleep b g d until lawful running step in_hand e =
     (((d, does, ap Some is ∙ sym (sleeps.ends (clock_of b.state g))), (in_hand, tt), tt), not_gone b (Op.Sleep g until) running refl)
 
 -- the entry of a setting may come
-set-may : (script : Script) (s : State) (g t d due : ℕ) (anew was : Bool) → Does script s g (set_instr t d anew) → was ≡ is_some (due_of s t) → due ≡ due_at (clock_of s g) d
-    → May script s (set_entry g t anew was due)
-set-may script s g t d due true was does was_set is = (d, does, ap Some was_set, is)
-set-may script s g t d due false was does was_set is = (d, does, is)
+set-may : (script : Script) (s : State) (g t d due : ℕ) (anew : Bool) (was : Option Bool) → Does script s g (set_instr t d anew) → was ≡ was_set script s t
+    → due ≡ due_at (clock_of s g) d → May script s (set_entry g t anew was due)
+set-may script s g t d due true was does answers is = (d, does, answers, is)
+set-may script s g t d due false was does answers is = (d, does, is)
 
-set-served : (m : Schedule) (g t due : ℕ) (anew was : Bool) → status_of m g ≡ Some RunStatus.InHand → Served m (set_entry g t anew was due)
+set-served : (m : Schedule) (g t due : ℕ) (anew : Bool) (was : Option Bool) → status_of m g ≡ Some RunStatus.InHand → Served m (set_entry g t anew was due)
 set-served m g t due true was in_hand = (in_hand-goes (status_of m g) in_hand, tt)
 set-served m g t due false was in_hand = (in_hand-goes (status_of m g) in_hand, tt)
 
-pub may-set : (b : BookView) (g t d due : ℕ) (anew was : Bool) → IsLawful b → outcome_of b ≡ None → step_of b.script b.state b.schedule g ≡ Some (Step.Needs (TimerOp.Set t d anew))
-    → status_of b.schedule g ≡ Some RunStatus.InHand
-    → was ≡ is_some (due_of b.state t) → due ≡ min (clock b.state 0 + d) greatest_time
-    → MayCommit b (Op.Set g t anew was due 0) × (is_gone b (Op.Set g t anew was due 0) ≡ false)
-may-set b g t d due anew was lawful running step in_hand was_set e =
+pub may-set : (b : BookView) (g t d due period : ℕ) (anew : Bool) (was : Option Bool) → IsLawful b → outcome_of b ≡ None
+    → step_of b.script b.state b.schedule g ≡ Some (Step.Needs (TimerOp.Set t d anew)) → status_of b.schedule g ≡ Some RunStatus.InHand
+    → was ≡ was_set b.script b.state t → due ≡ min (clock b.state 0 + d) greatest_time → period ≡ new_period b.script b.state g t
+    → MayCommit b (Op.Set g t anew was due period) × (is_gone b (Op.Set g t anew was due period) ≡ false)
+may-set b g t d due period anew was lawful running step in_hand answers e periodic =
     let asks : Asks b.script b.state b.schedule g (TimerOp.Set t d anew) = needs-asks b.script b.state b.schedule g (TimerOp.Set t d anew) step in
     let does : Does b.script b.state g (set_instr t d anew) = subst (Does b.script b.state g) (instr-set b.script b.state b.schedule g t d anew asks.instr asks.is) asks.does in
-    let is : due ≡ due_at (clock_of b.state g) d = e ∙ ap (λ now. due_at now d) (sym (one_clock b g lawful)) in
-    ((set-may b.script b.state g t d due anew was does was_set is, set-served b.schedule g t due anew was in_hand, refl), not_gone b (Op.Set g t anew was due 0) running refl)
+    let is : due ≡ due_at (clock_of b.state g) d = e ∙ ap (λ now. due_at now d) (sym (one_clock b g lawful)) in (
+      (set-may b.script b.state g t d due anew was does answers is, set-served b.schedule g t due anew was in_hand, periodic),
+      not_gone b (Op.Set g t anew was due period) running refl,
+    )
+
+-- the period of a setting that is asked for: a ticker's is its duration, and above 0
+pub set-period : (b : BookView) (g t d : ℕ) (anew : Bool) → step_of b.script b.state b.schedule g ≡ Some (Step.Needs (TimerOp.Set t d anew))
+    → new_period b.script b.state g t ≡ period_of b.script t d
+set-period b g t d anew step =
+    let asks : Asks b.script b.state b.schedule g (TimerOp.Set t d anew) = needs-asks b.script b.state b.schedule g (TimerOp.Set t d anew) step in
+    let stands : stands_at b.script b.state g ≡ Some (set_instr t d anew) =
+    asks.does.stands ∙ ap Some (instr-set b.script b.state b.schedule g t d anew asks.instr asks.is) in
+    ap (λ (o : Option Instr). period_of b.script t (duration_of o)) stands ∙ ap (period_of b.script t) (set-duration t d anew)
+  where
+    set-duration : (t d : ℕ) (anew : Bool) → duration_of (Some (set_instr t d anew)) ≡ d
+    set-duration t d true = refl
+    set-duration t d false = refl
+
+no-zero : (ticker : Bool) (d : ℕ) → when (ticker && d == 0) Reason.Ticker ≡ None → IsPeriod ticker (cond ticker d 0)
+no-zero true zero h = cc
+no-zero true (suc d) h = omega arith
+no-zero false d h = refl
+
+pub set-ticks : (b : BookView) (g t d : ℕ) (anew : Bool) → step_of b.script b.state b.schedule g ≡ Some (Step.Needs (TimerOp.Set t d anew))
+    → IsPeriod (is_ticker b.script t) (period_of b.script t d)
+set-ticks b g t d anew step =
+    let asks : Asks b.script b.state b.schedule g (TimerOp.Set t d anew) = needs-asks b.script b.state b.schedule g (TimerOp.Set t d anew) step in
+    let does : Does b.script b.state g (set_instr t d anew) = subst (Does b.script b.state g) (instr-set b.script b.state b.schedule g t d anew asks.instr asks.is) asks.does in
+    no-zero (is_ticker b.script t) d (set-calm b.script b.state g t d anew does)
+  where
+    set-calm : (script : Script) (s : State) (g t d : ℕ) (anew : Bool) → Does script s g (set_instr t d anew) → zero_ticker script t d ≡ None
+    set-calm script s g t d true does = (neither _ (zero_ticker script t d) (calm-fault script s g (Instr.Reset t d) does)).1
+    set-calm script s g t d false does = (neither _ (zero_ticker script t d) (calm-fault script s g (Instr.New t d) does)).1
 
 -- ---- a choice with a default polls a timer
 
@@ -235,10 +273,11 @@ instr-polls script s m g t (Instr.Send c v) h = absurd (send-is (λ step. step �
 instr-polls script s m g t _ h = cc
 
 -- who polls a timer may receive its tick that has come
-pub may-poll : (b : BookView) (g t at : ℕ) → IsLawful b → outcome_of b ≡ None → step_of b.script b.state b.schedule g ≡ Some (Step.Needs (TimerOp.Poll t))
-    → status_of b.schedule g ≡ Some RunStatus.InHand → IsTrue (is_timer b.script t) → due_of b.state t ≡ Some at → at ≤ clock b.state 0
-    → MayCommit b (Op.TRecv (receiver_of b.script b.state g t) t at None) × (is_gone b (Op.TRecv (receiver_of b.script b.state g t) t at None) ≡ false)
-may-poll b g t at lawful running step in_hand timer set due =
+pub may-poll : (b : BookView) (g t at : ℕ) (next : Option ℕ) → IsLawful b → outcome_of b ≡ None
+    → step_of b.script b.state b.schedule g ≡ Some (Step.Needs (TimerOp.Poll t)) → status_of b.schedule g ≡ Some RunStatus.InHand
+    → IsTrue (is_timer b.script t) → due_of b.state t ≡ Some at → at ≤ clock b.state 0 → LeavesDue b.script b.state (clock b.state 0) t at next
+    → MayCommit b (Op.TRecv (receiver_of b.script b.state g t) t at next) × (is_gone b (Op.TRecv (receiver_of b.script b.state g t) t at next) ≡ false)
+may-poll b g t at next lawful running step in_hand timer set due leaves =
     let p : Party = receiver_of b.script b.state g t in
     let asks : Asks b.script b.state b.schedule g (TimerOp.Poll t) = needs-asks b.script b.state b.schedule g (TimerOp.Poll t) step in
     let stands : operation_at b.script b.state p ≡ Some (CaseKind.Recv t) =
@@ -248,5 +287,7 @@ may-poll b g t at lawful running step in_hand timer set due =
     let goes : IsTrue (is_in_hand (status_of b.schedule g) || is_parked (status_of b.schedule g)) = in_hand-goes (status_of b.schedule g) in_hand in
     let receiving : is_receiving b.script b.state b.schedule p t ≡ true = rw (goes, there) refl in
     let receives : Operates b.script b.state p (CaseKind.Recv t) = record { stands = stands; calm = asks.does.calm } in
-    let come : at ≤ clock_of b.state g = subst (λ now. at ≤ now) (sym (one_clock b g lawful)) due in
-    (((receives, timer, set, come, refl), (goes, tt), tt), not_gone b (Op.TRecv p t at None) running (ap not receiving))
+    let now : clock b.state 0 ≡ clock_of b.state g = sym (one_clock b g lawful) in
+    let come : at ≤ clock_of b.state g = subst (λ now. at ≤ now) now due in
+    let left : LeavesDue b.script b.state (clock_of b.state g) t at next = subst (λ now. LeavesDue b.script b.state now t at next) now leaves in
+    (((receives, timer, set, come, left), (goes, tt), tt), not_gone b (Op.TRecv p t at next) running (ap not receiving))

@@ -365,6 +365,7 @@ module _ (script : Script) (s next : State) (m n : Schedule) (x y : ℕ → Bool
 recv-same : (s next : State) (o : ℕ) (w : Option What) → channel_at next o ≡ channel_at s o → is_ready_recv next no_timer o w ≡ is_ready_recv s no_timer o w
 recv-same s next o None same = refl
 recv-same s next o (Some What.Timer) same = refl
+recv-same s next o (Some What.Ticker) same = refl
 recv-same s next o (Some (What.AfterFunc func)) same = refl
 recv-same s next o (Some (What.Chan cap)) same = ap (λ (ch : Option Channel). nat_lt 0 (length (kept_in ch)) || shut_in ch) same
 recv-same s next o (Some What.Function) same = refl

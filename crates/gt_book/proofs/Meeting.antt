@@ -284,6 +284,7 @@ timer-alone script s m g t none = ap (λ b. b && capacity_of script t == 0 && pa
 pub timer-unready : (s : State) (t : ℕ) (what : Option What) → names_chan what ≡ false → is_ready_recv s no_timer t what ≡ false
 timer-unready s t None none = refl
 timer-unready s t (Some What.Timer) none = refl
+timer-unready s t (Some What.Ticker) none = refl
 timer-unready s t (Some (What.AfterFunc func)) none = refl
 timer-unready s t (Some (What.Chan cap)) none = cc
 timer-unready s t (Some What.Function) none = refl

@@ -55,6 +55,7 @@ recv-not : (s : State) (p : Party) (timed : ℕ → Bool) (o : ℕ) (w : Option 
     → (names_timer w && timed o) ≡ false → is_ready_recv s timed o w ≡ false
 recv-not s p timed o None none come = refl
 recv-not s p timed o (Some What.Timer) none come = come
+recv-not s p timed o (Some What.Ticker) none come = come
 recv-not s p timed o (Some (What.AfterFunc func)) none come = refl
 recv-not s p timed o (Some (What.Chan cap)) none come =
     let parts = receives-none p o (items_of s o) (is_closed s o) none in

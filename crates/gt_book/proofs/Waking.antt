@@ -389,6 +389,7 @@ module _ (script : Script) (s : State) (m : Schedule) (c : ℕ) (good : IsGood s
   recv-alone : (o : Option What) → items_of s c ≡ [] → is_closed s c ≡ false → is_ready_recv s no_timer c o ≡ false
   recv-alone None empty unshut = refl
   recv-alone (Some What.Timer) empty unshut = refl
+  recv-alone (Some What.Ticker) empty unshut = refl
   recv-alone (Some (What.AfterFunc func)) empty unshut = refl
   recv-alone (Some (What.Chan cap)) empty unshut = both-false (nat_lt 0 (item_count s c)) (is_closed s c) (ap (λ (xs : List ℕ). nat_lt 0 (length xs)) empty) unshut
   recv-alone (Some What.Function) empty unshut = refl

@@ -200,14 +200,14 @@ abbrev pub set_instr : ℕ → ℕ → Bool → Instr
 set_instr t d true = Instr.Reset t d
 set_instr t d false = Instr.New t d
 
-abbrev pub set_entry : ℕ → ℕ → Bool → Bool → ℕ → Entry
-set_entry g t true was due = Entry.Reset g t (Some was) due
+abbrev pub set_entry : ℕ → ℕ → Bool → Option Bool → ℕ → Entry
+set_entry g t true was due = Entry.Reset g t was due
 set_entry g t false was due = Entry.New g t due
 
 -- the entry of an operation
 abbrev pub entry_of : State → Op → Entry
 entry_of s (Op.Set g t anew was due period) = set_entry g t anew was due
-entry_of s (Op.Stop g t was) = Entry.Stop g t (Some was)
+entry_of s (Op.Stop g t was) = Entry.Stop g t was
 entry_of s (Op.TRecv p t due next) = Entry.TRecv p t due next
 entry_of s (Op.Fire t) = Entry.FireFunc t (next_number s)
 entry_of s (Op.Sleep g until) = Entry.Sleep g (Some until)

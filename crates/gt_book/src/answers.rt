@@ -44,23 +44,24 @@ pub enum TimerOp {
 }
 
 /// An operation on a timer's record, with its answer. Goroutines go by their numbers, from 1, and timers by the places of their declarations, from 0;
-/// times are in nanoseconds, and a period of 0 is that of a timer that ticks once.
+/// times are in nanoseconds, and a period of 0 is that of a timer that is no ticker.
 #[derive(Clone, Copy)]
 pub enum Op {
-    /// Goroutine `g` sets timer `t`, which is due at `due` from now on: anew, where it was set or not, or for the first time, which makes it.
+    /// Goroutine `g` sets timer `t`, which is due at `due` from now on: anew, where the answer says whether it was set (none of a ticker), or for the first
+    /// time, which makes it.
     Set {
         g: u32,
         t: u32,
         anew: bool,
-        was: bool,
+        was: Option<bool>,
         due: u64,
         period: u64,
     },
-    /// Goroutine `g` stops timer `t`, which was set or not.
+    /// Goroutine `g` stops timer `t`; the answer says whether it was set, none of a ticker.
     Stop {
         g: u32,
         t: u32,
-        was: bool,
+        was: Option<bool>,
     },
     /// A goroutine that waits there receives the tick of timer `t` that was due at `due`; the timer is due next at `next`, if ever.
     TRecv {

@@ -389,17 +389,8 @@ impl Book {
                 was,
                 due,
                 ..
-            } => Entry::Reset {
-                g,
-                t,
-                was: Some(was),
-                due,
-            },
-            Op::Stop { g, t, was } => Entry::Stop {
-                g,
-                t,
-                was: Some(was),
-            },
+            } => Entry::Reset { g, t, was, due },
+            Op::Stop { g, t, was } => Entry::Stop { g, t, was },
             Op::TRecv { p, t, due, next } => Entry::TRecv { p, t, due, next },
             Op::Fire { t } => Entry::FireFunc {
                 t,

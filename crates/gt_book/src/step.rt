@@ -86,7 +86,7 @@ pub fn next_step(machine: &Machine, scheduler: &Scheduler, script: &Script, g: u
     ensures { result ≡ step_of script.now (state_of machine.now) (schedule_of scheduler.now) g }
 {
     let instr = machine.stands_at(script, g)?;
-    Some(match machine.fault_at(instr) {
+    Some(match machine.fault_at(script, instr) {
         Some((case_no, reason)) => Step::Makes(Entry::Panic {
             p: Party { g, case_no },
             reason,

@@ -1,3 +1,4 @@
+pub mod ByKind
 pub mod Asking
 pub mod Committing
 pub mod Keeping

@@ -40,7 +40,7 @@ use Rattle.gt_rows.specs.Rows.{Pair, PollsAt, PollsBy, PollsFor, PollRow, polls_
 use Rattle.gt_chtimer.proofs.Asking.{Echoes, echoes-answers, IsOver, is-over, asks-running}
 use Rattle.gt_chtimer.proofs.Committing.{Tells, Came, came}
 use Rattle.gt_chtimer.proofs.Keeping.{agrees-entered, shown-declared}
-use Rattle.gt_chtimer.proofs.Receiving.{IsChannel, channel-timer, channel-declared, gets, Got, got, got-none, ReceiveComes, receive-kept}
+use Rattle.gt_chtimer.proofs.Receiving.{channel-timer, channel-declared, gets, Got, got, got-leaves, ReceiveComes, receive-kept}
 
 -- ---- at most one case receives from a timer
 
@@ -234,7 +234,7 @@ poll-step b g t good timer at =
 -- the same, of the record with a channel
 pub record-step : (b : BookView) (g : ℕ) (r : Rec) → IsLawful b → IsLentRec b r → has_channel r.kind ≡ true → PollsAt b g r.id → PollStep b g r.id
 record-step b g r lawful lent channel at =
-    poll-step b g r.id lawful.good (channel-timer b.script r.id r.kind channel lent.agrees.kind).timer at
+    poll-step b g r.id lawful.good (channel-timer b.script r.id r.kind channel lent.agrees.kind) at
 
 -- ---- without the record
 
@@ -359,14 +359,12 @@ poll-may old g mid p t due next lawful lent channel in_hand c its timer_is is =
     let r : Rec = old.rec in
     let now : received r (clock b.state 0) ≡ Some (due, next) = ap (λ (b : BookView). received r (clock b.state 0)) (sym c.same) ∙ is in
     let value : Got r (clock b.state 0) due next = got r (clock b.state 0) due next now in
-    let timer : IsChannel b.script r.id r.kind = channel-timer b.script r.id r.kind channel lent.agrees.kind in
-    let none : next ≡ None = got-none r (clock b.state 0) due next timer.kind_is value in
+    let timer : is_timer b.script r.id ≡ true = channel-timer b.script r.id r.kind channel lent.agrees.kind in
     let set : due_of b.state r.id ≡ Some due = shown-declared b.script b.state r lent.agrees (channel-declared b.script b.state r lent.agrees channel) ∙ value.shows in
-    let all = may-poll b g r.id due lawful c.running c.step in_hand timer.timer set value.come in
-    let here : ReceiveComes b (receiver_of b.script b.state g r.id) r.id due None = record { may = all.0; in_time = all.1 } in
-    let there : ReceiveComes mid (receiver_of mid.script mid.state g r.id) r.id due None = subst (λ (b : BookView). ReceiveComes b (receiver_of b.script b.state g r.id) r.id due None) (sym c.same) here in
-    subst (λ p. ReceiveComes mid p t due next) (sym its)
-    (subst (λ t. ReceiveComes mid (receiver_of mid.script mid.state g r.id) t due next) (sym timer_is) (subst (ReceiveComes mid (receiver_of mid.script mid.state g r.id) r.id due) (sym none) there))
+    let all = may-poll b g r.id due next lawful c.running c.step in_hand timer set value.come (got-leaves b r due next lent.agrees channel value) in
+    let here : ReceiveComes b (receiver_of b.script b.state g r.id) r.id due next = record { may = all.0; in_time = all.1 } in
+    let there : ReceiveComes mid (receiver_of mid.script mid.state g r.id) r.id due next = subst (λ (b : BookView). ReceiveComes b (receiver_of b.script b.state g r.id) r.id due next) (sym c.same) here in
+    subst (λ p. ReceiveComes mid p t due next) (sym its) (subst (λ t. ReceiveComes mid (receiver_of mid.script mid.state g r.id) t due next) (sym timer_is) there)
 
 -- and what comes of it
 pub poll-row : (old : Pair) (g : ℕ) (mid : BookView) (p : Party) (t due : ℕ) (next : Option ℕ) (now : Rec) (new : BookView) (did : Commit) (done : PollDone) → PollComes old g mid

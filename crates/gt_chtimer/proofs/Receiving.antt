@@ -9,6 +9,7 @@ use Rattle.gt_model.specs.declared.script.What.{What}
 use Rattle.gt_model.specs.Script.{is_timer, names_timer}
 use Rattle.gt_model.proofs.Declared.{timer_setting, setting_declared}
 use Rattle.gt_rules.specs.State.{State, clock, due_of}
+use Rattle.gt_rules.specs.Legal.{LeavesDue}
 use Rattle.gt_rules.specs.Operations.{receives_from}
 use Rattle.gt_rules.specs.declared.change.Setting.{Setting}
 use Rattle.gt_rec.specs.declared.RecKind.{RecKind}
@@ -22,38 +23,36 @@ use Rattle.gt_book.specs.View.{BookView, Enters, IsLawful, outcome_of, is_parked
 use Rattle.gt_book.proofs.Committing.{may-receive}
 use Rattle.gt_rows.specs.Agrees.{Agrees, kind_by, kind_of_what}
 use Rattle.gt_rows.specs.Lent.{IsLentRec}
+use Rattle.gt_rows.proofs.Tickers.{leaves-due}
 use Rattle.gt_chtimer.proofs.Keeping.{agrees-set, shown-declared}
 
--- a record with a channel is that of a channel timer
-pub record IsChannel (script : Script) (id : ℕ) (kind : RecKind) : Type 0 where
-  pub timer : is_timer script id ≡ true
-  pub kind_is : kind ≡ RecKind.Timer
+-- ---- a record with a channel is that of a timer that gives values
 
 no-channel : (kind other : RecKind) → has_channel kind ≡ true → other ≡ kind → has_channel other ≡ false → ⊥
 no-channel kind other h is none =
     let both : true ≡ false = sym h ∙ (ap has_channel (sym is) ∙ none) in
     cc
 
-channel-what : (what : What) (kind : RecKind) → has_channel kind ≡ true → kind_of_what what ≡ Some kind → (names_timer (Some what) ≡ true) × (kind ≡ RecKind.Timer)
-channel-what What.Timer kind h is = let same : RecKind.Timer ≡ kind = cc in (refl, sym same)
+channel-what : (what : What) (kind : RecKind) → has_channel kind ≡ true → kind_of_what what ≡ Some kind → names_timer (Some what) ≡ true
+channel-what What.Timer kind h is = refl
+channel-what What.Ticker kind h is = refl
 channel-what (What.AfterFunc f) kind h is = let same : RecKind.Func ≡ kind = cc in absurd (no-channel kind RecKind.Func h same refl)
 channel-what What.Function kind h is = cc
 channel-what (What.Chan cap) kind h is = cc
 
 channel-decl : (o : Option Decl) (kind : RecKind) → has_channel kind ≡ true
     → (elim o as (λ _. Option RecKind) [ None ↦ Some RecKind.Sleep | Some decl ↦ kind_of_what decl.what ]) ≡ Some kind
-    → (names_timer (option_map (λ (d : Decl). d.what) o) ≡ true) × (kind ≡ RecKind.Timer)
+    → names_timer (option_map (λ (d : Decl). d.what) o) ≡ true
 channel-decl None kind h is = let same : RecKind.Sleep ≡ kind = cc in absurd (no-channel kind RecKind.Sleep h same refl)
 channel-decl (Some decl) kind h is = channel-what decl.what kind h is
 
-pub channel-timer : (script : Script) (id : ℕ) (kind : RecKind) → has_channel kind ≡ true → kind_by script id ≡ Some kind → IsChannel script id kind
-channel-timer script id kind h is =
-    let both : (names_timer (option_map (λ (d : Decl). d.what) (slice_get script.decls id)) ≡ true) × (kind ≡ RecKind.Timer) = channel-decl (slice_get script.decls id) kind h is in
-    record { timer = both.0; kind_is = both.1 }
+pub channel-timer : (script : Script) (id : ℕ) (kind : RecKind) → has_channel kind ≡ true → kind_by script id ≡ Some kind → is_timer script id ≡ true
+channel-timer script id kind h is = channel-decl (slice_get script.decls id) kind h is
 
 pub channel-declared : (script : Script) (s : State) (r : Rec) → Agrees script s r → has_channel r.kind ≡ true → r.id < length script.decls
-channel-declared script s r agrees h =
-    setting_declared script r.id (timer_setting script r.id (channel-timer script r.id r.kind h agrees.kind).timer)
+channel-declared script s r agrees h = setting_declared script r.id (timer_setting script r.id (channel-timer script r.id r.kind h agrees.kind))
+
+-- ---- what is received
 
 -- what is received, by the shown due time
 pub record Got (r : Rec) (now due : ℕ) (next : Option ℕ) : Type 0 where
@@ -84,9 +83,12 @@ got r now due next is =
       | Some at ↦ λ q h. got-due r now due at next (nat_le at now) refl q h
     ] refl is
 
--- what a record with a channel leaves
-pub got-none : (r : Rec) (now due : ℕ) (next : Option ℕ) → r.kind ≡ RecKind.Timer → Got r now due next → next ≡ None
-got-none r now due next kind g = g.left ∙ ap (λ kind. due_left kind r.period due now) kind
+-- what is left is what a receive leaves of the timer
+pub got-leaves : (b : BookView) (r : Rec) (due : ℕ) (next : Option ℕ) → Agrees b.script b.state r → has_channel r.kind ≡ true → Got r (clock b.state 0) due next
+    → LeavesDue b.script b.state (clock b.state 0) r.id due next
+got-leaves b r due next agrees channel g =
+    subst (LeavesDue b.script b.state (clock b.state 0) r.id due) (sym g.left)
+    (leaves-due b.script b.state r (clock b.state 0) due agrees (channel-declared b.script b.state r agrees channel) g.come)
 
 -- the receive may come
 pub record ReceiveComes (b : BookView) (p : Party) (t due : ℕ) (next : Option ℕ) : Type 0 where
@@ -97,12 +99,12 @@ pub receive-comes : (b : BookView) (r : Rec) (p : Party) (t due : ℕ) (next : O
     → is_parked_at b.script b.state b.schedule p (receives_from r.id) ≡ true → t ≡ r.id → received r (clock b.state 0) ≡ Some (due, next) → ReceiveComes b p t due next
 receive-comes b r p t due next lawful running lent channel waits its is =
     let g : Got r (clock b.state 0) due next = got r (clock b.state 0) due next is in
-    let timer : IsChannel b.script r.id r.kind = channel-timer b.script r.id r.kind channel lent.agrees.kind in
-    let none : next ≡ None = got-none r (clock b.state 0) due next timer.kind_is g in
+    let timer : is_timer b.script r.id ≡ true = channel-timer b.script r.id r.kind channel lent.agrees.kind in
     let set : due_of b.state r.id ≡ Some due = shown-declared b.script b.state r lent.agrees (channel-declared b.script b.state r lent.agrees channel) ∙ g.shows in
-    let all : MayCommit b (Op.TRecv p r.id due None) × (is_gone b (Op.TRecv p r.id due None) ≡ false) = may-receive b r.id due p lawful running timer.timer set g.come waits in
-    let here : ReceiveComes b p r.id due None = record { may = all.0; in_time = all.1 } in
-    subst (λ t. ReceiveComes b p t due next) (sym its) (subst (ReceiveComes b p r.id due) (sym none) here)
+    let all : MayCommit b (Op.TRecv p r.id due next) × (is_gone b (Op.TRecv p r.id due next) ≡ false) =
+    may-receive b r.id due next p lawful running timer set g.come (got-leaves b r due next lent.agrees channel g) waits in
+    let here : ReceiveComes b p r.id due next = record { may = all.0; in_time = all.1 } in
+    subst (λ t. ReceiveComes b p t due next) (sym its) here
 
 -- after it the record shows what is left
 pub receive-kept : (old : BookView) (r : Rec) (p : Party) (t due : ℕ) (next : Option ℕ) (now : Rec) (new : BookView) (did : Commit) → IsLawful old → IsLentRec old r

@@ -1,16 +1,18 @@
 -- A new setting of a timer.
-use Rattle.std.proofs.Common.{◌≡◌, ◌⊎◌, ℕ, ◌+◌, ◌<◌, min, length, IsTrue, refl, sym, ap, subst, ◌∙◌, None, Some, MatchOption, Bool, true, false, is_some}
+use Rattle.std.proofs.Common.{◌≡◌, ◌⊎◌, ℕ, ◌+◌, ◌<◌, min, length, IsTrue, refl, sym, ap, subst, ◌∙◌, Option, None, Some, MatchOption, Bool, true, false}
 use Rattle.gt_model.specs.Times.{greatest_time}
 use Rattle.gt_model.specs.declared.script.Instr.{Instr}
 use Rattle.gt_model.specs.declared.script.Script.{Script}
 use Rattle.gt_model.specs.Good.{is_setting, NamesRightly}
-use Rattle.gt_rules.specs.State.{stands_at, clock, clock_of, due_of}
-use Rattle.gt_rules.specs.Legal.{due_at}
+use Rattle.gt_rules.specs.State.{stands_at, clock, clock_of}
+use Rattle.gt_rules.specs.After.{new_period, period_of}
+use Rattle.gt_rules.specs.Legal.{due_at, was_set}
 use Rattle.gt_rules.specs.declared.change.Setting.{Setting}
 use Rattle.gt_facts.proofs.Formed.{world_of-zero}
 use Rattle.gt_facts.proofs.Lookups.{Standing, standing}
 use Rattle.gt_facts.proofs.Named.{names-instr_at}
 use Rattle.gt_facts.proofs.Within.{setting_within}
+use Rattle.gt_rec.specs.declared.RecKind.{RecKind}
 use Rattle.gt_rec.specs.Rec.{Rec, BitsRight, shown}
 use Rattle.gt_rec.specs.Changes.{armed}
 use Rattle.gt_lazy.specs.Slots.{LazyHeap}
@@ -22,13 +24,16 @@ use Rattle.gt_book.specs.declared.answers.TimerOp.{TimerOp}
 use Rattle.gt_book.specs.declared.step.Step.{Step}
 use Rattle.gt_book.specs.Steps.{Steps, MayCommit, is_gone, set_instr, set_entry, step_of_instr}
 use Rattle.gt_book.specs.View.{BookView, IsLawful, outcome_of}
-use Rattle.gt_book.proofs.Committing.{may-set}
+use Rattle.gt_book.proofs.Committing.{may-set, set-period, set-ticks}
 use Rattle.gt_book.proofs.Setting.{instr-set}
 use Rattle.gt_rows.specs.declared.answers.SetDone.{SetDone}
 use Rattle.gt_rows.specs.Lent.{IsLentRec, Settles, joins}
-use Rattle.gt_rows.specs.Rows.{Parts, Arms, sets, SetsAt, SetsBy, SetRow, next_of}
+use Rattle.gt_rows.specs.Rows.{Parts, Arms, answer_of, sets, SetsAt, SetsBy, SetRow, next_of}
+use Rattle.gt_rows.proofs.Tickers.{answer-was_set, ticking-period}
+use Rattle.gt_chtimer.specs.Kinds.{setting_period}
+use Rattle.gt_chtimer.proofs.ByKind.{period-is}
 use Rattle.gt_chtimer.proofs.Asking.{Panics, panic-or-needs, Echoes, Panicked, panicked, IsOver, is-over, Asked, asked}
-use Rattle.gt_chtimer.proofs.Keeping.{agrees-panicked, agrees-set, shown-declared}
+use Rattle.gt_chtimer.proofs.Keeping.{agrees-panicked, agrees-set}
 
 -- a step that asks to set a timer
 record Sets (t : ℕ) (step : Step) : Type 0 where
@@ -105,21 +110,42 @@ set-needed old g mid id t d anew did op stands is of steps =
     let timer : t ≡ id = cc in
     record { step = a.step ∙ ap (λ op. Some (Step.Needs op)) (sym its); running = a.running; same = a.same; timer = timer }
 
--- a setting may come
-pub setting-may : (old : BookView) (g : ℕ) (mid : BookView) (r : Rec) (t d due : ℕ) (anew was : Bool) → IsLawful old → SetsAt old g r.id → IsLentRec old r
-    → status_of old.schedule g ≡ Some RunStatus.InHand → Needed old g (TimerOp.Set t d anew) mid t r.id → was ≡ is_some (shown r) → due ≡ min (clock mid.state 0 + d) greatest_time
-    → MayCommit mid (Op.Set g t anew was due 0)
-setting-may old g mid r t d due anew was lawful stands lent in_hand needs answer e =
-    let shows : due_of old.state t ≡ shown r = ap (due_of old.state) needs.timer ∙ shown-declared old.script old.state r lent.agrees (set-declared old g r.id lawful stands) in
-    let time : due ≡ min (clock old.state 0 + d) greatest_time = e ∙ ap (λ (b : BookView). min (clock b.state 0 + d) greatest_time) needs.same in
-    let all : MayCommit old (Op.Set g t anew was due 0) × (is_gone old (Op.Set g t anew was due 0) ≡ false) =
-    may-set old g t d due anew was lawful needs.running needs.step in_hand (answer ∙ ap is_some (sym shows)) time in
-    subst (λ b. MayCommit b (Op.Set g t anew was due 0)) (sym needs.same) all.0
-
 due-is : (old mid : BookView) (g d due : ℕ) → IsLawful old → mid ≡ old → due ≡ min (clock mid.state 0 + d) greatest_time → due ≡ due_at (clock_of old.state g) d
 due-is old mid g d due lawful same e =
     e ∙ (ap (λ (b : BookView). min (clock b.state 0 + d) greatest_time) same
     ∙ ap (λ w. min (clock old.state w + d) greatest_time) (sym (world_of-zero old.script old.state g lawful.formed)))
+
+-- a setting may come
+pub record SettingComes (old : Parts) (g : ℕ) (mid : BookView) (t d due period : ℕ) (anew : Bool) (was : Option Bool) : Type 0 where
+  pub needs : Needed old.book g (TimerOp.Set t d anew) mid t old.rec.id
+  pub answer : was ≡ answer_of old.rec
+  pub time : due ≡ due_at (clock_of old.book.state g) d
+  pub periodic : period ≡ new_period old.book.script old.book.state g old.rec.id
+  pub ticks : old.rec.kind ≡ RecKind.Ticker → 0 < period
+  pub may : MayCommit mid (Op.Set g t anew was due period)
+
+pub setting-comes : (old : Parts) (g : ℕ) (mid : BookView) (t d due period : ℕ) (anew : Bool) (was : Option Bool) → IsLawful old.book → SetsAt old.book g old.rec.id
+    → IsLentRec old.book old.rec → status_of old.book.schedule g ≡ Some RunStatus.InHand → Needed old.book g (TimerOp.Set t d anew) mid t old.rec.id
+    → was ≡ answer_of old.rec → due ≡ min (clock mid.state 0 + d) greatest_time → period ≡ setting_period old.rec.kind d → SettingComes old g mid t d due period anew was
+setting-comes old g mid t d due period anew was lawful stands lent in_hand needs answer e p =
+    let b : BookView = old.book in
+    let r : Rec = old.rec in
+    let below : r.id < length b.script.decls = set-declared b g r.id lawful stands in
+    let step : next_of b g ≡ Some (Step.Needs (TimerOp.Set r.id d anew)) = needs.step ∙ ap (λ t. Some (Step.Needs (TimerOp.Set t d anew))) needs.timer in
+    let its : period ≡ period_of b.script r.id d = p ∙ period-is b.script r.id d r.kind lent.agrees.kind in
+    let periodic : period ≡ new_period b.script b.state g r.id = its ∙ sym (set-period b g r.id d anew step) in
+    let answers : was ≡ was_set b.script b.state t = answer ∙ (answer-was_set b.script b.state r lent.agrees below ∙ ap (was_set b.script b.state) (sym needs.timer)) in
+    let time : due ≡ min (clock b.state 0 + d) greatest_time = e ∙ ap (λ (b : BookView). min (clock b.state 0 + d) greatest_time) needs.same in
+    let all : MayCommit b (Op.Set g t anew was due period) × (is_gone b (Op.Set g t anew was due period) ≡ false) =
+    may-set b g t d due period anew was lawful needs.running needs.step in_hand answers time (periodic ∙ ap (new_period b.script b.state g) (sym needs.timer)) in
+    record {
+      needs = needs;
+      answer = answer;
+      time = due-is b mid g d due lawful needs.same e;
+      periodic = periodic;
+      ticks = λ ticker. subst (λ p. 0 < p) (sym its) (ticking-period b.script b.state r (period_of b.script r.id d) lent.agrees (set-ticks b g r.id d anew step) ticker);
+      may = subst (λ b. MayCommit b (Op.Set g t anew was due period)) (sym needs.same) all.0;
+    }
 
 abbrev begins : Parts → BookView → Parts
 begins old mid = record { heap = old.heap; rec = old.rec; book = mid }
@@ -129,19 +155,20 @@ set-row old g new done step running next row =
     let by : SetsBy old g new done (next_of old.book g) = subst (SetsBy old g new done) (sym next) row in
     subst (λ o. MatchOption o (SetsBy old g new done (next_of old.book g)) (λ outcome. (done ≡ SetDone.Over outcome) × (new ≡ old))) (sym running) by
 
-pub setting-arms : (old : Parts) (g : ℕ) (mid : BookView) (t d due : ℕ) (anew was : Bool) (new : Parts) (done : SetDone) → Needed old.book g (TimerOp.Set t d anew) mid t old.rec.id
-    → was ≡ is_some (shown old.rec) → Arms (begins old mid) (set_entry g t anew was due) due 0 new done
-    → Arms old (set_entry g old.rec.id anew (is_some (shown old.rec)) due) due 0 new done
-setting-arms old g mid t d due anew was new done needs answer arms =
-    subst (λ was. Arms old (set_entry g old.rec.id anew was due) due 0 new done) answer
-    (subst (λ t. Arms old (set_entry g t anew was due) due 0 new done) needs.timer (subst (λ b. Arms (begins old b) (set_entry g t anew was due) due 0 new done) needs.same arms))
+-- as the record tells it
+pub setting-arms : (old : Parts) (g : ℕ) (mid : BookView) (t d due period : ℕ) (anew : Bool) (was : Option Bool) (new : Parts) (done : SetDone) → SettingComes old g mid t d due period anew was
+    → Arms (begins old mid) (set_entry g t anew was due) due period new done → Arms old (set_entry g old.rec.id anew (answer_of old.rec) due) due period new done
+setting-arms old g mid t d due period anew was new done c arms =
+    subst (λ was. Arms old (set_entry g old.rec.id anew was due) due period new done) c.answer
+    (subst (λ t. Arms old (set_entry g t anew was due) due period new done) c.needs.timer
+    (subst (λ b. Arms (begins old b) (set_entry g t anew was due) due period new done) c.needs.same arms))
 
-pub setting-row : (old : Parts) (g : ℕ) (mid : BookView) (t d due : ℕ) (anew : Bool) (new : Parts) (done : SetDone) → IsLawful old.book → Needed old.book g (TimerOp.Set t d anew) mid t old.rec.id
-    → due ≡ min (clock mid.state 0 + d) greatest_time → Arms old (set_entry g old.rec.id anew (is_some (shown old.rec)) due) due 0 new done → SetRow old g new done
-setting-row old g mid t d due anew new done lawful needs e arms =
-    let at : due ≡ due_at (clock_of old.book.state g) d = due-is old.book mid g d due lawful needs.same e in
-    set-row old g new done (Step.Needs (TimerOp.Set old.rec.id d anew)) needs.running (needs.step ∙ ap (λ t. Some (Step.Needs (TimerOp.Set t d anew))) needs.timer)
-    (subst (λ due. Arms old (set_entry g old.rec.id anew (is_some (shown old.rec)) due) due 0 new done) at arms)
+pub setting-row : (old : Parts) (g : ℕ) (mid : BookView) (t d due period : ℕ) (anew : Bool) (was : Option Bool) (new : Parts) (done : SetDone) → SettingComes old g mid t d due period anew was
+    → Arms old (set_entry g old.rec.id anew (answer_of old.rec) due) due period new done → SetRow old g new done
+setting-row old g mid t d due period anew was new done c arms =
+    set-row old g new done (Step.Needs (TimerOp.Set old.rec.id d anew)) c.needs.running (c.needs.step ∙ ap (λ t. Some (Step.Needs (TimerOp.Set t d anew))) c.needs.timer)
+    (subst (λ period. Arms old (set_entry g old.rec.id anew (answer_of old.rec) (due_at (clock_of old.book.state g) d)) (due_at (clock_of old.book.state g) d) period new done) c.periodic
+    (subst (λ due. Arms old (set_entry g old.rec.id anew (answer_of old.rec) due) due period new done) c.time arms))
 
 -- ---- the record afterwards
 
@@ -156,19 +183,20 @@ settles-alike h r h' r' true joins =
     record { id = ap (λ (r : Rec). r.id) joins.record_is; kind = ap (λ (r : Rec). r.kind) joins.record_is; period = ap (λ (r : Rec). r.period) joins.record_is; shows = ap shown joins.record_is }
 settles-alike h r h' r' false same = record { id = ap (λ (r : Rec). r.id) same.1; kind = ap (λ (r : Rec). r.kind) same.1; period = ap (λ (r : Rec). r.period) same.1; shows = ap shown same.1 }
 
-pub setting-kept : (old : Parts) (g due : ℕ) (anew was : Bool) (new : Parts) (reply : SetDone) → IsLawful old.book → SetsAt old.book g old.rec.id → IsLentRec old.book old.rec
-    → Arms old (set_entry g old.rec.id anew was due) due 0 new reply → BitsRight new.rec → IsLentRec new.book new.rec
-setting-kept old g due true was new reply lawful stands lent arms bits =
-    let alike : IsAlike (armed old.rec due 0) new.rec = settles-alike old.heap (armed old.rec due 0) new.heap new.rec (joins (armed old.rec due 0)) arms.place in
+pub setting-kept : (old : Parts) (g due period : ℕ) (anew : Bool) (was : Option Bool) (new : Parts) (reply : SetDone) → IsLawful old.book → SetsAt old.book g old.rec.id
+    → IsLentRec old.book old.rec → period ≡ new_period old.book.script old.book.state g old.rec.id → Arms old (set_entry g old.rec.id anew was due) due period new reply
+    → BitsRight new.rec → IsLentRec new.book new.rec
+setting-kept old g due period true was new reply lawful stands lent periodic arms bits =
+    let alike : IsAlike (armed old.rec due period) new.rec = settles-alike old.heap (armed old.rec due period) new.heap new.rec (joins (armed old.rec due period)) arms.place in
     record {
       agrees = agrees-set old.book (set_entry g old.rec.id true was due) new.book old.rec new.rec (Setting.SetAnew due) lawful arms.entered lent.agrees
-          (set-declared old.book g old.rec.id lawful stands) refl (alike.id, alike.kind) alike.shows alike.period;
+          (set-declared old.book g old.rec.id lawful stands) refl (alike.id, alike.kind) alike.shows (alike.period ∙ periodic);
       bits = bits;
     }
-setting-kept old g due false was new reply lawful stands lent arms bits =
-    let alike : IsAlike (armed old.rec due 0) new.rec = settles-alike old.heap (armed old.rec due 0) new.heap new.rec (joins (armed old.rec due 0)) arms.place in
+setting-kept old g due period false was new reply lawful stands lent periodic arms bits =
+    let alike : IsAlike (armed old.rec due period) new.rec = settles-alike old.heap (armed old.rec due period) new.heap new.rec (joins (armed old.rec due period)) arms.place in
     record {
       agrees = agrees-set old.book (set_entry g old.rec.id false was due) new.book old.rec new.rec (Setting.Made due) lawful arms.entered lent.agrees
-          (set-declared old.book g old.rec.id lawful stands) refl (alike.id, alike.kind) alike.shows alike.period;
+          (set-declared old.book g old.rec.id lawful stands) refl (alike.id, alike.kind) alike.shows (alike.period ∙ periodic);
       bits = bits;
     }

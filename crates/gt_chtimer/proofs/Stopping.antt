@@ -4,9 +4,9 @@ use Rattle.gt_model.specs.declared.entry.Outcome.{Outcome}
 use Rattle.gt_model.specs.declared.script.Instr.{Instr}
 use Rattle.gt_model.specs.declared.entry.Entry.{Entry}
 use Rattle.gt_model.specs.Good.{is_setting}
-use Rattle.gt_rules.specs.State.{stands_at, stands, due_of}
+use Rattle.gt_rules.specs.State.{stands_at, stands}
 use Rattle.gt_rules.specs.Panics.{fault, panic_at}
-use Rattle.gt_rules.specs.Legal.{Does}
+use Rattle.gt_rules.specs.Legal.{Does, was_set}
 use Rattle.gt_rules.specs.declared.change.Setting.{Setting}
 use Rattle.gt_facts.proofs.Lookups.{Standing, standing}
 use Rattle.gt_facts.proofs.Named.{names-instr_at}
@@ -18,9 +18,9 @@ use Rattle.gt_book.specs.declared.answers.Op.{Op}
 use Rattle.gt_book.proofs.Firm.{calm-standing}
 use Rattle.gt_book.proofs.Going.{in_hand-goes}
 use Rattle.gt_rows.specs.Lent.{IsLentRec}
-use Rattle.gt_chtimer.proofs.Keeping.{agrees-panicked, agrees-set, shown-declared}
+use Rattle.gt_chtimer.proofs.Keeping.{agrees-panicked, agrees-set}
 use Rattle.gt_chtimer.proofs.Committing.{Tells, Came, came}
-use Rattle.gt_rec.specs.Rec.{Rec, BitsRight, shown}
+use Rattle.gt_rec.specs.Rec.{Rec, BitsRight}
 use Rattle.gt_book.specs.declared.answers.Commit.{Commit}
 use Rattle.gt_book.specs.declared.answers.Did.{Did}
 use Rattle.gt_book.specs.declared.answers.TimerOp.{TimerOp}
@@ -28,7 +28,8 @@ use Rattle.gt_book.specs.declared.step.Step.{Step}
 use Rattle.gt_book.specs.Steps.{Steps, Commits, MayCommit, is_gone, step_or_panic}
 use Rattle.gt_book.specs.View.{BookView, Enters, IsLawful, outcome_of}
 use Rattle.gt_rows.specs.declared.answers.StopDone.{StopDone}
-use Rattle.gt_rows.specs.Rows.{Pair, Stops, stops, StopsAt, StopsBy, StopRow, next_of}
+use Rattle.gt_rows.specs.Rows.{Pair, Stops, answer_of, stops, StopsAt, StopsBy, StopRow, next_of}
+use Rattle.gt_rows.proofs.Tickers.{answer-was_set}
 use Rattle.gt_chtimer.proofs.Asking.{Panics, panic-or-needs, Echoes, Panicked, panicked, IsOver, is-over, Asked, asked}
 
 stops-is : (i : Instr) (t : ℕ) → stops i ≡ Some t → i ≡ Instr.Stop t
@@ -58,14 +59,14 @@ needs-faultless b g t stands step =
     ] (sym is ∙ step)
 
 -- the stop may come
-pub may-stop : (b : BookView) (g t : ℕ) (was : Bool) → StopsAt b g t → outcome_of b ≡ None → next_of b g ≡ Some (Step.Needs (TimerOp.Stop t))
-    → status_of b.schedule g ≡ Some RunStatus.InHand → was ≡ is_some (due_of b.state t)
+pub may-stop : (b : BookView) (g t : ℕ) (was : Option Bool) → StopsAt b g t → outcome_of b ≡ None → next_of b g ≡ Some (Step.Needs (TimerOp.Stop t))
+    → status_of b.schedule g ≡ Some RunStatus.InHand → was ≡ was_set b.script b.state t
     → MayCommit b (Op.Stop g t was) × (is_gone b (Op.Stop g t was) ≡ false)
-may-stop b g t was stands running step in_hand was_set =
+may-stop b g t was stands running step in_hand answers =
     let at : stands_at b.script b.state g ≡ Some (Instr.Stop t) = stop-stands b g t stands in
     let calm : panic_at b.script b.state g ≡ None = calm-standing b.script b.state g (Instr.Stop t) at (needs-faultless b g t stands step) in
     let does : Does b.script b.state g (Instr.Stop t) = record { stands = at; calm = calm } in
-    (((does, ap Some was_set), (in_hand-goes (status_of b.schedule g) in_hand, tt), tt), ap (λ (o : Option Outcome). is_some o || false) running)
+    (((does, answers), (in_hand-goes (status_of b.schedule g) in_hand, tt), tt), ap (λ (o : Option Outcome). is_some o || false) running)
 
 -- a timer that is stopped is declared
 pub stop-declared : (b : BookView) (g t : ℕ) → IsLawful b → StopsAt b g t → t < length b.script.decls
@@ -75,12 +76,12 @@ stop-declared b g t lawful stands =
     subst (λ (n : ℕ). t < n) lawful.formed.timers (setting_within b.script b.state t lawful.formed setting)
 
 -- after it the record shows nothing
-pub stop-kept : (old : BookView) (g : ℕ) (was : Bool) (r : Rec) (new : BookView) → IsLawful old → StopsAt old g r.id → IsLentRec old r
-    → Enters old (Entry.Stop g r.id (Some was)) new → BitsRight (disarmed r) → IsLentRec new (disarmed r)
+pub stop-kept : (old : BookView) (g : ℕ) (was : Option Bool) (r : Rec) (new : BookView) → IsLawful old → StopsAt old g r.id → IsLentRec old r
+    → Enters old (Entry.Stop g r.id was) new → BitsRight (disarmed r) → IsLentRec new (disarmed r)
 stop-kept old g was r new lawful stands lent entered bits =
     let below : r.id < length old.script.decls = stop-declared old g r.id lawful stands in
     record {
-      agrees = agrees-set old (Entry.Stop g r.id (Some was)) new r (disarmed r) (Setting.Ended None) lawful entered lent.agrees below refl (refl, refl) refl refl;
+      agrees = agrees-set old (Entry.Stop g r.id was) new r (disarmed r) (Setting.Ended None) lawful entered lent.agrees below refl (refl, refl) refl refl;
       bits = bits;
     }
 
@@ -99,29 +100,30 @@ plain-kept old g did r new done lawful stands lent steps echo =
 
 -- the row of a stop that came
 pub stop-row : (old : Pair) (g : ℕ) (new : Pair) (done : StopDone) → outcome_of old.book ≡ None → next_of old.book g ≡ Some (Step.Needs (TimerOp.Stop old.rec.id))
-    → Stops old (Entry.Stop g old.rec.id (Some (is_some (shown old.rec)))) (disarmed old.rec) new done → StopRow old g new done
+    → Stops old (Entry.Stop g old.rec.id (answer_of old.rec)) (disarmed old.rec) new done → StopRow old g new done
 stop-row old g new done running step came =
     rw running (subst (StopsBy old g new done) (sym step) came)
 
 -- a stop that needs the record may come
-pub record StopComes (old : Pair) (g : ℕ) (mid : BookView) (t : ℕ) (was : Bool) : Type 0 where
+pub record StopComes (old : Pair) (g : ℕ) (mid : BookView) (t : ℕ) (was : Option Bool) : Type 0 where
   pub running : outcome_of old.book ≡ None
   pub step : next_of old.book g ≡ Some (Step.Needs (TimerOp.Stop old.rec.id))
   pub same : mid ≡ old.book
   pub timer : t ≡ old.rec.id
-  pub answer : was ≡ is_some (shown old.rec)
+  pub answer : was ≡ answer_of old.rec
   pub may : MayCommit mid (Op.Stop g t was)
   pub in_time : is_gone mid (Op.Stop g t was) ≡ false
 
-pub stop-comes : (old : Pair) (g : ℕ) (mid : BookView) (op : TimerOp) (t : ℕ) (was : Bool) → IsLawful old.book → StopsAt old.book g old.rec.id → IsLentRec old.book old.rec
-    → status_of old.book.schedule g ≡ Some RunStatus.InHand → Steps old.book g mid (Did.Timer op) → t ≡ old.rec.id → was ≡ is_some (shown old.rec)
+pub stop-comes : (old : Pair) (g : ℕ) (mid : BookView) (op : TimerOp) (t : ℕ) (was : Option Bool) → IsLawful old.book → StopsAt old.book g old.rec.id → IsLentRec old.book old.rec
+    → status_of old.book.schedule g ≡ Some RunStatus.InHand → Steps old.book g mid (Did.Timer op) → t ≡ old.rec.id → was ≡ answer_of old.rec
     → StopComes old g mid t was
 stop-comes old g mid op t was lawful stands lent in_hand steps timer answer =
     let a : Asked old.book g (TimerOp.Stop old.rec.id) mid op = asked old.book g (TimerOp.Stop old.rec.id) mid op (stop-step old.book g old.rec.id stands) steps in
-    let shows : due_of old.book.state old.rec.id ≡ shown old.rec = shown-declared old.book.script old.book.state old.rec lent.agrees (stop-declared old.book g old.rec.id lawful stands) in
-    let is : was ≡ is_some (due_of old.book.state t) = answer ∙ (ap is_some (sym shows) ∙ ap (λ t. is_some (due_of old.book.state t)) (sym timer)) in
+    let answers : answer_of old.rec ≡ was_set old.book.script old.book.state old.rec.id =
+    answer-was_set old.book.script old.book.state old.rec lent.agrees (stop-declared old.book g old.rec.id lawful stands) in
     let all : MayCommit old.book (Op.Stop g t was) × (is_gone old.book (Op.Stop g t was) ≡ false) =
-    may-stop old.book g t was (subst (StopsAt old.book g) (sym timer) stands) a.running (a.step ∙ ap (λ t. Some (Step.Needs (TimerOp.Stop t))) (sym timer)) in_hand is in
+    may-stop old.book g t was (subst (StopsAt old.book g) (sym timer) stands) a.running (a.step ∙ ap (λ t. Some (Step.Needs (TimerOp.Stop t))) (sym timer)) in_hand
+    (answer ∙ (answers ∙ ap (was_set old.book.script old.book.state) (sym timer))) in
     record {
       running = a.running;
       step = a.step;
@@ -132,11 +134,11 @@ stop-comes old g mid op t was lawful stands lent in_hand steps timer answer =
       in_time = subst (λ b. is_gone b (Op.Stop g t was) ≡ false) (sym a.same) all.1;
     }
 
-pub stop-came : (old : Pair) (g : ℕ) (mid : BookView) (t : ℕ) (was : Bool) (r : Rec) (new : BookView) (did : Commit) (done : StopDone) → StopComes old g mid t was
+pub stop-came : (old : Pair) (g : ℕ) (mid : BookView) (t : ℕ) (was : Option Bool) (r : Rec) (new : BookView) (did : Commit) (done : StopDone) → StopComes old g mid t was
     → r ≡ disarmed old.rec → Commits mid (Op.Stop g t was) (is_gone mid (Op.Stop g t was)) new did → Tells StopDone.Over StopDone.Done did done
-    → Stops old (Entry.Stop g old.rec.id (Some (is_some (shown old.rec)))) (disarmed old.rec) (record { rec = r; book = new }) done
+    → Stops old (Entry.Stop g old.rec.id (answer_of old.rec)) (disarmed old.rec) (record { rec = r; book = new }) done
 stop-came old g mid t was r new did done comes is commits tells =
     let all : Came mid (Op.Stop g t was) new StopDone.Over StopDone.Done done = came StopDone.Over StopDone.Done mid (Op.Stop g t was) new did done comes.in_time commits tells in
-    let here : Enters old.book (Entry.Stop g t (Some was)) new = subst (λ b. Enters b (Entry.Stop g t (Some was)) new) comes.same all.entered in
-    let its : Enters old.book (Entry.Stop g old.rec.id (Some was)) new = subst (λ t. Enters old.book (Entry.Stop g t (Some was)) new) comes.timer here in
-    record { entered = subst (λ was. Enters old.book (Entry.Stop g old.rec.id (Some was)) new) comes.answer its; rec = is; answer = all.answer }
+    let here : Enters old.book (Entry.Stop g t was) new = subst (λ b. Enters b (Entry.Stop g t was) new) comes.same all.entered in
+    let its : Enters old.book (Entry.Stop g old.rec.id was) new = subst (λ t. Enters old.book (Entry.Stop g t was) new) comes.timer here in
+    record { entered = subst (λ was. Enters old.book (Entry.Stop g old.rec.id was) new) comes.answer its; rec = is; answer = all.answer }

@@ -3,6 +3,7 @@
 
 mod block;
 mod deliver;
+mod kinds;
 mod poll;
 mod receive;
 mod set;

@@ -1,6 +1,6 @@
 //! Setting a timer.
 
-ghost use Rattle.std.specs.Prelude.{◌≡◌, ◌+◌, ◌<◌, ◌≤◌, ◌≢◌, IsNone, Some, false, min};
+ghost use Rattle.std.specs.Prelude.{◌≡◌, ◌+◌, ◌<◌, ◌≤◌, IsNone, Some, false, min};
 ghost use Rattle.gt_model.specs.Times.{greatest_time};
 ghost use Rattle.gt_rules.specs.State as at;
 ghost use Rattle.gt_rec.specs.Rec.{BitsRight};
@@ -12,6 +12,7 @@ ghost use Rattle.gt_rows.specs.Lent.{IsKept, IsLent, IsPlaced};
 ghost use Rattle.gt_rows.specs.Rows.{Arms, SetsAt, SetRow};
 
 use crate::PROGRAM;
+use crate::kinds::{answer_of, period_of};
 use gt_book::{Book, Commit, Did, Op, TimerOp};
 use gt_lazy::Lazy;
 use gt_model::due_after;
@@ -33,8 +34,10 @@ pub fn sec_set(heap: &mut Lazy, rec: &mut TimerRec, book: &mut Book, g: u32) -> 
         Did::Entered => SetDone::Done,
         Did::Over(outcome) => SetDone::Over(outcome),
         Did::Timer(TimerOp::Set { t, d, anew }) => {
-            let was = rec.shown_due().is_some();
+            let was_set = rec.shown_due().is_some();
+            let was = answer_of(rec.kind, was_set);
             let due = due_in(book, d);
+            let period = period_of(rec.kind, d);
             arm_with(
                 heap,
                 rec,
@@ -45,9 +48,10 @@ pub fn sec_set(heap: &mut Lazy, rec: &mut TimerRec, book: &mut Book, g: u32) -> 
                     anew,
                     was,
                     due,
-                    period: 0,
+                    period,
                 },
                 due,
+                period,
             )
         }
         Did::Parked
@@ -66,19 +70,26 @@ fn due_in(book: &Book, d: u64) -> u64
 }
 
 /// Gives the record a new setting with its entry.
-fn arm_with(heap: &mut Lazy, rec: &mut TimerRec, book: &mut Book, op: Op, due: u64) -> SetDone
+fn arm_with(
+    heap: &mut Lazy,
+    rec: &mut TimerRec,
+    book: &mut Book,
+    op: Op,
+    due: u64,
+    period: u64,
+) -> SetDone
     requires placed { IsPlaced heap.old rec.old }
     requires room { IsNone rec.old.heaped → 0 < heap.old.spare }
     requires due { due ≤ greatest_time }
-    requires once { rec.old.kind ≢ RecKind.Ticker }
+    requires period { rec.old.kind ≡ RecKind.Ticker → 0 < period }
     requires may { MayCommit book.old op }
     requires in_time { is_gone book.old op ≡ false }
-    ensures arms { Arms (record { heap = heap.old; rec = rec.old; book = book.old }) (entry_of book.old.state op) due 0
+    ensures arms { Arms (record { heap = heap.old; rec = rec.old; book = book.old }) (entry_of book.old.state op) due period
         (record { heap = heap.new; rec = rec.new; book = book.new }) result }
     ensures placed { IsPlaced heap.new rec.new }
     ensures bits { BitsRight rec.new }
 {
-    let answer = arm(heap, rec, due);
+    let answer = arm(heap, rec, due, period);
     match book.commit(op) {
         Commit::Over(outcome) => SetDone::Over(outcome),
         Commit::Entered | Commit::Gone => answer,

@@ -6,6 +6,7 @@ ghost use Rattle.gt_schedule.specs.Schedule.{status_of};
 ghost use Rattle.gt_rows.specs.Lent.{IsLentRec};
 ghost use Rattle.gt_rows.specs.Rows.{StopsAt, StopRow};
 
+use crate::kinds::answer_of;
 use gt_book::{Book, Commit, Did, Op};
 use gt_rec::TimerRec;
 use gt_rows::StopDone;
@@ -25,7 +26,8 @@ pub fn sec_stop(rec: &mut TimerRec, book: &mut Book, g: u32) -> StopDone
         Did::Entered | Did::Parked => StopDone::Done,
         Did::Over(outcome) => StopDone::Over(outcome),
         Did::Timer(_) => {
-            let was = rec.disarm();
+            let was_set = rec.disarm();
+            let was = answer_of(rec.kind, was_set);
             match book.commit(Op::Stop { g, t: rec.id, was }) {
                 Commit::Over(outcome) => StopDone::Over(outcome),
                 Commit::Entered | Commit::Gone => StopDone::Done,

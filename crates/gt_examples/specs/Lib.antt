@@ -23,3 +23,4 @@ pub mod Polls
 pub mod ChoosesClosed
 pub mod FirstFault
 pub mod TwoPolls
+pub mod Ticks

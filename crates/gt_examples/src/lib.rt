@@ -31,6 +31,7 @@ ghost use Rattle.gt_examples.specs.Polls as polls;
 ghost use Rattle.gt_examples.specs.ChoosesClosed as chooses_closed;
 ghost use Rattle.gt_examples.specs.FirstFault as first_fault;
 ghost use Rattle.gt_examples.specs.TwoPolls as two_polls;
+ghost use Rattle.gt_examples.specs.Ticks as ticks;
 
 /// main sleeps for 5 ms and looks at the clock.
 pub fn sleeps_and_looks()
@@ -328,4 +329,42 @@ pub fn two_polls()
 /// Two choices with a default meet.
 pub fn two_polls_meet()
     ensures { IsVerdict two_polls.script default_limits two_polls.meet (Verdict.Illegal 3) }
+{}
+
+/// A slow receiver misses ticks: the next one comes a whole number of periods after the one that was received, no sooner than it is due.
+pub fn ticks()
+    ensures history { History ticks.script default_limits ticks.history Outcome.Exit }
+    ensures jumps { AllJump ticks.script 0 (first_state ticks.script) ticks.history }
+{}
+
+/// A ticker drifts: its next tick is a period behind a late receive.
+pub fn ticker_drifts()
+    ensures { IsVerdict ticks.script default_limits ticks.drifts (Verdict.Illegal 5) }
+{}
+
+/// A ticker passes over a tick that is still to come.
+pub fn ticker_passes_over_a_tick()
+    ensures { IsVerdict ticks.script default_limits ticks.passes_over (Verdict.Illegal 5) }
+{}
+
+/// A ticker is set anew and stopped, and neither answers anything.
+pub fn stops_a_ticker()
+    ensures history { History ticks.stopped default_limits ticks.stops Outcome.Exit }
+    ensures jumps { AllJump ticks.stopped 0 (first_state ticks.stopped) ticks.stops }
+{}
+
+/// The stop of a ticker answers that it was set.
+pub fn ticker_stop_answers()
+    ensures { IsVerdict ticks.stopped default_limits ticks.stop_answers (Verdict.Illegal 3) }
+{}
+
+/// A ticker is made without a time between its ticks.
+pub fn panics_without_a_period()
+    ensures history { History ticks.without_a_period default_limits ticks.panics Outcome.Panic }
+    ensures jumps { AllJump ticks.without_a_period 0 (first_state ticks.without_a_period) ticks.panics }
+{}
+
+/// A run goes on where a ticker was made without a time between its ticks.
+pub fn goes_on_without_a_period()
+    ensures { IsVerdict ticks.without_a_period default_limits ticks.goes_on (Verdict.Illegal 1) }
 {}

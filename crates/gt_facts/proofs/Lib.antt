@@ -2,6 +2,7 @@ pub mod Histories
 pub mod Lookups
 pub mod Partners
 pub mod Makers
+pub mod Periods
 pub mod Quiet
 pub mod Still
 pub mod Landing

@@ -1,6 +1,7 @@
 -- Who makes an entry that may come next, and what the entry changes: of what is shown here alone each kind of entry, and of instruction, has a clause.
-use Rattle.std.proofs.Common.{◌≡◌, ℕ, zero, suc, ◌<◌, ◌≤◌, List, [], ◌∷◌, length, refl, sym, ap, subst, ◌∙◌, arith, Option, None, Some, Bool, true, false, not, ◌&&◌, ◌||◌, ◌==◌, ◌≢◌, nat_lt, slice_get, is_some, is_none, IsTrue, IfSome, IsSomeAnd, MatchOption, option_map, get_or}
+use Rattle.std.proofs.Common.{◌≡◌, ℕ, zero, suc, ◌<◌, ◌≤◌, List, [], ◌∷◌, length, refl, sym, ap, subst, ◌∙◌, arith, Option, None, Some, Bool, true, false, not, ◌&&◌, ◌||◌, ◌==◌, ◌≢◌, nat_lt, slice_get, is_some, is_none, IsTrue, IfSome, IsSomeAnd, MatchOption, option_map, get_or, ◌+◌, ◌*◌, min, ◌-◌}
 use Rattle.std.specs.List.{list_any}
+use Rattle.std.proofs.Math.Nat.{min-le_left}
 use Rattle.std.proofs.lemmas.Bool.{and_parts, eqb-true, leb-true, lt-ltb, ltb-true, or_left, or_right}
 use Rattle.std.proofs.lemmas.Option.{slice_get_within, slice_get-get_or}
 use Rattle.gt_model.specs.declared.script.Script.{Script}
@@ -13,11 +14,11 @@ use Rattle.gt_model.specs.Times.{greatest_time}
 use Rattle.gt_model.specs.declared.script.Case.{Case}
 use Rattle.gt_model.specs.declared.script.CaseKind.{CaseKind}
 use Rattle.gt_model.specs.declared.script.What.{What}
-use Rattle.gt_model.specs.Script.{what_at, names_timer, names_chan, is_func, is_timer, is_chan, capacity_of}
+use Rattle.gt_model.specs.Script.{what_at, names_timer, names_chan, is_func, is_timer, is_chan, capacity_of, is_ticker}
 use Rattle.gt_model.specs.Good.{IsGood, is_finish, is_setting}
 use Rattle.gt_model.proofs.Declared.{timer_setting, func_setting}
-use Rattle.gt_rules.specs.State.{State, Channel, goroutine_at, stands, world_of, clock, clock_of, sleeps_until, next_number, timer_at, due_of, channel_at, items_of, item_count, is_closed, is_open}
-use Rattle.gt_rules.specs.Panics.{panic_of, fault, fault_at, fault_case, case_fault, choice_fault, when, or_else, open_fault}
+use Rattle.gt_rules.specs.State.{State, Channel, goroutine_at, stands, world_of, clock, clock_of, sleeps_until, next_number, timer_at, due_of, period_at, channel_at, items_of, item_count, is_closed, is_open}
+use Rattle.gt_rules.specs.Panics.{panic_of, fault, fault_at, fault_case, case_fault, choice_fault, when, or_else, open_fault, zero_ticker}
 use Rattle.gt_rules.specs.Ready.{is_due, is_ready_instr, is_ready_case, is_ready_alone, is_ready_recv, has_partner, partner_waits, has_come, everyone}
 use Rattle.gt_rules.specs.Operations.{operation, polls, receives_from, sends_to}
 use Rattle.gt_rules.specs.declared.change.Move.{Move}
@@ -25,7 +26,7 @@ use Rattle.gt_rules.specs.declared.change.Trade.{Trade}
 use Rattle.gt_rules.specs.declared.change.Setting.{Setting}
 use Rattle.gt_rules.specs.declared.change.Start.{Start}
 use Rattle.gt_rules.specs.Change.{change_of, sleeps, takes, goes_on}
-use Rattle.gt_rules.specs.Legal.{May, MayPanic, ChoosesClosed, Does, Operates, operation_at, is_polling, Gives, due_at, sleep_end, was_set}
+use Rattle.gt_rules.specs.Legal.{May, MayPanic, ChoosesClosed, Does, Operates, operation_at, is_polling, Gives, due_at, sleep_end, was_set, LeavesBy}
 use Rattle.gt_rules.specs.Finish.{IsIdle}
 use Rattle.gt_facts.proofs.Lookups.{names-Does, names-Operates, operates-Does, does-Operates, AtOperation, at_operation, HasAny, any-has, IsCase, is-case, ReceivesFrom, receives-recv, SendsTo, sends-send}
 use Rattle.gt_facts.proofs.Partners.{Partner, partner}
@@ -79,6 +80,7 @@ gives-some s c (Some v) gives = or_left (nat_lt 0 (item_count s c)) (is_closed s
 chan-ready : (s : State) (c : ℕ) (v : Option ℕ) (what : What) → IsTrue (names_chan (Some what)) → Gives s c v → (timed : ℕ → Bool) → is_ready_recv s timed c (Some what) ≡ true
 chan-ready s c v (What.Chan cap) h gives timed = gives-some s c v gives
 chan-ready s c v What.Timer h gives timed = cc
+chan-ready s c v What.Ticker h gives timed = cc
 chan-ready s c v (What.AfterFunc func) h gives timed = cc
 chan-ready s c v What.Function h gives timed = cc
 
@@ -143,11 +145,16 @@ some-not_none : {X : Type 0} (o : Option X) → is_none o ≡ false → is_some 
 some-not_none None h = cc
 some-not_none (Some x) h = refl
 
+-- neither of two
+pub neither : (a b : Option Reason) → or_else a b ≡ None → (a ≡ None) × (b ≡ None)
+neither None b h = (refl, h)
+neither (Some reason) b h = cc
+
 no-fault : (n : ℕ) (o : Option Reason) → (elim o as (λ o. Option (ℕ × Reason)) [ None ↦ None | Some reason ↦ Some (n, reason) ]) ≡ None → o ≡ None
 no-fault n None h = refl
 no-fault n (Some reason) h = cc
 
-calm-fault : (script : Script) (s : State) (g : ℕ) (i : Instr) → Does script s g i → fault script s i ≡ None
+pub calm-fault : (script : Script) (s : State) (g : ℕ) (i : Instr) → Does script s g i → fault script s i ≡ None
 calm-fault script s g i does =
     elim (goroutine_at s g) as (λ o. (elim o as (λ o. Option Instr) [ None ↦ None | Some r ↦ stands script r ]) ≡ Some i
     → (elim o as (λ o. Option (ℕ × Reason)) [ None ↦ None | Some r ↦ panic_of script s r ]) ≡ None → fault script s i ≡ None) [
@@ -156,10 +163,8 @@ calm-fault script s g i does =
     ] does.stands does.calm
 
 -- an instruction that asks for a timer which was made, and makes no misuse
-used-made : (script : Script) (s : State) (g t : ℕ) (i : Instr) → fault script s i ≡ when (is_none (timer_at s t)) Reason.Unmade → Does script s g i
-    → is_some (timer_at s t) ≡ true
-used-made script s g t i asks does =
-    some-not_none (timer_at s t) (none-when (is_none (timer_at s t)) Reason.Unmade (sym asks ∙ calm-fault script s g i does))
+used-made : (s : State) (t : ℕ) → when (is_none (timer_at s t)) Reason.Unmade ≡ None → is_some (timer_at s t) ≡ true
+used-made s t calm = some-not_none (timer_at s t) (none-when (is_none (timer_at s t)) Reason.Unmade calm)
 
 due-made : (s : State) (t due : ℕ) → due_of s t ≡ Some due → is_some (timer_at s t) ≡ true
 due-made s t due e =
@@ -172,23 +177,31 @@ some-made (Some r) P h = refl
 due-time : (now d due : ℕ) → due ≡ due_at now d → due ≤ greatest_time
 due-time now d due is = subst (λ n. n ≤ greatest_time) (sym is) (due_at-time now d)
 
+-- the next tick is at a time
+left-time : (ticker : Bool) (now due period : ℕ) (next : Option ℕ) → LeavesBy ticker now due period next → IfSome next (λ u. u ≤ greatest_time)
+left-time true now due period None h = tt
+left-time true now due period (Some at) h = subst (λ u. u ≤ greatest_time) (sym h.is) (min-le_left greatest_time (due + h.ticks * period))
+left-time false now due period next h = subst (λ (o : Option ℕ). IfSome o (λ u. u ≤ greatest_time)) (sym h) tt
+
 pub sets : (script : Script) (s : State) (e : Entry) → IsGood script → May script s e → IfSome (change_of e).timer (λ (x : ℕ × Setting). Sets script s x.0 x.1)
 sets script s (Entry.New g t due) good may = record {
   named = (names-Does script s g (Instr.New t may.0) good may.1).0;
-  made = none-when (is_some (timer_at s t)) Reason.Twice (calm-fault script s g (Instr.New t may.0) may.1);
+  made = none-when (is_some (timer_at s t)) Reason.Twice
+      (neither (when (is_some (timer_at s t)) Reason.Twice) (zero_ticker script t may.0) (calm-fault script s g (Instr.New t may.0) may.1)).0;
   time = due-time (clock_of s g) may.0 due may.2;
 }
 sets script s (Entry.Stop g t was) good may =
-    record { named = names-Does script s g (Instr.Stop t) good may.0; made = used-made script s g t (Instr.Stop t) refl may.0; time = tt }
+    record { named = names-Does script s g (Instr.Stop t) good may.0; made = used-made s t (calm-fault script s g (Instr.Stop t) may.0); time = tt }
 sets script s (Entry.Reset g t was due) good may = record {
   named = (names-Does script s g (Instr.Reset t may.0) good may.1).0;
-  made = used-made script s g t (Instr.Reset t may.0) refl may.1;
+  made = used-made s t
+      (neither (when (is_none (timer_at s t)) Reason.Unmade) (zero_ticker script t may.0) (calm-fault script s g (Instr.Reset t may.0) may.1)).0;
   time = due-time (clock_of s g) may.0 due may.3;
 }
 sets script s (Entry.TRecv p t due next) good may = record {
   named = timer_setting script t may.1;
   made = due-made s t due may.2;
-  time = subst (λ (o : Option ℕ). IfSome o (λ u. u ≤ greatest_time)) (sym may.4) tt;
+  time = left-time (is_ticker script t) (clock_of s p.g) due (period_at s t) next may.4;
 }
 sets script s (Entry.FireFunc t child) good may = record { named = func_setting script t may.0; made = some-made (timer_at s t) _ may.1; time = tt }
 sets script s _ good may = tt
@@ -290,6 +303,13 @@ either-not : (a b : Bool) → (a || b) ≡ true → (a ≡ true → ⊥) → (b 
 either-not true b h left right = left refl
 either-not false b h left right = right h
 
+-- there is a next tick, one period after the one that is received
+some-tick : (ticker : Bool) (now due period : ℕ) → due ≤ now → (next : Option ℕ) × LeavesBy ticker now due period next
+some-tick true now due period come =
+    let none : due + 0 * period ≤ now = omega arith in
+    (Some (min greatest_time (due + 1 * period)), record { ticks = 1; some = omega arith; begun = none; is = refl })
+some-tick false now due period come = (None, refl)
+
 -- the receive of a timer's value that has come
 timer-not : (script : Script) (s : State) (p : Party) (w t : ℕ) → IsIdle script s → clock_of s p.g ≡ clock s w → Operates script s p (CaseKind.Recv t) → IsTrue (is_timer script t)
     → is_due (due_of s t) (clock s w) ≡ true → ⊥
@@ -298,7 +318,8 @@ timer-not script s p w t idle now gets timer ready =
       | None ↦ λ is come. cc
       | Some due ↦ λ is come.
           let here : due ≤ clock_of s p.g = subst (λ now. due ≤ now) (sym now) (leb-true due (clock s w) come) in
-          idle (Entry.TRecv p t due None) (gets, timer, is, here, refl)
+          let tick = some-tick (is_ticker script t) (clock_of s p.g) due (period_at s t) here in
+          idle (Entry.TRecv p t due tick.0) (gets, timer, is, here, tick.1)
     ] refl ready
 
 -- the receive from a channel that keeps values, or is closed
@@ -310,6 +331,7 @@ keeps-not script s p c (v ∷ rest) idle gets chan is ready = idle (Entry.Recv p
 gives-not : (script : Script) (s : State) (p : Party) (w o : ℕ) (what : What) → IsIdle script s → clock_of s p.g ≡ clock s w → Operates script s p (CaseKind.Recv o)
     → what_at script o ≡ Some what → is_ready_recv s (has_come s w) o (Some what) ≡ true → ⊥
 gives-not script s p w o What.Timer idle now gets is ready = timer-not script s p w o idle now gets (ap names_timer is) ready
+gives-not script s p w o What.Ticker idle now gets is ready = timer-not script s p w o idle now gets (ap names_timer is) ready
 gives-not script s p w o (What.AfterFunc func) idle now gets is ready = cc
 gives-not script s p w o (What.Chan cap) idle now gets is ready = keeps-not script s p o (items_of s o) idle gets (ap names_chan is) refl ready
 gives-not script s p w o What.Function idle now gets is ready = cc

@@ -113,6 +113,7 @@ waits_on script s g t i quiet on offer =
 recv_not : (s : State) (timed : ℕ → Bool) (t : ℕ) (o : Option What) → timed t ≡ false → is_ready_recv s no_timer t o ≡ false → is_ready_recv s timed t o ≡ false
 recv_not s timed t None later h = refl
 recv_not s timed t (Some What.Timer) later h = later
+recv_not s timed t (Some What.Ticker) later h = later
 recv_not s timed t (Some (What.AfterFunc func)) later h = refl
 recv_not s timed t (Some (What.Chan cap)) later h = h
 recv_not s timed t (Some What.Function) later h = refl

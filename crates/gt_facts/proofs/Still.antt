@@ -72,6 +72,7 @@ wakes_not script s g still h =
 -- the receive of a timer is ready where its time has come
 timer-ready : (s : State) (timed : ℕ → Bool) (t : ℕ) (o : Option What) → IsTrue (names_timer o) → timed t ≡ true → is_ready_recv s timed t o ≡ true
 timer-ready s timed t (Some What.Timer) timer come = come
+timer-ready s timed t (Some What.Ticker) timer come = come
 timer-ready s timed t (Some (What.AfterFunc func)) timer come = cc
 timer-ready s timed t (Some (What.Chan cap)) timer come = cc
 timer-ready s timed t (Some What.Function) timer come = cc

@@ -1,5 +1,5 @@
 -- What the states keep that a run reaches.
-use Rattle.std.specs.Prelude.{ℕ, ◌+◌, ◌<◌, ◌≤◌, ◌≡◌, IfSome, IsTrue, List, [], ◌∷◌, length, slice_get}
+use Rattle.std.specs.Prelude.{ℕ, ◌+◌, ◌<◌, ◌≤◌, ◌≡◌, Bool, true, false, IfSome, IsTrue, List, [], ◌∷◌, length, slice_get}
 use Rattle.std.specs.declared.option.Option.TheVariants.{None, Some}
 use Rattle.gt_model.specs.declared.script.Script.{Script}
 use Rattle.gt_model.specs.declared.script.Instr.{Instr}
@@ -9,7 +9,7 @@ use Rattle.gt_model.specs.declared.state.Timer.{Timer}
 use Rattle.gt_model.specs.declared.state.Mode.{Mode}
 use Rattle.gt_model.specs.Times.{greatest_time}
 use Rattle.gt_rules.specs.State.{State, Channel, clock, goroutine_at, timer_at, channel_at, until_of}
-use Rattle.gt_model.specs.Script.{code_of, is_chan, capacity_of}
+use Rattle.gt_model.specs.Script.{code_of, is_ticker, is_chan, capacity_of}
 use Rattle.gt_rules.specs.Places.{silent_at}
 use Rattle.gt_facts.specs.Quiet.{IsOneWorld}
 
@@ -33,6 +33,11 @@ pub record IsFormedChannel (script : Script) (c : ℕ) (r : Channel) : Type 0 wh
   pub world : r.world ≡ 0
   pub few : length r.items ≤ capacity_of script c
 
+-- the time between two ticks, by whether a timer is a ticker
+abbrev pub IsPeriod : Bool → ℕ → Type 0
+IsPeriod true period = 0 < period
+IsPeriod false period = period ≡ 0
+
 pub record IsFormed (script : Script) (s : State) : Type 0 where
   pub world : IsOneWorld s
   -- the program's clock is the only one, and is a time
@@ -46,6 +51,8 @@ pub record IsFormed (script : Script) (s : State) : Type 0 where
   -- there is a timer or none for each declaration, and it is due at a time
   pub timers : length s.timers ≡ length script.decls
   pub dues : (t : ℕ) (r : Timer) → timer_at s t ≡ Some r → IfSome r.due (λ due. due ≤ greatest_time)
+  -- a ticker that was made has a time between its ticks, and no other timer has one
+  pub periods : (t : ℕ) (r : Timer) → timer_at s t ≡ Some r → IsPeriod (is_ticker script t) r.period
   -- there is a channel or none for each declaration
   pub channels : length s.channels ≡ length script.decls
   pub chans : (c : ℕ) (r : Channel) → channel_at s c ≡ Some r → IsFormedChannel script c r

@@ -34,6 +34,7 @@ not-below a b h = grind (arith, nat_tests)
 
 what-func : (what : What) → kind_of_what what ≡ Some RecKind.Func → names_func (Some what) ≡ true
 what-func What.Timer h = cc
+what-func What.Ticker h = cc
 what-func (What.AfterFunc f) h = refl
 what-func What.Function h = cc
 what-func (What.Chan cap) h = cc
@@ -48,6 +49,7 @@ kind-func script id h =
 
 what-no_sleep : (what : What) → kind_of_what what ≡ Some RecKind.Sleep → ⊥
 what-no_sleep What.Timer h = cc
+what-no_sleep What.Ticker h = cc
 what-no_sleep (What.AfterFunc f) h = cc
 what-no_sleep What.Function h = cc
 what-no_sleep (What.Chan cap) h = cc
@@ -67,6 +69,7 @@ kind-sleep script id h =
 
 what-no_deadline : (what : What) → kind_of_what what ≡ Some RecKind.Deadline → ⊥
 what-no_deadline What.Timer h = cc
+what-no_deadline What.Ticker h = cc
 what-no_deadline (What.AfterFunc f) h = cc
 what-no_deadline What.Function h = cc
 what-no_deadline (What.Chan cap) h = cc

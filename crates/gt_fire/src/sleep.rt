@@ -53,7 +53,7 @@ fn fall_asleep(heap: &mut Lazy, rec: &mut TimerRec, book: &mut Book, g: u32, d: 
 {
     book.lawful();
     let until = due_after(book.clock_of(PROGRAM), d);
-    let answer = arm(heap, rec, until);
+    let answer = arm(heap, rec, until, 0);
     match book.commit(Op::Sleep { g, until }) {
         Commit::Over(outcome) => SetDone::Over(outcome),
         Commit::Entered | Commit::Gone => answer,

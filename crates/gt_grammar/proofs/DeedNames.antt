@@ -1,5 +1,5 @@
 -- Where the names are declared that deeds declare: no two have one place, and functions stand in the order of their declarations.
-use Rattle.std.proofs.Common.{◌≡◌, ◌≢◌, ◌⊎◌, inl, inr, ℕ, zero, suc, ◌+◌, ◌<◌, Bool, true, false, not, cond, List, [], ◌∷◌, map, slice_get, Option, Some, None, IsTrue, refl, sym, ap, subst, ◌∙◌, arith, codes}
+use Rattle.std.proofs.Common.{◌≡◌, ◌≢◌, ◌⊎◌, inl, inr, ℕ, zero, suc, ◌+◌, ◌<◌, Bool, true, false, not, cond, List, [], ◌∷◌, ◌++◌, map, slice_get, Option, Some, None, IsTrue, refl, sym, ap, subst, ◌∙◌, arith, codes}
 use Rattle.std.specs.List.{All}
 use Rattle.std.specs.Str.{bytes_eq}
 use Rattle.std.proofs.lemmas.Slice.Eq.{bytes_eq-Decides}
@@ -18,6 +18,7 @@ use Rattle.gt_grammar.specs.declared.progress.Held.{Held}
 use Rattle.gt_grammar.specs.Faults.{holding, block_ended, case_added, default_added}
 use Rattle.gt_grammar.specs.Deeds.{Deed, declares, opens, does, loops, selects, chooses, defaults, closes, decl_of, func_of, decls_in, code_in, funcs_in}
 use Rattle.gt_grammar.proofs.Rightly.{kind_in, place_of, is_declared_before, names_in, Starts, Right, opened, chosen_in}
+use Rattle.gt_grammar.proofs.KindTests.{no_function, started}
 
 abbrev pub declared : Kind → ℕ → ℕ → Declared
 declared kind n f = record { kind = kind; place = n; func = f }
@@ -155,10 +156,8 @@ has_names names deeds r p = record {
 -- the functions are the declarations of functions
 pub functions_are : (names : Names) (deeds : List Deed) (inside : Bool) (blocks : List OpenBlock) (n f k : ℕ) → Right names inside blocks n f k deeds → Placed names n f deeds → map (λ (g : Func). g.decl) (funcs_in deeds) ≡ function_places n (decls_in deeds)
 functions_are names [] inside blocks n f k r p = refl
-functions_are names (declares name What.Timer ∷ rest) inside blocks n f k r p = functions_are names rest false blocks (n + 1) f k r.4 p.1
-functions_are names (declares name (What.AfterFunc g) ∷ rest) inside blocks n f k r p = functions_are names rest false blocks (n + 1) f k r.4 p.1
-functions_are names (declares name (What.Chan cap) ∷ rest) inside blocks n f k r p = functions_are names rest false blocks (n + 1) f k r.4 p.1
-functions_are names (declares name What.Function ∷ rest) inside blocks n f k r p = absurd r.3
+functions_are names (declares name what ∷ rest) inside blocks n f k r p =
+    functions_are names rest false blocks (n + 1) f k r.4 p.1 ∙ ap (λ b. cond b (n ∷ []) [] ++ function_places (n + 1) (decls_in rest)) (sym (no_function names what r.3))
 functions_are names (opens name decl ∷ rest) inside blocks n f k r p =
     ap (λ x. x ∷ map (λ (g : Func). g.decl) (funcs_in rest)) p.1 ∙ ap (λ xs. n ∷ xs) (functions_are names rest true [] (n + 1) (f + 1) k r.6 p.2)
 functions_are names (does instr ∷ rest) inside blocks n f k r p = functions_are names rest true (holding Held.Entered blocks) n f (k + 1) r.3 p
@@ -190,10 +189,7 @@ pub record Found (decls : List Decl) (funcs : List Func) (n f : ℕ) (q : List �
   pub func : is_kind_function d.kind ≡ true → HasFunc funcs f d
 
 starts-no_function : (names : Names) (what : What) → Starts names what → is_kind_function (kind_in what) ≡ true → ⊥
-starts-no_function names What.Timer s h = cc
-starts-no_function names (What.AfterFunc f) s h = cc
-starts-no_function names (What.Chan cap) s h = cc
-starts-no_function names What.Function s h = s
+starts-no_function names what s h = both_ways (is_kind_function (kind_in what)) (started names what s) h
 
 further-func : (g : Func) (funcs : List Func) (f : ℕ) (d : Declared) → HasFunc funcs (f + 1) d → HasFunc (g ∷ funcs) f d
 further-func g funcs f d h = record { at = suc h.at; is = omega (arith, h.is); func = h.func; there = h.there; decl = h.decl }

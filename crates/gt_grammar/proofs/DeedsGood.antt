@@ -24,6 +24,7 @@ use Rattle.gt_grammar.specs.declared.progress.Held.{Held}
 use Rattle.gt_grammar.specs.Faults.{count_if, holding, ended_in, block_ended, case_added, default_added}
 use Rattle.gt_grammar.specs.Deeds.{Deed, declares, opens, does, loops, selects, chooses, defaults, closes, decl_of, func_of, decls_in, case_at, cases_from, default_from, Block as Open, in_loop, in_select, in_body, code_from, code_in, funcs_in, script_in}
 use Rattle.gt_grammar.proofs.Rightly.{kind_in, names_in, IsPlace, Refers, RefersCase, Starts, Right, opened, chosen_in}
+use Rattle.gt_grammar.proofs.KindTests.{is_of_kind, by_kind}
 use Rattle.gt_grammar.proofs.OpenLoops.{Alike, alike-holding, alike-ended}
 use Rattle.gt_grammar.proofs.DeedNames.{Placed, placed, has_names, functions_are, HasFunc, Found, found}
 use Rattle.gt_grammar.proofs.LoopsGood.{HasGoodLoops, loops-good}
@@ -61,46 +62,21 @@ func-name script q d k t =
     ap (option_and_then (λ (g : Func). option_map (λ (x : Decl). x.name) (slice_get script.decls g.decl))) (ap (slice_get script.funcs) at ∙ w.there)
     ∙ ap (λ i. option_map (λ (x : Decl). x.name) (slice_get script.decls i)) w.decl ∙ k.name
 
--- a declaration of a kind is of that kind
-kind-is : (what : What) (k : Kind) → Some (kind_in what) ≡ Some k → kind_in what ≡ k
-kind-is what k h = cc
-
-is_setting-by : (o : Option What) (k : Kind) → option_map kind_in o ≡ Some k → is_kind_setting k ≡ true → (names_timer o || names_func o) ≡ true
-is_setting-by None k h e = cc
-is_setting-by (Some What.Timer) k h e = refl
-is_setting-by (Some (What.AfterFunc f)) k h e = refl
-is_setting-by (Some (What.Chan cap)) k h e = ap is_kind_setting (kind-is (What.Chan cap) k h) ∙ e
-is_setting-by (Some What.Function) k h e = ap is_kind_setting (kind-is What.Function k h) ∙ e
-
-is_chan-by : (o : Option What) (k : Kind) → option_map kind_in o ≡ Some k → is_kind_chan k ≡ true → names_chan o ≡ true
-is_chan-by None k h e = cc
-is_chan-by (Some What.Timer) k h e = ap is_kind_chan (kind-is What.Timer k h) ∙ e
-is_chan-by (Some (What.AfterFunc f)) k h e = ap is_kind_chan (kind-is (What.AfterFunc f) k h) ∙ e
-is_chan-by (Some (What.Chan cap)) k h e = refl
-is_chan-by (Some What.Function) k h e = ap is_kind_chan (kind-is What.Function k h) ∙ e
-
-is_source-by : (o : Option What) (k : Kind) → option_map kind_in o ≡ Some k → is_kind_source k ≡ true → (names_timer o || names_chan o) ≡ true
-is_source-by None k h e = cc
-is_source-by (Some What.Timer) k h e = refl
-is_source-by (Some (What.AfterFunc f)) k h e = ap is_kind_source (kind-is (What.AfterFunc f) k h) ∙ e
-is_source-by (Some (What.Chan cap)) k h e = refl
-is_source-by (Some What.Function) k h e = ap is_kind_source (kind-is What.Function k h) ∙ e
-
 -- what refers to an object of a kind names one: what is declared at its place passes the test of that kind
 names-object : (names : Names) (script : Script) → AllKnown names script → (holds : Kind → Bool) (test : Option What → Bool)
-    → ((o : Option What) (k : Kind) → option_map kind_in o ≡ Some k → holds k ≡ true → test o ≡ true) → (x : ℕ) → IsPlace names holds x → test (what_at script x) ≡ true
-names-object names script known holds test by x p =
+    → ((what : What) → test (Some what) ≡ holds (kind_in what)) → (x : ℕ) → IsPlace names holds x → test (what_at script x) ≡ true
+names-object names script known holds test each x p =
     let P : ℕ → Type 0 = λ y. test (what_at script y) ≡ true in
-    subst P (sym p.is) (by (what_at script p.ref.declared.place) p.ref.declared.kind (known p.ref.name p.ref.declared p.ref.known).kind p.kind)
+    subst P (sym p.is) (by_kind test holds each (what_at script p.ref.declared.place) p.ref.declared.kind (known p.ref.name p.ref.declared p.ref.known).kind ∙ p.kind)
 
 names-setting : (names : Names) (script : Script) → AllKnown names script → (t : ℕ) → IsPlace names is_kind_setting t → model_is_setting script t ≡ true
-names-setting names script known t p = names-object names script known is_kind_setting (λ o. names_timer o || names_func o) is_setting-by t p
+names-setting names script known t p = names-object names script known is_kind_setting (λ o. names_timer o || names_func o) (λ what. (is_of_kind what).setting) t p
 
 names-chan : (names : Names) (script : Script) → AllKnown names script → (c : ℕ) → IsPlace names is_kind_chan c → model_is_chan script c ≡ true
-names-chan names script known c p = names-object names script known is_kind_chan names_chan is_chan-by c p
+names-chan names script known c p = names-object names script known is_kind_chan names_chan (λ what. (is_of_kind what).chan) c p
 
 names-source : (names : Names) (script : Script) → AllKnown names script → (o : ℕ) → IsPlace names is_kind_source o → model_gives_values script o ≡ true
-names-source names script known o p = names-object names script known is_kind_source (λ w. names_timer w || names_chan w) is_source-by o p
+names-source names script known o p = names-object names script known is_kind_source (λ w. names_timer w || names_chan w) (λ what. (is_of_kind what).source) o p
 
 -- what stands last is of each instruction that sets a timer
 names_rightly-by : (names : Names) (script : Script) → AllKnown names script → (i : Instr) → Refers names i → NamesRightly script i
@@ -133,13 +109,6 @@ a-line names _ r = refl
 
 -- ---- the cases of selects
 
-is_timer-by : (o : Option What) (k : Kind) → option_map kind_in o ≡ Some k → names_timer o ≡ is_kind_timer k
-is_timer-by None k h = cc
-is_timer-by (Some What.Timer) k h = ap is_kind_timer (kind-is What.Timer k h)
-is_timer-by (Some (What.AfterFunc f)) k h = ap is_kind_timer (kind-is (What.AfterFunc f) k h)
-is_timer-by (Some (What.Chan cap)) k h = ap is_kind_timer (kind-is (What.Chan cap) k h)
-is_timer-by (Some What.Function) k h = ap is_kind_timer (kind-is What.Function k h)
-
 operates : (names : Names) (script : Script) → AllKnown names script → (awaits : Bool) (kind : CaseKind) → RefersCase names awaits kind → OperatesRightly script kind
 operates names script known awaits (CaseKind.Recv o) r = names-source names script known o r.0
 operates names script known awaits (CaseKind.Send c v) r = names-chan names script known c r.0
@@ -147,7 +116,7 @@ operates names script known awaits (CaseKind.Send c v) r = names-chan names scri
 awaits-is : (names : Names) (script : Script) → AllKnown names script → (awaits : Bool) (kind : CaseKind) → RefersCase names awaits kind → model_awaits script kind ≡ awaits
 awaits-is names script known awaits (CaseKind.Recv o) r =
     let p = r.0 in
-    ap (model_is_timer script) p.is ∙ is_timer-by (what_at script p.ref.declared.place) p.ref.declared.kind (known p.ref.name p.ref.declared p.ref.known).kind ∙ sym r.1
+    ap (model_is_timer script) p.is ∙ by_kind names_timer is_kind_timer (λ what. (is_of_kind what).timer) (what_at script p.ref.declared.place) p.ref.declared.kind (known p.ref.name p.ref.declared p.ref.known).kind ∙ sym r.1
 awaits-is names script known awaits (CaseKind.Send c v) r = sym r.1
 
 -- how many of these cases receive from timers
@@ -353,10 +322,10 @@ funcs-good names script known (closes ∷ rest) inside [] n f k r = funcs-good n
 funcs-good names script known (closes ∷ rest) inside (inner ∷ outer) n f k r = funcs-good names script known rest true (block_ended (inner ∷ outer)) n f k r.2
 
 declares-by : (names : Names) (script : Script) → AllKnown names script → (what : What) → Starts names what → DeclaresRightly script what
-declares-by names script known What.Timer s = tt
 declares-by names script known (What.AfterFunc f) s = omega (arith, s.2, func-within script s.0.name s.0.declared (known s.0.name s.0.declared s.0.known) s.1)
 declares-by names script known (What.Chan cap) s = s
 declares-by names script known What.Function s = absurd s
+declares-by names script known _ s = tt
 
 declares-good : (names : Names) (script : Script) → AllKnown names script → (deeds : List Deed) (inside : Bool) (blocks : List OpenBlock) (n f k : ℕ) → Right names inside blocks n f k deeds → All (λ (d : Decl). DeclaresRightly script d.what) (decls_in deeds)
 declares-good names script known [] inside blocks n f k r = All-none (λ (d : Decl). DeclaresRightly script d.what)

@@ -126,6 +126,7 @@ ticks-by names q v (Some d) e h = let both = if-Some (is_kind_source d.kind) d.p
 pub fits : (names : Names) (k : Keyword) (w u : List ℕ) (a b : ℕ) → value_of names (form_of k).first w ≡ Some a → value_of names (form_of k).second u ≡ Some b
     → FitsRole names (form_of k).role (form_of k).first a (awaits_timer names (command k w u)) (step_of k a b)
 fits names Keyword.Timer w u a b first second = (refl, refl, tt)
+fits names Keyword.Ticker w u a b first second = (refl, refl, tt)
 fits names Keyword.AfterFunc w u a b first second = (refl, refl, function-by names u b (names u) refl second)
 fits names Keyword.Chan w u a b first second = (refl, refl, number-most most_capacity u b second)
 fits names Keyword.Func w u a b first second = (refl, refl, refl)

@@ -25,8 +25,9 @@ use Rattle.gt_grammar.specs.declared.progress.Held.{Held}
 use Rattle.gt_grammar.specs.Progress.{Progress}
 use Rattle.gt_grammar.specs.Statements.{Command, command, command_by, command_with, command_in, case_of, command_of, awaits_timer, value_of, is_head}
 use Rattle.gt_grammar.specs.Deeds.{Deed, declares, opens, does, loops, selects, chooses, defaults, closes, deed_of, deed_with, deed_at, deeds_of, func_place, script_in, script_with, script_of}
-use Rattle.gt_grammar.specs.Faults.{test, stands, is_before, is_function, are_none_open, may_end, ends_wrongly, nests_wrongly, selects_wrongly, in_choice, loop_count, holding, block_ended, case_added, default_added, count_of, progress_after, progress_with, brings_too_many, lacks_main, fault_from, fault_in_lines, head_cause, no_progress}
+use Rattle.gt_grammar.specs.Faults.{test, stands, is_before, is_function, are_none_open, may_end, ends_wrongly, nests_wrongly, selects_wrongly, in_choice, loop_count, holding, block_ended, case_added, default_added, count_if, count_of, progress_after, progress_with, brings_too_many, lacks_main, fault_from, fault_in_lines, head_cause, no_progress}
 use Rattle.gt_grammar.proofs.Rightly.{kind_in, place_of, is_declared_before, naming_as, names_in, Refers, RefersCase, Starts, IsNew, IsChosen, MayChoose, MayDefault, Right, opened, chosen_in}
+use Rattle.gt_grammar.proofs.KindTests.{started, starts_functions}
 use Rattle.gt_grammar.proofs.DeedsGood.{deeds-good}
 use Rattle.gt_grammar.proofs.Fits.{FitsRole, IsFree, new-value}
 use Rattle.gt_grammar.proofs.RightLines.{first-None, Doing, doing, RightLine, AllRight, all_right, fault_or-None}
@@ -186,12 +187,6 @@ by-deed names p line rest deed naming says are right =
       right = subst (Right names p.inside p.blocks p.names p.functions p.instructions) (sym deeds) right;
     }
 
-starts-functions : (names : Names) (what : What) (f : ℕ) → Starts names what → functions_with (kind_in what) f ≡ f
-starts-functions names What.Timer f s = refl
-starts-functions names (What.AfterFunc g) f s = refl
-starts-functions names (What.Chan cap) f s = refl
-starts-functions names What.Function f s = absurd s
-
 or-first : (a b : Bool) → (a || b) ≡ false → a ≡ false
 or-first true b h = cc
 or-first false b h = refl
@@ -223,7 +218,7 @@ done-declares names false blocks n f k line rest name what says here room new st
     let x : Naming = naming_as name (kind_in what) in
     by-deed names (progress false blocks n f k) line rest (declares name what) (Some x) says
     (ap (λ m. declaration x n f ∷ declarations_from m (functions_with (kind_in what) f) rest) (next-is n room)
-    ∙ ap (λ m. declaration x n f ∷ declarations_from (n + 1) m rest) (starts-functions names what f starts)
+    ∙ ap (λ m. declaration x n f ∷ declarations_from (n + 1) m rest) (starts_functions names what f starts)
     ∙ ap (λ ds. declaration x n f ∷ ds) ih.are)
     (refl, room, new, starts, ih.right)
 
@@ -311,27 +306,37 @@ says names line name kind step naming d n e = record { deed_is = d; naming_is = 
 passes-are : (names : Names) (arg : Arg) (name : List ℕ) (a count : ℕ) → arg ≡ Arg.Passes → count ≡ a → value_of names arg name ≡ Some a → count_of name ≡ count
 passes-are names arg name a count e is h = ap (λ o. unwrap_or o 0) (ap (λ x. value_of names x name) (sym e) ∙ h) ∙ sym is
 
+-- a declaration that opens nothing, and one that opens a function. They take a kind and an equation, so that no pair of a kind and a declaration needs a clause
+done-declared : (names : Names) (inside : Bool) (blocks : List OpenBlock) (n f k : ℕ) (line : NumberedLine) (rest : List NumberedLine) (name : List ℕ) (kind : Kind) (a : ℕ) (awaits : Bool) (what : What)
+    → deed_at names line ≡ Some (declares name what) → naming_of line.words ≡ named name (Some kind) → not inside ≡ true → ltb a n ≡ false → brings_too_many (progress inside blocks n f k) (Role.Declares kind) ≡ false
+    → IsFree names name a → kind ≡ kind_in what → Starts names what → Done names (progress_with (progress inside blocks n f k) (Role.Declares kind) (count_of name) awaits) rest → Done names (progress inside blocks n f k) (line ∷ rest)
+done-declared names inside blocks n f k line rest name kind a awaits what d m here late room free is starts ih =
+    let none : is_kind_function kind ≡ false = ap is_kind_function is ∙ started names what starts in
+    let P : Bool → Type 0 = λ b. Done names (progress (b || inside) blocks (n + 1) (count_if b f) k) rest in
+    done-declares names inside blocks n f k line rest name what
+    (says names line name (Some kind) (Step.Declare what) (Some (naming_as name (kind_in what))) d m (naming-free name kind free.free ∙ ap (λ x. Some (naming_as name x)) is))
+    here (leb-false 4096 n (or-first (leb 4096 n) (is_kind_function kind && leb 256 f) (or-first (leb 4096 n || (is_kind_function kind && leb 256 f)) false room)))
+    (new-name names name n a free late) starts (subst P none ih)
+
+done-opened : (names : Names) (inside : Bool) (blocks : List OpenBlock) (n f k : ℕ) (line : NumberedLine) (rest : List NumberedLine) (name : List ℕ) (kind : Kind) (a : ℕ) (awaits : Bool) (decl : ℕ)
+    → deed_at names line ≡ Some (opens name decl) → naming_of line.words ≡ named name (Some kind) → not inside ≡ true → ltb a n ≡ false → brings_too_many (progress inside blocks n f k) (Role.Declares kind) ≡ false
+    → IsFree names name a → kind ≡ Kind.Function → decl ≡ a → NoneOutside inside blocks → Done names (progress_with (progress inside blocks n f k) (Role.Declares kind) (count_of name) awaits) rest → Done names (progress inside blocks n f k) (line ∷ rest)
+done-opened names inside blocks n f k line rest name kind a awaits decl d m here late room free is place none ih =
+    let P : Kind → Type 0 = λ x. Done names (progress_with (progress inside blocks n f k) (Role.Declares x) (count_of name) awaits) rest in
+    let full = or-first (leb 4096 n || leb 256 f) false (ap (λ x. brings_too_many (progress inside blocks n f k) (Role.Declares x)) (sym is) ∙ room) in
+    done-opens names inside blocks n f k line rest name decl
+    (says names line name (Some kind) (Step.Open decl) (Some (naming_as name Kind.Function)) d m (naming-free name kind free.free ∙ ap (λ x. Some (naming_as name x)) is))
+    here (leb-false 4096 n (or-first (leb 4096 n) (leb 256 f) full)) (leb-false 256 f (or-second (leb 4096 n) (leb 256 f) full))
+    (new-name names name n a free late) (new-place names name decl a free place) none (subst P is ih)
+
 done-role : (names : Names) (inside : Bool) (blocks : List OpenBlock) (n f k : ℕ) (line : NumberedLine) (rest : List NumberedLine) (name : List ℕ) (role : Role) (arg : Arg) (a : ℕ) (awaits : Bool) (step : Step)
     → deed_at names line ≡ Some (deed_of name step) → naming_of line.words ≡ named name (declared_kind role) → value_of names arg name ≡ Some a
     → stands inside role ≡ true → (is_declaring role && ltb a n) ≡ false → nests_wrongly (progress inside blocks n f k) role ≡ false → selects_wrongly blocks role ≡ false → brings_too_many (progress inside blocks n f k) role ≡ false
     → FitsRole names role arg a awaits step → NoneOutside inside blocks → (role ≡ Role.Selects → IsChosen (deeds_of names rest)) → Done names (progress_with (progress inside blocks n f k) role (count_of name) awaits) rest → Done names (progress inside blocks n f k) (line ∷ rest)
-done-role names inside blocks n f k line rest name (Role.Declares Kind.Timer) arg a awaits (Step.Declare What.Timer) d m v here late nested chosen room fit none next ih =
-    let free : IsFree names name a = as-new names arg name a fit.0 v in
-    done-declares names inside blocks n f k line rest name What.Timer (says names line name (Some Kind.Timer) (Step.Declare What.Timer) (Some (naming_as name Kind.Timer)) d m (naming-free name Kind.Timer free.free))
-    here (leb-false 4096 n (or-first (leb 4096 n) false (or-first (leb 4096 n || false) false room))) (new-name names name n a free late) tt ih
-done-role names inside blocks n f k line rest name (Role.Declares Kind.AfterFunc) arg a awaits (Step.Declare (What.AfterFunc g)) d m v here late nested chosen room fit none next ih =
-    let free : IsFree names name a = as-new names arg name a fit.0 v in
-    done-declares names inside blocks n f k line rest name (What.AfterFunc g) (says names line name (Some Kind.AfterFunc) (Step.Declare (What.AfterFunc g)) (Some (naming_as name Kind.AfterFunc)) d m (naming-free name Kind.AfterFunc free.free))
-    here (leb-false 4096 n (or-first (leb 4096 n) false (or-first (leb 4096 n || false) false room))) (new-name names name n a free late) fit.2 ih
-done-role names inside blocks n f k line rest name (Role.Declares Kind.Chan) arg a awaits (Step.Declare (What.Chan cap)) d m v here late nested chosen room fit none next ih =
-    let free : IsFree names name a = as-new names arg name a fit.0 v in
-    done-declares names inside blocks n f k line rest name (What.Chan cap) (says names line name (Some Kind.Chan) (Step.Declare (What.Chan cap)) (Some (naming_as name Kind.Chan)) d m (naming-free name Kind.Chan free.free))
-    here (leb-false 4096 n (or-first (leb 4096 n) false (or-first (leb 4096 n || false) false room))) (new-name names name n a free late) fit.2 ih
-done-role names inside blocks n f k line rest name (Role.Declares Kind.Function) arg a awaits (Step.Open decl) d m v here late nested chosen room fit none next ih =
-    let free : IsFree names name a = as-new names arg name a fit.0 v in
-    let full = or-first (leb 4096 n || leb 256 f) false room in
-    done-opens names inside blocks n f k line rest name decl (says names line name (Some Kind.Function) (Step.Open decl) (Some (naming_as name Kind.Function)) d m (naming-free name Kind.Function free.free))
-    here (leb-false 4096 n (or-first (leb 4096 n) (leb 256 f) full)) (leb-false 256 f (or-second (leb 4096 n) (leb 256 f) full)) (new-name names name n a free late) (new-place names name decl a free fit.2) none ih
+done-role names inside blocks n f k line rest name (Role.Declares kind) arg a awaits (Step.Declare what) d m v here late nested chosen room fit none next ih =
+    done-declared names inside blocks n f k line rest name kind a awaits what d m here late room (as-new names arg name a fit.0 v) fit.1 fit.2 ih
+done-role names inside blocks n f k line rest name (Role.Declares kind) arg a awaits (Step.Open decl) d m v here late nested chosen room fit none next ih =
+    done-opened names inside blocks n f k line rest name kind a awaits decl d m here late room (as-new names arg name a fit.0 v) fit.1 fit.2 none ih
 done-role names inside blocks n f k line rest name Role.Closes arg a awaits Step.Close d m v here late nested chosen room fit none next ih =
     done-closes names inside blocks n f k line rest (says names line name None Step.Close None d m (named-none name)) nested none ih
 done-role names inside blocks n f k line rest name Role.Acts arg a awaits (Step.Do instr) d m v here late nested chosen room fit none next ih =
@@ -346,22 +351,6 @@ done-role names inside blocks n f k line rest name Role.Chooses arg a awaits (St
     done-chooses names inside blocks n f k line rest kind awaits (says names line name None (Step.Case kind) None d m (named-none name)) nested chosen fit none ih
 done-role names inside blocks n f k line rest name Role.Defaults arg a awaits Step.Default d m v here late nested chosen room fit none next ih =
     done-defaults names inside blocks n f k line rest (says names line name None Step.Default None d m (named-none name)) nested chosen none ih
-done-role names inside blocks n f k line rest name (Role.Declares Kind.Timer) arg a awaits (Step.Declare (What.AfterFunc g)) d m v here late nested chosen room fit none next ih = let e = fit.1 in cc
-done-role names inside blocks n f k line rest name (Role.Declares Kind.Timer) arg a awaits (Step.Declare (What.Chan cap)) d m v here late nested chosen room fit none next ih = let e = fit.1 in cc
-done-role names inside blocks n f k line rest name (Role.Declares Kind.Timer) arg a awaits (Step.Declare What.Function) d m v here late nested chosen room fit none next ih = absurd fit.2
-done-role names inside blocks n f k line rest name (Role.Declares Kind.AfterFunc) arg a awaits (Step.Declare What.Timer) d m v here late nested chosen room fit none next ih = let e = fit.1 in cc
-done-role names inside blocks n f k line rest name (Role.Declares Kind.AfterFunc) arg a awaits (Step.Declare (What.Chan cap)) d m v here late nested chosen room fit none next ih = let e = fit.1 in cc
-done-role names inside blocks n f k line rest name (Role.Declares Kind.AfterFunc) arg a awaits (Step.Declare What.Function) d m v here late nested chosen room fit none next ih = absurd fit.2
-done-role names inside blocks n f k line rest name (Role.Declares Kind.Chan) arg a awaits (Step.Declare What.Timer) d m v here late nested chosen room fit none next ih = let e = fit.1 in cc
-done-role names inside blocks n f k line rest name (Role.Declares Kind.Chan) arg a awaits (Step.Declare (What.AfterFunc g)) d m v here late nested chosen room fit none next ih = let e = fit.1 in cc
-done-role names inside blocks n f k line rest name (Role.Declares Kind.Chan) arg a awaits (Step.Declare What.Function) d m v here late nested chosen room fit none next ih = absurd fit.2
-done-role names inside blocks n f k line rest name (Role.Declares Kind.Function) arg a awaits (Step.Declare What.Timer) d m v here late nested chosen room fit none next ih = let e = fit.1 in cc
-done-role names inside blocks n f k line rest name (Role.Declares Kind.Function) arg a awaits (Step.Declare (What.AfterFunc g)) d m v here late nested chosen room fit none next ih = let e = fit.1 in cc
-done-role names inside blocks n f k line rest name (Role.Declares Kind.Function) arg a awaits (Step.Declare (What.Chan cap)) d m v here late nested chosen room fit none next ih = let e = fit.1 in cc
-done-role names inside blocks n f k line rest name (Role.Declares Kind.Function) arg a awaits (Step.Declare What.Function) d m v here late nested chosen room fit none next ih = absurd fit.2
-done-role names inside blocks n f k line rest name (Role.Declares Kind.Timer) arg a awaits (Step.Open decl) d m v here late nested chosen room fit none next ih = let e = fit.1 in cc
-done-role names inside blocks n f k line rest name (Role.Declares Kind.AfterFunc) arg a awaits (Step.Open decl) d m v here late nested chosen room fit none next ih = let e = fit.1 in cc
-done-role names inside blocks n f k line rest name (Role.Declares Kind.Chan) arg a awaits (Step.Open decl) d m v here late nested chosen room fit none next ih = let e = fit.1 in cc
 done-role names inside blocks n f k line rest name role arg a awaits step d m v here late nested chosen room fit none next ih = absurd fit
 
 abbrev progress_by : Names → Progress → Option Command → Progress

@@ -1,5 +1,6 @@
 pub mod Reversed
 pub mod Rightly
+pub mod KindTests
 pub mod OpenLoops
 pub mod Bodies
 pub mod Sizes

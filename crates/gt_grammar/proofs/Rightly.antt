@@ -16,6 +16,7 @@ use Rattle.gt_grammar.specs.Deeds.{Deed, declares, opens, does, loops, selects, 
 
 abbrev pub kind_in : What → Kind
 kind_in What.Timer = Kind.Timer
+kind_in What.Ticker = Kind.Ticker
 kind_in (What.AfterFunc func) = Kind.AfterFunc
 kind_in (What.Chan cap) = Kind.Chan
 kind_in What.Function = Kind.Function
@@ -81,6 +82,7 @@ RefersCase names awaits (CaseKind.Send c v) = IsPlace names is_kind_chan c × (a
 -- what a declaration starts is declared as such, and its capacity is in range
 abbrev pub Starts : Names → What → Type 0
 Starts names What.Timer = Unit {0}
+Starts names What.Ticker = Unit {0}
 Starts names (What.AfterFunc f) = (r : Ref names) × (is_kind_function r.declared.kind ≡ true) × (f ≡ r.declared.func)
 Starts names (What.Chan cap) = cap ≤ most_capacity
 Starts names What.Function = ⊥

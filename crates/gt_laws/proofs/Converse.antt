@@ -61,7 +61,7 @@ pub record Lawful (script : Script) (limits : Limits) (h : List Entry) : Type 0 
   pub good : IsGood script
   pub order : AtEach (InOrder script) h
   pub time : AtEach (InTime script) h
-  pub fresh : AtEach IsFresh h
+  pub fresh : AtEach (IsFresh script) h
   pub uses : AtEach (UsesRightly script) h
   pub passes : AtEach (PassesOn script) h
   pub chooses : AtEach (ChoosesRightly script) h

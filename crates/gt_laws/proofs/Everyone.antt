@@ -1,5 +1,5 @@
--- The goroutines and the owners of timers that a history tells are those of the state after it.
-use Rattle.std.proofs.Common.{◌≡◌, ◌≢◌, ℕ, zero, suc, List, [], ◌∷◌, ◌++◌, map, set, slice_get, refl, sym, ap, subst, ◌∙◌, Option, None, Some, IfSome, option_map, unwrap_or, append_assoc, append-nil}
+-- The goroutines and the timers that a history tells are those of the state after it.
+use Rattle.std.proofs.Common.{◌≡◌, ◌≢◌, ℕ, zero, suc, List, [], ◌∷◌, ◌++◌, map, set, slice_get, refl, sym, ap, subst, ◌∙◌, Option, None, Some, IfSome, option_map, append_assoc, append-nil}
 use Rattle.std.proofs.lemmas.List.{map-append, map-set}
 use Rattle.gt_model.specs.declared.script.Script.{Script}
 use Rattle.gt_model.specs.declared.script.Decl.{Decl}
@@ -14,15 +14,15 @@ use Rattle.gt_model.specs.Good.{IsGood}
 use Rattle.gt_model.specs.Script.{instr_at, func_of}
 use Rattle.gt_model.specs.Tables.{at, numbered, change, change_numbered}
 use Rattle.gt_model.proofs.Items.{numbered-change_other}
-use Rattle.gt_rules.specs.State.{State, clock_of, goroutine_at, world_of, until_of, sleeps_until, stands, stands_at}
+use Rattle.gt_rules.specs.State.{State, clock_of, goroutine_at, world_of, until_of, sleeps_until, stands, stands_at, period_at}
 use Rattle.gt_rules.specs.declared.change.Move.{Move}
 use Rattle.gt_rules.specs.declared.change.Setting.{Setting}
 use Rattle.gt_rules.specs.declared.change.Start.{Start}
 use Rattle.gt_rules.specs.Change.{change_of}
-use Rattle.gt_rules.specs.After.{after, first_state, moved, number_of, set_due, set_again, timer_world, retimed, with_mover, started_by, with_starts, with_retimed}
+use Rattle.gt_rules.specs.After.{after, first_state, moved, number_of, duration_of, period_of, new_period, set_due, set_again, timer_world, retimed, with_mover, started_by, with_starts, with_retimed}
 use Rattle.gt_rules.specs.History.{AllLegal, state_after}
 use Rattle.gt_facts.proofs.Fits.{Fits, IsLive}
-use Rattle.gt_laws.specs.Told.{clock_told, beginner, Wait, awake, asleep, ToldGoroutine, Everyone, world_in, led, with_led, begun_by, mover_world, owned, with_owned, everyone_by, everyone_first, everyone_told, goroutine_told, world_told, owner_told, now_told, place_of, wait_of, until_in, until_told, stands_in, stands_told}
+use Rattle.gt_laws.specs.Told.{clock_told, beginner, Wait, awake, asleep, ToldGoroutine, ToldTimer, Everyone, world_in, owner_in, period_in, led, with_led, begun_by, mover_world, period_by, with_period, timed, with_timed, everyone_by, everyone_first, everyone_told, goroutine_told, world_told, owner_told, period_told, now_told, wait_of, until_in, until_told, stands_in, stands_of, stands_told}
 use Rattle.gt_laws.proofs.Shown.{AreTwo, shown-told, clock-told}
 
 -- ---- what is shown of a state
@@ -40,12 +40,12 @@ wait_in Mode.Ended = awake
 abbrev pub shown : Goroutine → ToldGoroutine
 shown r = record { world = r.world; place = place_in r.place r.mode; wait = wait_in r.mode }
 
-abbrev pub owner_in : Option Timer → Option ℕ
-owner_in None = None
-owner_in (Some r) = Some r.world
+abbrev pub timer_in : Option Timer → Option ToldTimer
+timer_in None = None
+timer_in (Some r) = Some (record { owner = r.world; period = r.period })
 
 abbrev pub show : State → Everyone
-show s = record { goroutines = map shown s.goroutines; owners = map owner_in s.timers }
+show s = record { goroutines = map shown s.goroutines; timers = map timer_in s.timers }
 
 -- ---- lists
 
@@ -121,15 +121,20 @@ shown-world s g =
     elim (goroutine_at s g) as (λ o. (elim o as (λ o. ℕ) [ None ↦ 0 | Some r ↦ r.world ]) ≡ world_in (option_map shown o)) [ None ↦ refl | Some r ↦ refl ]
     ∙ sym (ap world_in (numbered-map shown s.goroutines g))
 
-at-owner : (timers : List (Option Timer)) (t : ℕ) → at (map owner_in timers) t ≡ owner_in (at timers t)
-at-owner [] t = refl
-at-owner (o ∷ timers) zero = refl
-at-owner (o ∷ timers) (suc t) = at-owner timers t
+at-shown : (timers : List (Option Timer)) (t : ℕ) → at (map timer_in timers) t ≡ timer_in (at timers t)
+at-shown [] t = refl
+at-shown (o ∷ timers) zero = refl
+at-shown (o ∷ timers) (suc t) = at-shown timers t
 
-shown-owner : (s : State) (t : ℕ) → timer_world s t ≡ unwrap_or (at (map owner_in s.timers) t) 0
+shown-owner : (s : State) (t : ℕ) → timer_world s t ≡ owner_in (at (map timer_in s.timers) t)
 shown-owner s t =
-    elim (at s.timers t) as (λ o. (elim o as (λ o. ℕ) [ None ↦ 0 | Some r ↦ r.world ]) ≡ unwrap_or (owner_in o) 0) [ None ↦ refl | Some r ↦ refl ]
-    ∙ sym (ap (λ (o : Option ℕ). unwrap_or o 0) (at-owner s.timers t))
+    elim (at s.timers t) as (λ o. (elim o as (λ o. ℕ) [ None ↦ 0 | Some r ↦ r.world ]) ≡ owner_in (timer_in o)) [ None ↦ refl | Some r ↦ refl ]
+    ∙ sym (ap owner_in (at-shown s.timers t))
+
+shown-period : (s : State) (t : ℕ) → period_at s t ≡ period_in (at (map timer_in s.timers) t)
+shown-period s t =
+    elim (at s.timers t) as (λ o. (elim o as (λ o. ℕ) [ None ↦ 0 | Some r ↦ r.period ]) ≡ period_in (timer_in o)) [ None ↦ refl | Some r ↦ refl ]
+    ∙ sym (ap period_in (at-shown s.timers t))
 
 begun : (script : Script) (s : State) (x : Start) → shown (started_by script s x) ≡ begun_by script (show s) x
 begun script s (Start.ByGoroutine g f) = ap (λ w. beginner script w f) (shown-world s g)
@@ -143,37 +148,60 @@ says-begun script s gs (x ∷ xs) =
     ∙ (ap (λ rs. rs ++ map (begun_by script (show s)) xs) (map-append shown gs (started_by script s x ∷ []) ∙ ap (λ r. map shown gs ++ r ∷ []) (begun script s x))
     ∙ append_assoc (map shown gs) (begun_by script (show s) x ∷ []) (map (begun_by script (show s)) xs))
 
--- ---- who owns
+-- ---- what becomes of a timer
 
-kept-due : (due : Option ℕ) (o : Option Timer) → owner_in (set_due due o) ≡ owner_in o
-kept-due due None = refl
-kept-due due (Some r) = refl
+pub stands-shown : (script : Script) (place : Place) (mode : Mode)
+    → (elim mode as (λ m. Option Instr) [ Mode.At ↦ instr_at script place | _ ↦ None ]) ≡ stands_in script (place_in place mode) (wait_in mode)
+stands-shown script place Mode.At = refl
+stands-shown script place (Mode.Sleeping until) = refl
+stands-shown script place Mode.Ended = refl
 
-kept-again : (due period : ℕ) (o : Option Timer) → owner_in (set_again due period o) ≡ owner_in o
-kept-again due period None = refl
-kept-again due period (Some r) = refl
+stands-of : (script : Script) (o : Option Goroutine) → (elim o as (λ o. Option Instr) [ None ↦ None | Some r ↦ stands script r ]) ≡ stands_of script (option_map shown o)
+stands-of script None = refl
+stands-of script (Some r) = stands-shown script r.place r.mode
+
+shown-stands : (script : Script) (s : State) (g : ℕ) → stands_at script s g ≡ stands_of script (numbered (map shown s.goroutines) g)
+shown-stands script s g = stands-of script (goroutine_at s g) ∙ sym (ap (stands_of script) (numbered-map shown s.goroutines g))
 
 says-mover : (s : State) (m : Option (ℕ × Move)) → world_of s (number_of m) ≡ mover_world (map shown s.goroutines) m
 says-mover s None = refl
 says-mover s (Some m) = shown-world s m.0
 
-setting-owned : (script : Script) (s : State) (m : Option (ℕ × Move)) (t : ℕ) (x : Setting)
-    → map owner_in (retimed script s m t s.timers x) ≡ owned (mover_world (map shown s.goroutines) m) t (map owner_in s.timers) x
-setting-owned script s m t (Setting.Made due) = map-set owner_in s.timers t _ ∙ ap (λ w. set (map owner_in s.timers) t (Some w)) (says-mover s m)
-setting-owned script s m t (Setting.SetAnew due) = map-unseen owner_in _ s.timers t (kept-again due _)
-setting-owned script s m t (Setting.Ended due) = map-unseen owner_in (set_due due) s.timers t (kept-due due)
+says-period : (script : Script) (s : State) (m : Option (ℕ × Move)) (t : ℕ) → new_period script s (number_of m) t ≡ period_by script (map shown s.goroutines) m t
+says-period script s None t = refl
+says-period script s (Some m) t = ap (λ (o : Option Instr). period_of script t (duration_of o)) (shown-stands script s m.0)
 
-says-owned : (script : Script) (s : State) (m : Option (ℕ × Move)) (o : Option (ℕ × Setting))
-    → map owner_in (with_retimed script s m s.timers o) ≡ with_owned (mover_world (map shown s.goroutines) m) (map owner_in s.timers) o
-says-owned script s m None = refl
-says-owned script s m (Some x) = setting-owned script s m x.0 x.1
+kept-due : (due : Option ℕ) (o : Option Timer) → timer_in (set_due due o) ≡ timer_in o
+kept-due due None = refl
+kept-due due (Some r) = refl
+
+shown-again : (due period : ℕ) (o : Option Timer) → timer_in (set_again due period o) ≡ option_map (with_period period) (timer_in o)
+shown-again due period None = refl
+shown-again due period (Some r) = refl
+
+setting-timed : (script : Script) (s : State) (m : Option (ℕ × Move)) (t : ℕ) (x : Setting)
+    → map timer_in (retimed script s m t s.timers x) ≡ timed script (map shown s.goroutines) m t (map timer_in s.timers) x
+setting-timed script s m t (Setting.Made due) =
+    map-set timer_in s.timers t _
+    ∙ (ap (λ w. set (map timer_in s.timers) t (Some (record { owner = w; period = new_period script s (number_of m) t }))) (says-mover s m)
+    ∙ ap (λ period. set (map timer_in s.timers) t (Some (record { owner = mover_world (map shown s.goroutines) m; period = period }))) (says-period script s m t))
+setting-timed script s m t (Setting.SetAnew due) =
+    let period : ℕ = new_period script s (number_of m) t in
+    map-change timer_in (set_again due period) (option_map (with_period period)) s.timers t (λ o e. shown-again due period o)
+    ∙ ap (λ period. change (map timer_in s.timers) t (option_map (with_period period))) (says-period script s m t)
+setting-timed script s m t (Setting.Ended due) = map-unseen timer_in (set_due due) s.timers t (kept-due due)
+
+says-timed : (script : Script) (s : State) (m : Option (ℕ × Move)) (o : Option (ℕ × Setting))
+    → map timer_in (with_retimed script s m s.timers o) ≡ with_timed script (map shown s.goroutines) m (map timer_in s.timers) o
+says-timed script s m None = refl
+says-timed script s m (Some x) = setting-timed script s m x.0 x.1
 
 -- ---- everyone
 
-abbrev together : List ToldGoroutine → List (Option ℕ) → Everyone
-together rs os = record { goroutines = rs; owners = os }
+abbrev together : List ToldGoroutine → List (Option ToldTimer) → Everyone
+together rs os = record { goroutines = rs; timers = os }
 
-both : (rs qs : List ToldGoroutine) (os ps : List (Option ℕ)) → rs ≡ qs → os ≡ ps → together rs os ≡ together qs ps
+both : (rs qs : List ToldGoroutine) (os ps : List (Option ToldTimer)) → rs ≡ qs → os ≡ ps → together rs os ≡ together qs ps
 both rs qs os ps same alike = ap (λ rs. together rs os) same ∙ ap (λ os. together qs os) alike
 
 one-everyone : (script : Script) (s : State) (e : Entry) → Fits script s (change_of e) → AreTwo (change_of e).mover (change_of e).partner
@@ -182,16 +210,16 @@ one-everyone script s e fits two =
     both _ _ _ _
     (says-begun script s (with_mover script (with_mover script s.goroutines (change_of e).mover) (change_of e).partner) (change_of e).starts
     ∙ ap (λ rs. rs ++ map (begun_by script (show s)) (change_of e).starts) (says-both script s (change_of e).mover (change_of e).partner fits.mover fits.partner two))
-    (says-owned script s (change_of e).mover (change_of e).timer)
+    (says-timed script s (change_of e).mover (change_of e).timer)
 
-none-owned : (decls : List Decl) → map owner_in (map (λ (d : Decl). None) decls) ≡ map (λ (d : Decl). None) decls
-none-owned [] = refl
-none-owned (d ∷ ds) = ap (λ os. None ∷ os) (none-owned ds)
+none-timed : (decls : List Decl) → map timer_in (map (λ (d : Decl). None) decls) ≡ map (λ (d : Decl). None) decls
+none-timed [] = refl
+none-timed (d ∷ ds) = ap (λ os. None ∷ os) (none-timed ds)
 
 pub everyone-told : (script : Script) (limits : Limits) (h : List Entry) → IsGood script → AllLegal script limits (first_state script) h
     → show (state_after script (first_state script) h) ≡ everyone_told script h
 everyone-told script limits = shown-told script limits show (everyone_by script) (everyone_first script) (λ s e formed fits two. one-everyone script s e fits two)
-    (both _ _ _ _ refl (none-owned script.decls))
+    (both _ _ _ _ refl (none-timed script.decls))
 
 -- ---- and of each of them
 
@@ -204,7 +232,12 @@ goroutine-told script limits g h good legal =
 pub owner-told : (script : Script) (limits : Limits) (t : ℕ) (h : List Entry) → IsGood script → AllLegal script limits (first_state script) h
     → timer_world (state_after script (first_state script) h) t ≡ owner_told script t h
 owner-told script limits t h good legal =
-    shown-owner (state_after script (first_state script) h) t ∙ ap (λ (all : Everyone). unwrap_or (at all.owners t) 0) (everyone-told script limits h good legal)
+    shown-owner (state_after script (first_state script) h) t ∙ ap (λ (all : Everyone). owner_in (at all.timers t)) (everyone-told script limits h good legal)
+
+pub period-told : (script : Script) (limits : Limits) (t : ℕ) (h : List Entry) → IsGood script → AllLegal script limits (first_state script) h
+    → period_at (state_after script (first_state script) h) t ≡ period_told script t h
+period-told script limits t h good legal =
+    shown-period (state_after script (first_state script) h) t ∙ ap (λ (all : Everyone). period_in (at all.timers t)) (everyone-told script limits h good legal)
 
 pub world-told : (script : Script) (limits : Limits) (g : ℕ) (h : List Entry) → IsGood script → AllLegal script limits (first_state script) h
     → world_of (state_after script (first_state script) h) g ≡ world_told script g h
@@ -223,12 +256,6 @@ until-shown Mode.At = refl
 until-shown (Mode.Sleeping until) = refl
 until-shown Mode.Ended = refl
 
-pub stands-shown : (script : Script) (place : Place) (mode : Mode)
-    → (elim mode as (λ m. Option Instr) [ Mode.At ↦ instr_at script place | _ ↦ None ]) ≡ stands_in script (place_in place mode) (wait_in mode)
-stands-shown script place Mode.At = refl
-stands-shown script place (Mode.Sleeping until) = refl
-stands-shown script place Mode.Ended = refl
-
 pub until-told : (script : Script) (limits : Limits) (g : ℕ) (h : List Entry) → IsGood script → AllLegal script limits (first_state script) h
     → sleeps_until (state_after script (first_state script) h) g ≡ until_told script g h
 until-told script limits g h good legal =
@@ -240,7 +267,4 @@ until-told script limits g h good legal =
 pub stands-told : (script : Script) (limits : Limits) (g : ℕ) (h : List Entry) → IsGood script → AllLegal script limits (first_state script) h
     → stands_at script (state_after script (first_state script) h) g ≡ stands_told script g h
 stands-told script limits g h good legal =
-    elim (goroutine_at (state_after script (first_state script) h) g)
-    as (λ o. (elim o as (λ o. Option Instr) [ None ↦ None | Some r ↦ stands script r ])
-    ≡ stands_in script (place_of (option_map shown o)) (wait_of (option_map shown o))) [ None ↦ refl | Some r ↦ stands-shown script r.place r.mode ]
-    ∙ ap (λ (o : Option ToldGoroutine). stands_in script (place_of o) (wait_of o)) (goroutine-told script limits g h good legal)
+    stands-of script (goroutine_at (state_after script (first_state script) h) g) ∙ ap (stands_of script) (goroutine-told script limits g h good legal)

@@ -17,7 +17,7 @@ use Rattle.gt_model.specs.Good.{IsGood}
 use Rattle.gt_model.specs.Script.{instr_at, what_at, is_func, is_chan, capacity_of}
 use Rattle.gt_model.specs.Tables.{flatten}
 use Rattle.gt_rules.specs.State.{State, clock, goroutine_at, timer_at, due_of, stands, channel_at, item_count, is_closed, is_made}
-use Rattle.gt_rules.specs.Panics.{fault, fault_at, fault_case, case_fault, choice_fault, faulty_case, open_fault, or_else, when}
+use Rattle.gt_rules.specs.Panics.{fault, fault_at, fault_case, case_fault, choice_fault, faulty_case, open_fault, or_else, when, zero_ticker}
 use Rattle.gt_rules.specs.Ready.{is_due, is_ready, is_ready_in, is_ready_at, is_ready_instr, is_ready_case, is_ready_alone, is_ready_recv, is_partner, partner_waits, has_partner, has_come, everyone}
 use Rattle.gt_rules.specs.Operations.{receives_from, sends_to, offers, polls}
 use Rattle.gt_rules.specs.Counted.{sleep_of, awaits, is_awaited, counted_timer, counted}
@@ -28,7 +28,7 @@ use Rattle.gt_laws.specs.Told.{world_in, place_of, wait_of, ToldGoroutine, Every
 use Rattle.gt_laws.specs.GoesOn.{case_misuse, choice_misuse, misused_from, misuse_told, misused_case, meets_at, is_partner_told, partner_told, gives_told, alone_told, meets_told, can_operate, can_be_done, goes_on_at, goes_on_in, goes_on_told, IsStillTold, waits_at, waited_told, sleep_in, due_counted, counted_told, IsStuckTold}
 use Rattle.gt_laws.proofs.Shown.{clock-told, due-told, made-told}
 use Rattle.gt_laws.proofs.Channels.{opened-told, closed-told, count-told}
-use Rattle.gt_laws.proofs.Everyone.{shown, place_in, wait_in, owner_in, until-shown, stands-shown, everyone-told, goroutine-told, owner-told}
+use Rattle.gt_laws.proofs.Everyone.{shown, place_in, wait_in, timer_in, until-shown, stands-shown, everyone-told, goroutine-told, owner-told}
 
 abbrev pub reached : Script → List Entry → State
 reached script h = state_after script (first_state script) h
@@ -80,10 +80,10 @@ number-told script limits h n (c ∷ cases) good legal =
     ∙ ap (λ m. cond (is_some (case_misuse h c.kind)) n m) (number-told script limits h (n + 1) cases good legal)
 
 pub misuse-told : (script : Script) (limits : Limits) (h : List Entry) (i : Instr) → IsGood script → AllLegal script limits (first_state script) h
-    → fault script (reached script h) i ≡ misuse_told h i
-misuse-told script limits h (Instr.New t d) good legal = ap (λ b. when b Reason.Twice) (made-told script limits t h good legal)
+    → fault script (reached script h) i ≡ misuse_told script h i
+misuse-told script limits h (Instr.New t d) good legal = ap (λ b. or_else (when b Reason.Twice) (zero_ticker script t d)) (made-told script limits t h good legal)
 misuse-told script limits h (Instr.Stop t) good legal = unmade-told script limits h t good legal
-misuse-told script limits h (Instr.Reset t d) good legal = unmade-told script limits h t good legal
+misuse-told script limits h (Instr.Reset t d) good legal = ap (λ (o : Option Reason). or_else o (zero_ticker script t d)) (unmade-told script limits h t good legal)
 misuse-told script limits h (Instr.Recv o) good legal = ap (λ b. when (not b) Reason.Unmade) (has-told script limits h o good legal)
 misuse-told script limits h (Instr.Make c) good legal = ap (λ b. when b Reason.Twice) (opened-told script limits c h good legal)
 misuse-told script limits h (Instr.Send c v) good legal = unopened-told script limits h c good legal
@@ -116,7 +116,7 @@ some-there false c p d = refl
 partner-at : (script : Script) (limits : Limits) (h : List Entry) (b : Bool) (test : CaseKind → Bool) (o : Option Instr) → IsGood script
     → AllLegal script limits (first_state script) h
     → (b && true && is_none (elim o as (λ o. Option (ℕ × Reason)) [ None ↦ None | Some i ↦ fault_at script (reached script h) i ])
-    && (elim o as (λ o. Bool) [ None ↦ false | Some i ↦ not (polls i) && offers test i ])) ≡ (b && meets_at h (offers test) o)
+    && (elim o as (λ o. Bool) [ None ↦ false | Some i ↦ not (polls i) && offers test i ])) ≡ (b && meets_at script h (offers test) o)
 partner-at script limits h b test None good legal = none-there b
 partner-at script limits h b test (Some i) good legal =
     some-there b (is_none (fault_at script (reached script h) i)) (not (polls i)) (offers test i)
@@ -128,7 +128,7 @@ partner-one : (script : Script) (limits : Limits) (h : List Entry) (me : ℕ) (t
     → is_partner script (reached script h) everyone me test (g, r) ≡ is_partner_told script h me (offers test) (g, shown r)
 partner-one script limits h me test good legal g r =
     partner-at script limits h (not (g == me)) test (stands script r) good legal
-    ∙ ap (λ (o : Option Instr). not (g == me) && meets_at h (offers test) o) (stands-shown script r.place r.mode)
+    ∙ ap (λ (o : Option Instr). not (g == me) && meets_at script h (offers test) o) (stands-shown script r.place r.mode)
 
 any-enumerated_map : {X Y : Type 0} (f : ℕ × X → Bool) (k : ℕ × Y → Bool) (m : X → Y) (n : ℕ) (xs : List X) → ((i : ℕ) (x : X) → f (i, x) ≡ k (i, m x))
     → list_any f (enumerate_from n xs) ≡ list_any k (enumerate_from n (map m xs))
@@ -176,6 +176,9 @@ gives-told : (script : Script) (limits : Limits) (h : List Entry) (w o : ℕ) (w
     → is_ready_recv (reached script h) (has_come (reached script h) w) o what ≡ gives_told h (clock_told w h) o what
 gives-told script limits h w o None good legal = refl
 gives-told script limits h w o (Some What.Timer) good legal =
+    ap (λ (due : Option ℕ). is_due due (clock (reached script h) w)) (due-told script limits o h good legal)
+    ∙ ap (λ now. is_due (due_told o h) now) (clock-told script limits w h good legal)
+gives-told script limits h w o (Some What.Ticker) good legal =
     ap (λ (due : Option ℕ). is_due due (clock (reached script h) w)) (due-told script limits o h good legal)
     ∙ ap (λ now. is_due (due_told o h) now) (clock-told script limits w h good legal)
 gives-told script limits h w o (Some (What.AfterFunc func)) good legal = refl
@@ -227,7 +230,7 @@ at-told : (script : Script) (limits : Limits) (h : List Entry) (g w : ℕ) (o : 
 at-told script limits h g w None good legal = refl
 at-told script limits h g w (Some i) good legal =
     ap (λ (o : Option Reason). is_some o || is_ready_instr script (reached script h) (has_come (reached script h) w) everyone g i) (misuse-told script limits h i good legal)
-    ∙ ap (λ b. is_some (misuse_told h i) || b) (done-told script limits h g w i good legal)
+    ∙ ap (λ b. is_some (misuse_told script h i) || b) (done-told script limits h g w i good legal)
 
 ready-told : (script : Script) (limits : Limits) (h : List Entry) (g : ℕ) (r : Goroutine) (mode : Mode) → IsGood script → AllLegal script limits (first_state script) h
     → is_ready_in script (reached script h) g r mode ≡ goes_on_in script h g (clock_told r.world h) (place_in r.place mode) (wait_in mode)
@@ -331,7 +334,7 @@ waited-told script limits h w t good legal =
     ∙ ap (λ (all : Everyone). list_any (waits_of script w t) all.goroutines) (everyone-told script limits h good legal)
 
 timer-counted : (script : Script) (limits : Limits) (h : List Entry) (w t : ℕ) (o : Option Timer) → IsGood script → AllLegal script limits (first_state script) h
-    → slice_get (reached script h).timers t ≡ Some o → counted_timer script (reached script h) w (t, o) ≡ due_counted script w h (t, owner_in o)
+    → slice_get (reached script h).timers t ≡ Some o → counted_timer script (reached script h) w (t, o) ≡ due_counted script w h (t, timer_in o)
 timer-counted script limits h w t None good legal there = refl
 timer-counted script limits h w t (Some r) good legal there =
     let due : r.due ≡ due_told t h = sym (ap (λ (o : Option (Option Timer)). elim (flatten o) as (λ o. Option ℕ) [ None ↦ None | Some r ↦ r.due ]) there) ∙ due-told script limits t h good legal in
@@ -344,9 +347,9 @@ counted-told script limits h w good legal =
     ap (λ times. times ++ filter_map (counted_timer script (reached script h) w) (enumerate_from 0 (reached script h).timers))
     (given-map (sleep_of w) (sleep_in w) shown (reached script h).goroutines (sleep-told w))
     ∙ (ap (λ times. filter_map (sleep_in w) (map shown (reached script h).goroutines) ++ times)
-    (given-enumerated (counted_timer script (reached script h) w) (due_counted script w h) owner_in 0 (reached script h).timers
-    (λ t o e. subst (λ j. counted_timer script (reached script h) w (j, o) ≡ due_counted script w h (j, owner_in o)) (zero-more t) (timer-counted script limits h w t o good legal e)))
-    ∙ ap (λ (all : Everyone). filter_map (sleep_in w) all.goroutines ++ filter_map (due_counted script w h) (enumerate_from 0 all.owners))
+    (given-enumerated (counted_timer script (reached script h) w) (due_counted script w h) timer_in 0 (reached script h).timers
+    (λ t o e. subst (λ j. counted_timer script (reached script h) w (j, o) ≡ due_counted script w h (j, timer_in o)) (zero-more t) (timer-counted script limits h w t o good legal e)))
+    ∙ ap (λ (all : Everyone). filter_map (sleep_in w) all.goroutines ++ filter_map (due_counted script w h) (enumerate_from 0 all.timers))
     (everyone-told script limits h good legal))
   where
     zero-more : (t : ℕ) → t ≡ 0 + t

@@ -30,8 +30,8 @@ each-in_order = each (λ script limits. InOrder script) (λ script limits front 
 pub each-in_time : (script : Script) (limits : Limits) (h : List Entry) (outcome : Outcome) → IsGood script → History script limits h outcome → AtEach (InTime script) h
 each-in_time = each (λ script limits. InTime script) (λ script limits front e c. (obeys script limits front e c).time)
 
-pub each-fresh : (script : Script) (limits : Limits) (h : List Entry) (outcome : Outcome) → IsGood script → History script limits h outcome → AtEach IsFresh h
-each-fresh = each (λ script limits. IsFresh) (λ script limits front e c. (obeys script limits front e c).fresh)
+pub each-fresh : (script : Script) (limits : Limits) (h : List Entry) (outcome : Outcome) → IsGood script → History script limits h outcome → AtEach (IsFresh script) h
+each-fresh = each (λ script limits. IsFresh script) (λ script limits front e c. (obeys script limits front e c).fresh)
 
 pub each-uses_rightly : (script : Script) (limits : Limits) (h : List Entry) (outcome : Outcome) → IsGood script → History script limits h outcome
     → AtEach (UsesRightly script) h

@@ -31,12 +31,12 @@ fault-case : (n : ℕ) (o : Option Reason) → (elim o as (λ o. Option (ℕ × 
 fault-case n None = refl
 fault-case n (Some reason) = refl
 
-abbrev pub panic_in : List Entry → Option Instr → Option (ℕ × Reason)
-panic_in front None = None
-panic_in front (Some i) = with_case (misused_case front i) (misuse_told front i)
+abbrev pub panic_in : Script → List Entry → Option Instr → Option (ℕ × Reason)
+panic_in script front None = None
+panic_in script front (Some i) = with_case (misused_case front i) (misuse_told script front i)
 
 panic-there : (script : Script) (limits : Limits) (front : List Entry) (o : Option Instr) → IsGood script → AllLegal script limits (first_state script) front
-    → (elim o as (λ x. Option (ℕ × Reason)) [ None ↦ None | Some i ↦ fault_at script (reached script front) i ]) ≡ panic_in front o
+    → (elim o as (λ x. Option (ℕ × Reason)) [ None ↦ None | Some i ↦ fault_at script (reached script front) i ]) ≡ panic_in script front o
 panic-there script limits front None good legal = refl
 panic-there script limits front (Some i) good legal =
     let s : State = reached script front in
@@ -46,10 +46,10 @@ panic-there script limits front (Some i) good legal =
 
 -- the panic of a goroutine where it stands
 pub panic-told : (script : Script) (limits : Limits) (g : ℕ) (front : List Entry) → IsGood script → AllLegal script limits (first_state script) front
-    → panic_at script (reached script front) g ≡ panic_in front (stands_told script g front)
+    → panic_at script (reached script front) g ≡ panic_in script front (stands_told script g front)
 panic-told script limits g front good legal =
     sym (panic_stands script (reached script front) g)
-    ∙ (panic-there script limits front (stands_at script (reached script front) g) good legal ∙ ap (panic_in front) (stands-told script limits g front good legal))
+    ∙ (panic-there script limits front (stands_at script (reached script front) g) good legal ∙ ap (panic_in script front) (stands-told script limits g front good legal))
 
 operation-there : (n : ℕ) (o : Option Instr) → (elim o as (λ o. Option CaseKind) [ None ↦ None | Some i ↦ operation i n ]) ≡ operation_in o n
 operation-there n None = refl
@@ -68,13 +68,13 @@ case-none : (n : ℕ) (o : Option Reason) → with_case n o ≡ None → o ≡ N
 case-none n None h = refl
 case-none n (Some reason) h = cc
 
-pub calm-in : (front : List Entry) (o : Option Instr) → panic_in front o ≡ None → misuse_in front o ≡ None
-calm-in front None h = refl
-calm-in front (Some i) h = case-none (misused_case front i) (misuse_told front i) h
+pub calm-in : (script : Script) (front : List Entry) (o : Option Instr) → panic_in script front o ≡ None → misuse_in script front o ≡ None
+calm-in script front None h = refl
+calm-in script front (Some i) h = case-none (misused_case front i) (misuse_told script front i) h
 
-pub in-calm : (front : List Entry) (o : Option Instr) → misuse_in front o ≡ None → panic_in front o ≡ None
-in-calm front None h = refl
-in-calm front (Some i) h = ap (with_case (misused_case front i)) h
+pub in-calm : (script : Script) (front : List Entry) (o : Option Instr) → misuse_in script front o ≡ None → panic_in script front o ≡ None
+in-calm script front None h = refl
+in-calm script front (Some i) h = ap (with_case (misused_case front i)) h
 
 -- ---- a misuse
 
@@ -92,14 +92,14 @@ told-chooses script limits front (Some (CaseKind.Recv o)) reason good legal h = 
 told-chooses script limits front None reason good legal h = h
 
 -- the rule of a panic, in the words of the entries
-abbrev MayPanicTold : List Entry → Option Instr → ℕ → Reason → Type 0
-MayPanicTold front o n reason = MatchOption (panic_in front o) (ChoosesMisuse front (operation_in o n) reason) (λ x. x ≡ (n, reason))
+abbrev MayPanicTold : Script → List Entry → Option Instr → ℕ → Reason → Type 0
+MayPanicTold script front o n reason = MatchOption (panic_in script front o) (ChoosesMisuse front (operation_in o n) reason) (λ x. x ≡ (n, reason))
 
 -- the instruction at which a goroutine panics
-pub record Misuses (front : List Entry) (o : Option Instr) (n : ℕ) (reason : Reason) : Type 0 where
+pub record Misuses (script : Script) (front : List Entry) (o : Option Instr) (n : ℕ) (reason : Reason) : Type 0 where
   pub instr : Instr
   pub stands : o ≡ Some instr
-  pub is : IsMisuse front instr n reason (misuse_told front instr)
+  pub is : IsMisuse front instr n reason (misuse_told script front instr)
 
 misuse-is : (front : List Entry) (i : Instr) (n : ℕ) (reason : Reason) (o : Option Reason)
     → MatchOption (with_case (misused_case front i) o) (ChoosesMisuse front (operation i n) reason) (λ x. x ≡ (n, reason)) → IsMisuse front i n reason o
@@ -111,19 +111,19 @@ is-misuse : (front : List Entry) (i : Instr) (n : ℕ) (reason : Reason) (o : Op
 is-misuse front i n reason None h = h
 is-misuse front i n reason (Some why) h = ap (λ m. (m, why)) (sym h.1) ∙ ap (λ why. (n, why)) h.0
 
-misuses : (front : List Entry) (o : Option Instr) (n : ℕ) (reason : Reason) → MayPanicTold front o n reason → Misuses front o n reason
-misuses front None n reason h = absurd h
-misuses front (Some i) n reason h = record { instr = i; stands = refl; is = misuse-is front i n reason (misuse_told front i) h }
+misuses : (script : Script) (front : List Entry) (o : Option Instr) (n : ℕ) (reason : Reason) → MayPanicTold script front o n reason → Misuses script front o n reason
+misuses script front None n reason h = absurd h
+misuses script front (Some i) n reason h = record { instr = i; stands = refl; is = misuse-is front i n reason (misuse_told script front i) h }
 
 either : {P Q : Type 0} (R : ℕ × Reason → Type 0) (o : Option (ℕ × Reason)) → (P → Q) → MatchOption o P R → MatchOption o Q R
 either R None on h = on h
 either R (Some x) on h = h
 
 pub may-told : (script : Script) (limits : Limits) (p : Party) (reason : Reason) (front : List Entry) → IsGood script → AllLegal script limits (first_state script) front
-    → MayPanic script (reached script front) p reason → Misuses front (stands_told script p.g front) p.case_no reason
+    → MayPanic script (reached script front) p reason → Misuses script front (stands_told script p.g front) p.case_no reason
 may-told script limits p reason front good legal may =
     let s : State = reached script front in
-    misuses front (stands_told script p.g front) p.case_no reason
+    misuses script front (stands_told script p.g front) p.case_no reason
     (subst (λ (o : Option (ℕ × Reason)). MatchOption o (ChoosesMisuse front (operation_told script p front) reason) (λ x. x ≡ (p.case_no, reason)))
     (panic-told script limits p.g front good legal)
     (subst (λ (k : Option CaseKind). MatchOption (panic_at script s p.g) (ChoosesMisuse front k reason) (λ x. x ≡ (p.case_no, reason)))
@@ -131,11 +131,11 @@ may-told script limits p reason front good legal may =
     (either (λ x. x ≡ (p.case_no, reason)) (panic_at script s p.g) (λ h. chooses-told script limits front (operation_at script s p) reason good legal h) may)))
 
 pub told-may : (script : Script) (limits : Limits) (p : Party) (reason : Reason) (front : List Entry) → IsGood script → AllLegal script limits (first_state script) front
-    → Misuses front (stands_told script p.g front) p.case_no reason → MayPanic script (reached script front) p reason
+    → Misuses script front (stands_told script p.g front) p.case_no reason → MayPanic script (reached script front) p reason
 told-may script limits p reason front good legal m =
     let s : State = reached script front in
-    let there : MayPanicTold front (stands_told script p.g front) p.case_no reason =
-    subst (λ (o : Option Instr). MayPanicTold front o p.case_no reason) (sym m.stands) (is-misuse front m.instr p.case_no reason (misuse_told front m.instr) m.is) in
+    let there : MayPanicTold script front (stands_told script p.g front) p.case_no reason =
+    subst (λ (o : Option Instr). MayPanicTold script front o p.case_no reason) (sym m.stands) (is-misuse front m.instr p.case_no reason (misuse_told script front m.instr) m.is) in
     either (λ x. x ≡ (p.case_no, reason)) (panic_at script s p.g) (λ h. told-chooses script limits front (operation_at script s p) reason good legal h)
     (subst (λ (k : Option CaseKind). MatchOption (panic_at script s p.g) (ChoosesMisuse front k reason) (λ x. x ≡ (p.case_no, reason)))
     (sym (operation-told script limits p front good legal))

@@ -1,5 +1,5 @@
 -- At each entry but a finish the laws ask what the machine's rules ask, no more and no less: of what is shown of the laws here alone each kind of entry has a clause.
-use Rattle.std.proofs.Common.{◌≡◌, ℕ, zero, suc, ◌+◌, ◌<◌, ◌≤◌, List, [], ◌∷◌, ◌&&◌, length, slice_get, refl, sym, ap, subst, ◌∙◌, arith, Option, None, Some, Bool, true, false, not, is_some, IsSome, IsSomeAnd, IsTrue}
+use Rattle.std.proofs.Common.{◌≡◌, ℕ, zero, suc, ◌+◌, ◌<◌, ◌≤◌, List, [], ◌∷◌, ◌&&◌, length, slice_get, refl, sym, ap, subst, ◌∙◌, arith, cond, Option, None, Some, Bool, true, false, not, is_some, IsSome, IsSomeAnd, IsTrue}
 use Rattle.std.proofs.lemmas.Bool.{leb-true, le-leb, or_parts, or_from}
 use Rattle.std.specs.List.{All, list_any}
 use Rattle.std.proofs.lemmas.List.{drop_all}
@@ -13,8 +13,8 @@ use Rattle.gt_model.specs.declared.entry.Party.{Party}
 use Rattle.gt_model.specs.declared.entry.Reason.{Reason}
 use Rattle.gt_model.specs.declared.state.Timer.{Timer}
 use Rattle.gt_model.specs.Good.{IsGood}
-use Rattle.gt_model.specs.Script.{capacity_of}
-use Rattle.gt_rules.specs.State.{State, Channel, clock, clock_of, world_of, stands_at, sleeps_until, timer_at, due_of, next_number, channel_at, items_of, item_count, is_closed, is_open}
+use Rattle.gt_model.specs.Script.{is_ticker, capacity_of}
+use Rattle.gt_rules.specs.State.{State, Channel, clock, clock_of, world_of, stands_at, sleeps_until, timer_at, due_of, period_at, next_number, channel_at, items_of, item_count, is_closed, is_open}
 use Rattle.gt_rules.specs.Operations.{polls}
 use Rattle.gt_rules.specs.Panics.{panic_at, when, or_else}
 use Rattle.gt_rules.specs.Ready.{is_due, is_ready_alone}
@@ -22,15 +22,15 @@ use Rattle.gt_rules.specs.Ready as ready
 use Rattle.gt_rules.specs.declared.change.Setting.{Setting}
 use Rattle.gt_rules.specs.declared.change.Trade.{Trade}
 use Rattle.gt_rules.specs.After.{first_state, timer_world}
-use Rattle.gt_rules.specs.Legal.{May, Does, Defaults, Operates, is_polling, due_at, sleep_end, was_set}
+use Rattle.gt_rules.specs.Legal.{May, Does, Defaults, Operates, is_polling, due_at, sleep_end, was_set, LeavesBy}
 use Rattle.gt_rules.specs.History.{AllLegal}
 use Rattle.gt_facts.proofs.Makers.{Sets, sets, was_made, Trades, trades-May, IsOpened, is_open-IsOpened}
-use Rattle.gt_laws.specs.Told.{clock_told, due_told, made_told, opened_told, closed_told, sent_told, taken_told, now_told, owner_told, started_told, stands_told, operation_told, polls_in, polls_told, until_told}
+use Rattle.gt_laws.specs.Told.{clock_told, due_told, made_told, opened_told, closed_told, sent_told, taken_told, now_told, owner_told, period_told, started_told, stands_told, operation_told, polls_in, polls_told, until_told}
 use Rattle.gt_laws.specs.GoesOn.{alone_told, misuse_in, misuse_told}
-use Rattle.gt_laws.specs.Laws.{InOrder, InTime, IsFresh, PassesOn, UsesRightly, ChoosesRightly, IsNoMisuse, gives_some}
+use Rattle.gt_laws.specs.Laws.{InOrder, InTime, IsFresh, PassesOn, UsesRightly, ChoosesRightly, IsNoMisuse, answer_told, gives_some}
 use Rattle.gt_laws.proofs.Shown.{clock-told, due-told, made-told, started-told}
 use Rattle.gt_laws.proofs.Channels.{closed_in, opened-told, closed-told, kept-told, count-told, drop-first}
-use Rattle.gt_laws.proofs.Everyone.{now-told, owner-told, stands-told, until-told, world-told}
+use Rattle.gt_laws.proofs.Everyone.{now-told, owner-told, period-told, stands-told, until-told, world-told}
 use Rattle.gt_laws.proofs.GoesOn.{reached, alone-told}
 use Rattle.gt_laws.proofs.Panics.{panic-told, operation-told, calm-in, in-calm, Misuses, may-told, told-may}
 
@@ -43,7 +43,7 @@ pub record Behind (script : Script) (limits : Limits) (front : List Entry) : Typ
 pub record Obeys (script : Script) (front : List Entry) (e : Entry) : Type 0 where
   pub order : InOrder script front e
   pub time : InTime script front e
-  pub fresh : IsFresh front e
+  pub fresh : IsFresh script front e
   pub uses : UsesRightly script front e
   pub passes : PassesOn script front e
   pub chooses : ChoosesRightly script front e
@@ -65,8 +65,23 @@ now {script} {limits} {front} b g = now-told script limits g front b.good b.befo
 next : {script : Script} {limits : Limits} {front : List Entry} (b : Behind script limits front) → next_number (reached script front) ≡ started_told front + 1
 next {script} {limits} {front} b = ap (λ n. n + 1) (started-told script limits front b.good b.before)
 
-was : {script : Script} {limits : Limits} {front : List Entry} (b : Behind script limits front) (t : ℕ) → was_set script (reached script front) t ≡ Some (is_some (due_told t front))
-was {script} {limits} {front} b t = ap (λ (o : Option ℕ). Some (is_some o)) (due-told script limits t front b.good b.before)
+was : {script : Script} {limits : Limits} {front : List Entry} (b : Behind script limits front) (t : ℕ) → was_set script (reached script front) t ≡ answer_told script t front
+was {script} {limits} {front} b t = ap (λ (o : Option ℕ). cond (is_ticker script t) None (Some (is_some o))) (due-told script limits t front b.good b.before)
+
+-- the next tick of a ticker
+leaves : {script : Script} {limits : Limits} {front : List Entry} (b : Behind script limits front) (g t due : ℕ) (later : Option ℕ)
+    → LeavesBy (is_ticker script t) (clock_of (reached script front) g) due (period_at (reached script front) t) later
+    → LeavesBy (is_ticker script t) (now_told script g front) due (period_told script t front) later
+leaves {script} {limits} {front} b g t due later h =
+    subst (λ period. LeavesBy (is_ticker script t) (now_told script g front) due period later) (period-told script limits t front b.good b.before)
+    (subst (λ time. LeavesBy (is_ticker script t) time due (period_at (reached script front) t) later) (now b g) h)
+
+told-leaves : {script : Script} {limits : Limits} {front : List Entry} (b : Behind script limits front) (g t due : ℕ) (later : Option ℕ)
+    → LeavesBy (is_ticker script t) (now_told script g front) due (period_told script t front) later
+    → LeavesBy (is_ticker script t) (clock_of (reached script front) g) due (period_at (reached script front) t) later
+told-leaves {script} {limits} {front} b g t due later h =
+    subst (λ period. LeavesBy (is_ticker script t) (clock_of (reached script front) g) due period later) (sym (period-told script limits t front b.good b.before))
+    (subst (λ time. LeavesBy (is_ticker script t) time due (period_told script t front) later) (sym (now b g)) h)
 
 made : {script : Script} {limits : Limits} {front : List Entry} (b : Behind script limits front) (t : ℕ) (x : Setting) → Sets script (reached script front) t x
     → made_told t front ≡ was_made x
@@ -76,19 +91,21 @@ made {script} {limits} {front} b t x h = sym (made-told script limits t front b.
 
 calm-told : {script : Script} {limits : Limits} {front : List Entry} (b : Behind script limits front) (g : ℕ) → panic_at script (reached script front) g ≡ None
     → IsNoMisuse script front g
-calm-told {script} {limits} {front} b g calm = calm-in front (stands_told script g front) (sym (panic-told script limits g front b.good b.before) ∙ calm)
+calm-told {script} {limits} {front} b g calm = calm-in script front (stands_told script g front) (sym (panic-told script limits g front b.good b.before) ∙ calm)
 
 told-calm : {script : Script} {limits : Limits} {front : List Entry} (b : Behind script limits front) (g : ℕ) → IsNoMisuse script front g
     → panic_at script (reached script front) g ≡ None
-told-calm {script} {limits} {front} b g none = panic-told script limits g front b.good b.before ∙ in-calm front (stands_told script g front) none
+told-calm {script} {limits} {front} b g none = panic-told script limits g front b.good b.before ∙ in-calm script front (stands_told script g front) none
 
 does : {script : Script} {limits : Limits} {front : List Entry} (b : Behind script limits front) (g : ℕ) (i : Instr) → stands_told script g front ≡ Some i
-    → misuse_told front i ≡ None → Does script (reached script front) g i
+    → misuse_told script front i ≡ None → Does script (reached script front) g i
 does {script} {limits} {front} b g i h none =
-    record { stands = stands-told script limits g front b.good b.before ∙ h; calm = told-calm b g (ap (misuse_in front) h ∙ none) }
+    record { stands = stands-told script limits g front b.good b.before ∙ h; calm = told-calm b g (ap (misuse_in script front) h ∙ none) }
 
-made-once : (front : List Entry) (t : ℕ) → made_told t front ≡ false → when (made_told t front) Reason.Twice ≡ None
-made-once front t h = ap (λ b. when b Reason.Twice) h
+-- who stands at an instruction makes no misuse
+no-misuse : {script : Script} {limits : Limits} {front : List Entry} (b : Behind script limits front) (g : ℕ) (i : Instr) → stands_told script g front ≡ Some i
+    → IsNoMisuse script front g → misuse_told script front i ≡ None
+no-misuse {script} {limits} {front} b g i h none = sym (ap (misuse_in script front) h) ∙ none
 
 used-made : (front : List Entry) (t : ℕ) → made_told t front ≡ true → when (not (made_told t front)) Reason.Unmade ≡ None
 used-made front t h = ap (λ b. when (not b) Reason.Unmade) h
@@ -345,11 +362,11 @@ row {script} {limits} {front} b (Entry.New g t due) = (
     order = (may.0, told b g (Instr.New t may.0) may.1.stands, may.2 ∙ ap (λ time. due_at time may.0) (now b g));
     time = tt;
     fresh = tt;
-    uses = made b t (Setting.Made due) (sets script (reached script front) (Entry.New g t due) b.good may);
+    uses = (made b t (Setting.Made due) (sets script (reached script front) (Entry.New g t due) b.good may), calm-told b g may.1.calm);
     passes = tt;
     chooses = tt;
   },
-  λ o. (o.order.0, does b g (Instr.New t o.order.0) o.order.1 (made-once front t o.uses), o.order.2 ∙ ap (λ time. due_at time o.order.0) (sym (now b g))),
+  λ o. (o.order.0, does b g (Instr.New t o.order.0) o.order.1 (no-misuse b g _ o.order.1 o.uses.1), o.order.2 ∙ ap (λ time. due_at time o.order.0) (sym (now b g))),
 )
 row {script} {limits} {front} b (Entry.Stop g t answer) = (
   λ may. record {
@@ -367,13 +384,13 @@ row {script} {limits} {front} b (Entry.Reset g t answer due) = (
     order = (may.0, told b g (Instr.Reset t may.0) may.1.stands, may.3 ∙ ap (λ time. due_at time may.0) (now b g));
     time = tt;
     fresh = may.2 ∙ was b t;
-    uses = made b t (Setting.SetAnew due) (sets script (reached script front) (Entry.Reset g t answer due) b.good may);
+    uses = (made b t (Setting.SetAnew due) (sets script (reached script front) (Entry.Reset g t answer due) b.good may), calm-told b g may.1.calm);
     passes = tt;
     chooses = tt;
   },
   λ o. (
     o.order.0,
-    does b g (Instr.Reset t o.order.0) o.order.1 (used-made front t o.uses),
+    does b g (Instr.Reset t o.order.0) o.order.1 (no-misuse b g _ o.order.1 o.uses.1),
     o.fresh ∙ sym (was b t),
     o.order.2 ∙ ap (λ time. due_at time o.order.0) (sym (now b g)),
   ),
@@ -382,7 +399,7 @@ row {script} {limits} {front} b (Entry.TRecv p t due later) = (
   λ may. record {
     order = (operates-told b p (CaseKind.Recv t) may.0, may.1);
     time = subst (λ time. due ≤ time) (now b p.g) may.3;
-    fresh = (sym (due-told script limits t front b.good b.before) ∙ may.2, may.4);
+    fresh = (sym (due-told script limits t front b.good b.before) ∙ may.2, leaves b p.g t due later may.4);
     uses = (made b t (Setting.Ended later) (sets script (reached script front) (Entry.TRecv p t due later) b.good may), calm-told b p.g may.0.calm);
     passes = tt;
     chooses = tt;
@@ -392,7 +409,7 @@ row {script} {limits} {front} b (Entry.TRecv p t due later) = (
     o.order.1,
     due-told script limits t front b.good b.before ∙ o.fresh.0,
     subst (λ time. due ≤ time) (sym (now b p.g)) o.time,
-    o.fresh.1,
+    told-leaves b p.g t due later o.fresh.1,
   ),
 )
 row {script} {limits} {front} b (Entry.FireFunc t child) = (
@@ -503,7 +520,7 @@ row {script} {limits} {front} b (Entry.Clock zero to) = (
 row b (Entry.Clock (suc world) to) = (λ may. absurd may, λ o. o.time)
 row {script} {limits} {front} b (Entry.Panic p reason) = (
   λ may.
-      let at : Misuses front (stands_told script p.g front) p.case_no reason = may-told script limits p reason front b.good b.before may in
+      let at : Misuses script front (stands_told script p.g front) p.case_no reason = may-told script limits p reason front b.good b.before may in
       record { order = ap (λ (o : Option Instr). is_some o) at.stands; time = tt; fresh = tt; uses = (at.instr, at.stands, at.is); passes = tt; chooses = tt },
   λ o. told-may script limits p reason front b.good b.before (record { instr = o.uses.0; stands = o.uses.1; is = o.uses.2 }),
 )

@@ -149,6 +149,46 @@ past_all_time = Entry.Clock 0 9223372036854775808 ∷ []
 abbrev pub wrong_time : List Entry
 wrong_time = Entry.Clock 0 5 ∷ Entry.Now 1 6 ∷ []
 
+-- timer t / func main / end: the law of values looks at what is declared, and not at the code
+abbrev pub one_timer : Script
+one_timer = record {
+  decls = (record { name = codes "t"; what = What.Timer }) ∷ (record { name = codes "main"; what = What.Function }) ∷ [];
+  funcs = (record { decl = 1; code = Instr.Finish ∷ [] }) ∷ [];
+  main = 0;
+}
+
+-- ticker k / func main / new k 10ns / sleep 35ns / recv k / end, and a tick that is no whole number of periods later, or is two periods ahead of the clock
+abbrev pub one_ticker : Script
+one_ticker = record {
+  decls = (record { name = codes "k"; what = What.Ticker }) ∷ (record { name = codes "main"; what = What.Function }) ∷ [];
+  funcs = (record { decl = 1; code = Instr.New 0 10 ∷ Instr.Sleep 35 ∷ Instr.Recv 0 ∷ Instr.Finish ∷ [] }) ∷ [];
+  main = 0;
+}
+
+abbrev pub slept_over : List Entry
+slept_over = Entry.New 1 0 10 ∷ Entry.Sleep 1 (Some 35) ∷ Entry.Clock 0 35 ∷ Entry.Wake 1 ∷ []
+
+abbrev pub off_tick : List Entry
+off_tick = slept_over ++ Entry.TRecv (record { g = 1; case_no = 0 }) 0 10 (Some 45) ∷ []
+
+abbrev pub far_tick : List Entry
+far_tick = slept_over ++ Entry.TRecv (record { g = 1; case_no = 0 }) 0 10 (Some 50) ∷ []
+
+-- a stop of a ticker that answers that it was set
+abbrev pub ticker_answers : List Entry
+ticker_answers = Entry.New 1 0 10 ∷ Entry.Stop 1 0 (Some true) ∷ []
+
+-- ticker k / func main / new k 0 / end, and no panic
+abbrev pub no_period : Script
+no_period = record {
+  decls = (record { name = codes "k"; what = What.Ticker }) ∷ (record { name = codes "main"; what = What.Function }) ∷ [];
+  funcs = (record { decl = 1; code = Instr.New 0 0 ∷ Instr.Finish ∷ [] }) ∷ [];
+  main = 0;
+}
+
+abbrev pub without_a_period : List Entry
+without_a_period = Entry.New 1 0 0 ∷ []
+
 -- a stop that answers that a timer which is set is not; an AfterFunc timer that fires after it was stopped
 abbrev pub denied : List Entry
 denied = Entry.New 1 0 1 ∷ Entry.Sleep 1 (Some 5) ∷ Entry.Clock 0 5 ∷ Entry.Wake 1 ∷ Entry.Stop 1 0 (Some false) ∷ []

@@ -14,9 +14,9 @@ use Rattle.gt_model.specs.Script.{is_func, is_chan, instr_at, what_at, capacity_
 use Rattle.gt_model.specs.declared.script.Case.{Case}
 use Rattle.gt_model.specs.declared.script.CaseKind.{CaseKind}
 use Rattle.gt_rules.specs.Operations.{offers, polls, receives_from, sends_to}
-use Rattle.gt_rules.specs.Panics.{when, or_else}
+use Rattle.gt_rules.specs.Panics.{when, or_else, zero_ticker}
 use Rattle.gt_rules.specs.Ready.{is_due}
-use Rattle.gt_laws.specs.Told.{ToldGoroutine, Wait, awake, asleep, clock_told, due_told, made_told, opened_told, closed_told, sent_told, taken_told, everyone_told, now_told, place_told, wait_told, owner_told, until_in, stands_in}
+use Rattle.gt_laws.specs.Told.{ToldGoroutine, ToldTimer, Wait, awake, asleep, clock_told, due_told, made_told, opened_told, closed_told, sent_told, taken_told, everyone_told, now_told, place_told, wait_told, owner_told, until_in, stands_in}
 
 -- the misuse of a case's object, which was not made. That a channel is closed is none before its send is chosen
 abbrev pub case_misuse : List Entry → CaseKind → Option Reason
@@ -32,30 +32,30 @@ abbrev pub misused_from : List Entry → ℕ → List Case → ℕ
 misused_from front n [] = n
 misused_from front n (c ∷ cases) = cond (is_some (case_misuse front c.kind)) n (misused_from front (n + 1) cases)
 
--- the misuse of an instruction here: a timer or a channel is made once, and used where it was made; nothing is sent to a channel that was closed, and
--- it is closed once
-abbrev pub misuse_told : List Entry → Instr → Option Reason
-misuse_told front (Instr.Say n) = None
-misuse_told front Instr.Now = None
-misuse_told front (Instr.Sleep d) = None
-misuse_told front (Instr.Go f) = None
-misuse_told front (Instr.New t d) = when (made_told t front) Reason.Twice
-misuse_told front (Instr.Stop t) = when (not (made_told t front)) Reason.Unmade
-misuse_told front (Instr.Reset t d) = when (not (made_told t front)) Reason.Unmade
-misuse_told front (Instr.Recv o) = when (not (made_told o front || opened_told o front)) Reason.Unmade
-misuse_told front (Instr.Make c) = when (opened_told c front) Reason.Twice
-misuse_told front (Instr.Send c v) = or_else (when (not (opened_told c front)) Reason.Unmade) (when (closed_told c front) Reason.Closed)
-misuse_told front (Instr.Close c) = or_else (when (not (opened_told c front)) Reason.Unmade) (when (closed_told c front) Reason.Closed)
-misuse_told front (Instr.Select cases default_to) = choice_misuse front cases
-misuse_told front (Instr.LoopTop depth count past) = None
-misuse_told front (Instr.LoopEnd depth top) = None
-misuse_told front (Instr.Jump to) = None
-misuse_told front Instr.Finish = None
+-- the misuse of an instruction here: a timer or a channel is made once, and used where it was made; a ticker has a time between its ticks; nothing is sent to
+-- a channel that was closed, and it is closed once
+abbrev pub misuse_told : Script → List Entry → Instr → Option Reason
+misuse_told script front (Instr.Say n) = None
+misuse_told script front Instr.Now = None
+misuse_told script front (Instr.Sleep d) = None
+misuse_told script front (Instr.Go f) = None
+misuse_told script front (Instr.New t d) = or_else (when (made_told t front) Reason.Twice) (zero_ticker script t d)
+misuse_told script front (Instr.Stop t) = when (not (made_told t front)) Reason.Unmade
+misuse_told script front (Instr.Reset t d) = or_else (when (not (made_told t front)) Reason.Unmade) (zero_ticker script t d)
+misuse_told script front (Instr.Recv o) = when (not (made_told o front || opened_told o front)) Reason.Unmade
+misuse_told script front (Instr.Make c) = when (opened_told c front) Reason.Twice
+misuse_told script front (Instr.Send c v) = or_else (when (not (opened_told c front)) Reason.Unmade) (when (closed_told c front) Reason.Closed)
+misuse_told script front (Instr.Close c) = or_else (when (not (opened_told c front)) Reason.Unmade) (when (closed_told c front) Reason.Closed)
+misuse_told script front (Instr.Select cases default_to) = choice_misuse front cases
+misuse_told script front (Instr.LoopTop depth count past) = None
+misuse_told script front (Instr.LoopEnd depth top) = None
+misuse_told script front (Instr.Jump to) = None
+misuse_told script front Instr.Finish = None
 
 -- that of who stands there, where somebody does
-abbrev pub misuse_in : List Entry → Option Instr → Option Reason
-misuse_in front None = None
-misuse_in front (Some i) = misuse_told front i
+abbrev pub misuse_in : Script → List Entry → Option Instr → Option Reason
+misuse_in script front None = None
+misuse_in script front (Some i) = misuse_told script front i
 
 -- the case number of a misuse: 0 but at a choice
 abbrev pub misused_case : List Entry → Instr → ℕ
@@ -72,13 +72,13 @@ abbrev pub sends_for : ℕ → Instr → Bool
 sends_for k i = offers (sends_to k) i
 
 -- whether an instruction passes a test, would wait, and is no misuse
-abbrev pub meets_at : List Entry → (Instr → Bool) → Option Instr → Bool
-meets_at front test None = false
-meets_at front test (Some i) = is_none (misuse_told front i) && not (polls i) && test i
+abbrev pub meets_at : Script → List Entry → (Instr → Bool) → Option Instr → Bool
+meets_at script front test None = false
+meets_at script front test (Some i) = is_none (misuse_told script front i) && not (polls i) && test i
 
 -- whether goroutine e.0, which is e.1, is another one than g, and stands at such an instruction
 abbrev pub is_partner_told : Script → List Entry → ℕ → (Instr → Bool) → ℕ × ToldGoroutine → Bool
-is_partner_told script front g test e = not (e.0 == g) && meets_at front test (stands_in script e.1.place e.1.wait)
+is_partner_told script front g test e = not (e.0 == g) && meets_at script front test (stands_in script e.1.place e.1.wait)
 
 abbrev pub partner_told : Script → List Entry → ℕ → (Instr → Bool) → Bool
 partner_told script front g test = list_any (is_partner_told script front g test) (enumerate_from 1 (everyone_told script front).goroutines)
@@ -89,6 +89,7 @@ partner_told script front g test = list_any (is_partner_told script front g test
 abbrev pub gives_told : List Entry → ℕ → ℕ → Option What → Bool
 gives_told front now o None = false
 gives_told front now o (Some What.Timer) = is_due (due_told o front) now
+gives_told front now o (Some What.Ticker) = is_due (due_told o front) now
 gives_told front now o (Some (What.AfterFunc func)) = false
 gives_told front now o (Some (What.Chan cap)) = nat_lt (taken_told o front) (length (sent_told o front)) || closed_told o front
 gives_told front now o (Some What.Function) = false
@@ -126,7 +127,7 @@ can_be_done script front g now Instr.Finish = true
 
 abbrev pub goes_on_at : Script → List Entry → ℕ → ℕ → Option Instr → Bool
 goes_on_at script front g now None = false
-goes_on_at script front g now (Some i) = is_some (misuse_told front i) || can_be_done script front g now i
+goes_on_at script front g now (Some i) = is_some (misuse_told script front i) || can_be_done script front g now i
 
 -- who sleeps goes on where its time has come, and who is awake where it stands at a misuse or at what can be done
 abbrev pub goes_on_in : Script → List Entry → ℕ → ℕ → Option Place → Wait → Bool
@@ -156,17 +157,17 @@ abbrev pub sleep_in : ℕ → ToldGoroutine → Option ℕ
 sleep_in w r = if r.world == w then until_in r.wait else None
 
 -- the due time of a timer of world w counts where that is an AfterFunc timer, or somebody there waits for it
-abbrev pub due_counted : Script → ℕ → List Entry → ℕ × Option ℕ → Option ℕ
+abbrev pub due_counted : Script → ℕ → List Entry → ℕ × Option ToldTimer → Option ℕ
 due_counted script w front e = elim e.1 [
   | None ↦ None
-  | Some owner ↦ cond (owner == w && (is_func script e.0 || waited_told script w e.0 front)) (due_told e.0 front) None
+  | Some r ↦ cond (r.owner == w && (is_func script e.0 || waited_told script w e.0 front)) (due_told e.0 front) None
 ]
 
 -- the counted times of world w: the ends of its sleeps, and the due times of its timers that count
 abbrev pub counted_told : Script → ℕ → List Entry → List ℕ
 counted_told script w front =
     filter_map (sleep_in w) (everyone_told script front).goroutines
-    ++ filter_map (due_counted script w front) (enumerate_from 0 (everyone_told script front).owners)
+    ++ filter_map (due_counted script w front) (enumerate_from 0 (everyone_told script front).timers)
 
 -- nothing can go on: the program stands still, and no time is still to come
 pub record IsStuckTold (script : Script) (front : List Entry) : Type 0 where

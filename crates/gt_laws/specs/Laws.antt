@@ -1,14 +1,16 @@
--- What each complete history keeps, read from its entries and its script alone. Each law says of each kind of entry what it asks: Unit {0} where nothing.
-use Rattle.std.specs.Prelude.{ℕ, zero, suc, ◌+◌, ◌≡◌, ◌≢◌, ◌<◌, ◌≤◌, List, ◌∷◌, ◌++◌, length, slice_get, Bool, true, false, ◌&&◌, is_some, IsTrue, IsSome, IsSomeAnd}
+-- What each complete history keeps, read from its entries and its script alone. Each law says of each kind of entry, or of call, what it asks: Unit {0}
+-- where nothing.
+use Rattle.std.specs.Prelude.{ℕ, zero, suc, ◌+◌, ◌≡◌, ◌≢◌, ◌<◌, ◌≤◌, List, ◌∷◌, ◌++◌, length, slice_get, Bool, true, false, ◌&&◌, cond, is_some, IsTrue, IsSome, IsSomeAnd}
 use Rattle.std.specs.declared.option.Option.{Option}
 use Rattle.std.specs.declared.option.Option.TheVariants.{None, Some}
 use Rattle.gt_model.specs.declared.script.Script.{Script}
 use Rattle.gt_model.specs.declared.script.Instr.{Instr}
 use Rattle.gt_model.specs.declared.entry.Entry.{Entry}
-use Rattle.gt_model.specs.Script.{is_timer, is_func, is_chan, capacity_of}
+use Rattle.gt_model.specs.declared.entry.Party.{Party}
+use Rattle.gt_model.specs.Script.{is_timer, is_ticker, is_func, is_chan, capacity_of}
 use Rattle.gt_model.specs.Times.{greatest_time}
-use Rattle.gt_rules.specs.Legal.{due_at, sleep_end}
-use Rattle.gt_laws.specs.Told.{clock_told, due_told, made_told, opened_told, closed_told, sent_told, taken_told, now_told, owner_told, stands_told, operation_told, polls_told, started_told, until_told}
+use Rattle.gt_rules.specs.Legal.{due_at, sleep_end, LeavesBy}
+use Rattle.gt_laws.specs.Told.{clock_told, due_told, made_told, opened_told, closed_told, sent_told, taken_told, now_told, owner_told, period_told, stands_told, operation_told, polls_told, started_told, until_told}
 use Rattle.gt_model.specs.declared.entry.Reason.{Reason}
 use Rattle.gt_model.specs.declared.script.CaseKind.{CaseKind}
 use Rattle.gt_rules.specs.Operations.{operation, offers}
@@ -43,29 +45,35 @@ InTime script front (Entry.Clock (suc world) to) = ⊥
 InTime script front (Entry.Panic p reason) = Unit {0}
 InTime script front (Entry.Finish outcome) = Unit {0}
 
+-- what stops and resets answer: whether there is a setting that nothing ended; nothing of a ticker
+abbrev pub answer_told : Script → ℕ → List Entry → Option Bool
+answer_told script t front = cond (is_ticker script t) None (Some (is_some (due_told t front)))
+
 -- No value of a setting that was ended: what is received is the value of the last setting, which no stop, no reset and no receive ended, and
--- this receive ends it. And stops and resets answer whether there is such a setting
-abbrev pub IsFresh : List Entry → Entry → Type 0
-IsFresh front (Entry.Say g n) = Unit {0}
-IsFresh front (Entry.Now g at) = Unit {0}
-IsFresh front (Entry.Go g child f) = Unit {0}
-IsFresh front (Entry.End g) = Unit {0}
-IsFresh front (Entry.Sleep g until) = Unit {0}
-IsFresh front (Entry.Wake g) = Unit {0}
-IsFresh front (Entry.New g t due) = Unit {0}
-IsFresh front (Entry.Stop g t was) = was ≡ Some (is_some (due_told t front))
-IsFresh front (Entry.Reset g t was due) = was ≡ Some (is_some (due_told t front))
-IsFresh front (Entry.TRecv p t due next) = (due_told t front ≡ Some due) × (next ≡ None)
-IsFresh front (Entry.FireFunc t child) = IsSome (due_told t front)
-IsFresh front (Entry.Make g c) = Unit {0}
-IsFresh front (Entry.Send p c v) = Unit {0}
-IsFresh front (Entry.Recv p c v) = Unit {0}
-IsFresh front (Entry.Pair from to c v) = Unit {0}
-IsFresh front (Entry.Close g c) = Unit {0}
-IsFresh front (Entry.Default g) = Unit {0}
-IsFresh front (Entry.Clock world to) = Unit {0}
-IsFresh front (Entry.Panic p reason) = Unit {0}
-IsFresh front (Entry.Finish outcome) = Unit {0}
+-- this receive ends it. Of a ticker it is the tick that is due, and the receive leaves the next one: some periods behind it, the last but one of which has
+-- begun. And stops and resets answer rightly
+abbrev pub IsFresh : Script → List Entry → Entry → Type 0
+IsFresh script front (Entry.Say g n) = Unit {0}
+IsFresh script front (Entry.Now g at) = Unit {0}
+IsFresh script front (Entry.Go g child f) = Unit {0}
+IsFresh script front (Entry.End g) = Unit {0}
+IsFresh script front (Entry.Sleep g until) = Unit {0}
+IsFresh script front (Entry.Wake g) = Unit {0}
+IsFresh script front (Entry.New g t due) = Unit {0}
+IsFresh script front (Entry.Stop g t was) = was ≡ answer_told script t front
+IsFresh script front (Entry.Reset g t was due) = was ≡ answer_told script t front
+IsFresh script front (Entry.TRecv p t due next) =
+    (due_told t front ≡ Some due) × LeavesBy (is_ticker script t) (now_told script p.g front) due (period_told script t front) next
+IsFresh script front (Entry.FireFunc t child) = IsSome (due_told t front)
+IsFresh script front (Entry.Make g c) = Unit {0}
+IsFresh script front (Entry.Send p c v) = Unit {0}
+IsFresh script front (Entry.Recv p c v) = Unit {0}
+IsFresh script front (Entry.Pair from to c v) = Unit {0}
+IsFresh script front (Entry.Close g c) = Unit {0}
+IsFresh script front (Entry.Default g) = Unit {0}
+IsFresh script front (Entry.Clock world to) = Unit {0}
+IsFresh script front (Entry.Panic p reason) = Unit {0}
+IsFresh script front (Entry.Finish outcome) = Unit {0}
 
 -- Each goroutine's calls, once and in order: an entry is the call of the instruction to which the goroutine's earlier entries have led it, made by one
 -- that is awake, and who wakes was asleep. Only AfterFunc timers fire. Who is started has the next number, so no number is given twice. A sleep ends,
@@ -108,11 +116,11 @@ IsMisuse front i case_no reason None = ChoosesMisuse front (operation i case_no)
 
 -- goroutine g stands at no misuse: at a choice no case has one
 abbrev pub IsNoMisuse : Script → List Entry → ℕ → Type 0
-IsNoMisuse script front g = misuse_in front (stands_told script g front) ≡ None
+IsNoMisuse script front g = misuse_in script front (stands_told script g front) ≡ None
 
 -- A call is no misuse, and a panic is one: its goroutine stands at an instruction that is a misuse for this reason, or chooses a case that sends to a
--- closed channel. So a timer and a channel are made once, and used where they were made; a channel is closed once, and nothing is sent to it then. Where a
--- choice goes on, each of its cases names what was made
+-- closed channel. So a timer and a channel are made once, and used where they were made; a ticker has a time between its ticks; a channel is closed once, and
+-- nothing is sent to it then. Where a choice goes on, each of its cases names what was made
 abbrev pub UsesRightly : Script → List Entry → Entry → Type 0
 UsesRightly script front (Entry.Say g n) = Unit {0}
 UsesRightly script front (Entry.Now g at) = Unit {0}
@@ -120,9 +128,9 @@ UsesRightly script front (Entry.Go g child f) = Unit {0}
 UsesRightly script front (Entry.End g) = Unit {0}
 UsesRightly script front (Entry.Sleep g until) = Unit {0}
 UsesRightly script front (Entry.Wake g) = Unit {0}
-UsesRightly script front (Entry.New g t due) = made_told t front ≡ false
+UsesRightly script front (Entry.New g t due) = (made_told t front ≡ false) × IsNoMisuse script front g
 UsesRightly script front (Entry.Stop g t was) = made_told t front ≡ true
-UsesRightly script front (Entry.Reset g t was due) = made_told t front ≡ true
+UsesRightly script front (Entry.Reset g t was due) = (made_told t front ≡ true) × IsNoMisuse script front g
 UsesRightly script front (Entry.TRecv p t due next) = (made_told t front ≡ true) × IsNoMisuse script front p.g
 UsesRightly script front (Entry.FireFunc t child) = made_told t front ≡ true
 UsesRightly script front (Entry.Make g c) = opened_told c front ≡ false
@@ -134,34 +142,60 @@ UsesRightly script front (Entry.Close g c) = (opened_told c front ≡ true) × (
 UsesRightly script front (Entry.Default g) = IsNoMisuse script front g
 UsesRightly script front (Entry.Clock world to) = Unit {0}
 UsesRightly script front (Entry.Panic p reason) =
-    (i : Instr) × (stands_told script p.g front ≡ Some i) × IsMisuse front i p.case_no reason (misuse_told front i)
+    (i : Instr) × (stands_told script p.g front ≡ Some i) × IsMisuse front i p.case_no reason (misuse_told script front i)
 UsesRightly script front (Entry.Finish outcome) = Unit {0}
+
+-- what an entry does to an object that is no timer, as far as the laws below ask for it; and that a default is taken
+pub data Call : Type 0 where
+  -- a channel keeps a value that is sent to it
+  sends : ℕ → ℕ → Call
+  -- the first value that a channel keeps is received; none where it is closed and drained
+  receives : ℕ → Option ℕ → Call
+  -- a value passes from one goroutine to another over a channel
+  hands_over : Party → Party → ℕ → ℕ → Call
+  -- a channel is closed
+  closes : ℕ → Call
+  -- a goroutine goes on at the default of its choice
+  defaults : ℕ → Call
+  -- none of these
+  other : Call
+
+abbrev pub call_of : Entry → Call
+call_of (Entry.Say g n) = other
+call_of (Entry.Now g at) = other
+call_of (Entry.Go g child f) = other
+call_of (Entry.End g) = other
+call_of (Entry.Sleep g until) = other
+call_of (Entry.Wake g) = other
+call_of (Entry.New g t due) = other
+call_of (Entry.Stop g t was) = other
+call_of (Entry.Reset g t was due) = other
+call_of (Entry.TRecv p t due next) = other
+call_of (Entry.FireFunc t child) = other
+call_of (Entry.Make g c) = other
+call_of (Entry.Send p c v) = sends c v
+call_of (Entry.Recv p c v) = receives c v
+call_of (Entry.Pair from to c v) = hands_over from to c v
+call_of (Entry.Close g c) = closes c
+call_of (Entry.Default g) = defaults g
+call_of (Entry.Clock world to) = other
+call_of (Entry.Panic p reason) = other
+call_of (Entry.Finish outcome) = other
 
 -- The values of a channel come out in the order in which they were sent, each once and none invented, and there are never more in it than its capacity.
 -- Nothing is sent after a close, and a receive gives nothing only after it, when the channel is drained. A channel without room passes a value from one
 -- goroutine to another in one entry
+abbrev pub CallPassesOn : Script → List Entry → Call → Type 0
+CallPassesOn script front (sends c v) = (closed_told c front ≡ false) × (length (sent_told c front) < capacity_of script c + taken_told c front)
+CallPassesOn script front (receives c (Some v)) = slice_get (sent_told c front) (taken_told c front) ≡ Some v
+CallPassesOn script front (receives c None) = (closed_told c front ≡ true) × (taken_told c front ≡ length (sent_told c front))
+CallPassesOn script front (hands_over from to c v) = (closed_told c front ≡ false) × (capacity_of script c ≡ 0)
+CallPassesOn script front (closes c) = Unit {0}
+CallPassesOn script front (defaults g) = Unit {0}
+CallPassesOn script front other = Unit {0}
+
 abbrev pub PassesOn : Script → List Entry → Entry → Type 0
-PassesOn script front (Entry.Say g n) = Unit {0}
-PassesOn script front (Entry.Now g at) = Unit {0}
-PassesOn script front (Entry.Go g child f) = Unit {0}
-PassesOn script front (Entry.End g) = Unit {0}
-PassesOn script front (Entry.Sleep g until) = Unit {0}
-PassesOn script front (Entry.Wake g) = Unit {0}
-PassesOn script front (Entry.New g t due) = Unit {0}
-PassesOn script front (Entry.Stop g t was) = Unit {0}
-PassesOn script front (Entry.Reset g t was due) = Unit {0}
-PassesOn script front (Entry.TRecv p t due next) = Unit {0}
-PassesOn script front (Entry.FireFunc t child) = Unit {0}
-PassesOn script front (Entry.Make g c) = Unit {0}
-PassesOn script front (Entry.Send p c v) = (closed_told c front ≡ false) × (length (sent_told c front) < capacity_of script c + taken_told c front)
-PassesOn script front (Entry.Recv p c (Some v)) = slice_get (sent_told c front) (taken_told c front) ≡ Some v
-PassesOn script front (Entry.Recv p c None) = (closed_told c front ≡ true) × (taken_told c front ≡ length (sent_told c front))
-PassesOn script front (Entry.Pair from to c v) = (closed_told c front ≡ false) × (capacity_of script c ≡ 0)
-PassesOn script front (Entry.Close g c) = Unit {0}
-PassesOn script front (Entry.Default g) = Unit {0}
-PassesOn script front (Entry.Clock world to) = Unit {0}
-PassesOn script front (Entry.Panic p reason) = Unit {0}
-PassesOn script front (Entry.Finish outcome) = Unit {0}
+PassesOn script front e = CallPassesOn script front (call_of e)
 
 -- whether a case of an instruction could go on by itself
 abbrev pub gives_some : Script → List Entry → ℕ → Option Instr → Bool
@@ -169,24 +203,13 @@ gives_some script front now None = false
 gives_some script front now (Some i) = offers (alone_told script front now) i
 
 -- A default is taken only where no case could go on by another cause than a partner, and where two meet, one of them would wait
+abbrev pub CallChoosesRightly : Script → List Entry → Call → Type 0
+CallChoosesRightly script front (sends c v) = Unit {0}
+CallChoosesRightly script front (receives c v) = Unit {0}
+CallChoosesRightly script front (hands_over from to c v) = (polls_told script from.g front && polls_told script to.g front) ≡ false
+CallChoosesRightly script front (closes c) = Unit {0}
+CallChoosesRightly script front (defaults g) = gives_some script front (now_told script g front) (stands_told script g front) ≡ false
+CallChoosesRightly script front other = Unit {0}
+
 abbrev pub ChoosesRightly : Script → List Entry → Entry → Type 0
-ChoosesRightly script front (Entry.Say g n) = Unit {0}
-ChoosesRightly script front (Entry.Now g at) = Unit {0}
-ChoosesRightly script front (Entry.Go g child f) = Unit {0}
-ChoosesRightly script front (Entry.End g) = Unit {0}
-ChoosesRightly script front (Entry.Sleep g until) = Unit {0}
-ChoosesRightly script front (Entry.Wake g) = Unit {0}
-ChoosesRightly script front (Entry.New g t due) = Unit {0}
-ChoosesRightly script front (Entry.Stop g t was) = Unit {0}
-ChoosesRightly script front (Entry.Reset g t was due) = Unit {0}
-ChoosesRightly script front (Entry.TRecv p t due next) = Unit {0}
-ChoosesRightly script front (Entry.FireFunc t child) = Unit {0}
-ChoosesRightly script front (Entry.Make g c) = Unit {0}
-ChoosesRightly script front (Entry.Send p c v) = Unit {0}
-ChoosesRightly script front (Entry.Recv p c v) = Unit {0}
-ChoosesRightly script front (Entry.Pair from to c v) = (polls_told script from.g front && polls_told script to.g front) ≡ false
-ChoosesRightly script front (Entry.Close g c) = Unit {0}
-ChoosesRightly script front (Entry.Default g) = gives_some script front (now_told script g front) (stands_told script g front) ≡ false
-ChoosesRightly script front (Entry.Clock world to) = Unit {0}
-ChoosesRightly script front (Entry.Panic p reason) = Unit {0}
-ChoosesRightly script front (Entry.Finish outcome) = Unit {0}
+ChoosesRightly script front e = CallChoosesRightly script front (call_of e)

@@ -10,11 +10,12 @@ use Rattle.gt_model.specs.declared.script.Instr.{Instr}
 use Rattle.gt_model.specs.declared.script.Place.{Place}
 use Rattle.gt_model.specs.declared.entry.Entry.{Entry}
 use Rattle.gt_model.specs.declared.state.Ending.{Ending}
-use Rattle.gt_model.specs.Tables.{numbered, at, change_numbered}
+use Rattle.gt_model.specs.Tables.{numbered, at, change, change_numbered}
 use Rattle.gt_model.specs.Script.{instr_at, func_of}
 use Rattle.gt_model.specs.declared.script.CaseKind.{CaseKind}
 use Rattle.gt_model.specs.declared.entry.Party.{Party}
 use Rattle.gt_rules.specs.Places.{first_place, place_after}
+use Rattle.gt_rules.specs.After.{duration_of, period_of}
 use Rattle.gt_rules.specs.Operations.{operation, polls}
 use Rattle.gt_rules.specs.declared.change.Move.{Move}
 use Rattle.gt_rules.specs.declared.change.Setting.{Setting}
@@ -142,10 +143,39 @@ pub record ToldGoroutine : Type 0 where
   pub place : Option Place
   pub wait : Wait
 
--- the goroutines by number, from 1, and the world in which each timer was made, by declaration
+-- a timer that was made: the world in which it was, and the time between its ticks, which is 0 but for a ticker
+pub record ToldTimer : Type 0 where
+  pub owner : ℕ
+  pub period : ℕ
+
+-- the goroutines by number, from 1, and the timers that were made, by declaration
 pub record Everyone : Type 0 where
   pub goroutines : List ToldGoroutine
-  pub owners : List (Option ℕ)
+  pub timers : List (Option ToldTimer)
+
+abbrev pub place_of : Option ToldGoroutine → Option Place
+place_of None = None
+place_of (Some r) = r.place
+
+abbrev pub wait_of : Option ToldGoroutine → Wait
+wait_of None = awake
+wait_of (Some r) = r.wait
+
+-- the instruction at which somebody stands: none where he sleeps, or is nowhere
+abbrev pub stands_in : Script → Option Place → Wait → Option Instr
+stands_in script place awake = option_and_then (instr_at script) place
+stands_in script place (asleep until) = None
+
+abbrev pub stands_of : Script → Option ToldGoroutine → Option Instr
+stands_of script o = stands_in script (place_of o) (wait_of o)
+
+abbrev pub owner_in : Option ToldTimer → ℕ
+owner_in None = 0
+owner_in (Some r) = r.owner
+
+abbrev pub period_in : Option ToldTimer → ℕ
+period_in None = 0
+period_in (Some r) = r.period
 
 abbrev pub world_in : Option ToldGoroutine → ℕ
 world_in None = 0
@@ -168,30 +198,40 @@ beginner script world f = record { world = world; place = Some (first_place scri
 
 abbrev pub begun_by : Script → Everyone → Start → ToldGoroutine
 begun_by script all (Start.ByGoroutine g f) = beginner script (world_in (numbered all.goroutines g)) f
-begun_by script all (Start.ByTimer t) = beginner script (unwrap_or (at all.owners t) 0) (func_of script t)
+begun_by script all (Start.ByTimer t) = beginner script (owner_in (at all.timers t)) (func_of script t)
 
--- a timer that somebody makes is of that one's world
+-- a timer that somebody makes is of that one's world, and has the period of that one's instruction
 abbrev pub mover_world : List ToldGoroutine → Option (ℕ × Move) → ℕ
 mover_world rs None = 0
 mover_world rs (Some m) = world_in (numbered rs m.0)
 
-abbrev pub owned : ℕ → ℕ → List (Option ℕ) → Setting → List (Option ℕ)
-owned world t owners (Setting.Made due) = set owners t (Some world)
-owned world t owners (Setting.SetAnew due) = owners
-owned world t owners (Setting.Ended next) = owners
+abbrev pub mover_stands : Script → List ToldGoroutine → Option (ℕ × Move) → Option Instr
+mover_stands script rs None = None
+mover_stands script rs (Some m) = stands_of script (numbered rs m.0)
 
-abbrev pub with_owned : ℕ → List (Option ℕ) → Option (ℕ × Setting) → List (Option ℕ)
-with_owned world owners None = owners
-with_owned world owners (Some x) = owned world x.0 owners x.1
+abbrev pub period_by : Script → List ToldGoroutine → Option (ℕ × Move) → ℕ → ℕ
+period_by script rs m t = period_of script t (duration_of (mover_stands script rs m))
+
+abbrev pub with_period : ℕ → ToldTimer → ToldTimer
+with_period period r = record r { period = period }
+
+abbrev pub timed : Script → List ToldGoroutine → Option (ℕ × Move) → ℕ → List (Option ToldTimer) → Setting → List (Option ToldTimer)
+timed script rs m t timers (Setting.Made due) = set timers t (Some (record { owner = mover_world rs m; period = period_by script rs m t }))
+timed script rs m t timers (Setting.SetAnew due) = change timers t (option_map (with_period (period_by script rs m t)))
+timed script rs m t timers (Setting.Ended next) = timers
+
+abbrev pub with_timed : Script → List ToldGoroutine → Option (ℕ × Move) → List (Option ToldTimer) → Option (ℕ × Setting) → List (Option ToldTimer)
+with_timed script rs m timers None = timers
+with_timed script rs m timers (Some x) = timed script rs m x.0 timers x.1
 
 abbrev pub everyone_by : Script → Everyone → Change → Everyone
 everyone_by script all c = record {
   goroutines = with_led script (with_led script all.goroutines c.mover) c.partner ++ map (begun_by script all) c.starts;
-  owners = with_owned (mover_world all.goroutines c.mover) all.owners c.timer;
+  timers = with_timed script all.goroutines c.mover all.timers c.timer;
 }
 
 abbrev pub everyone_first : Script → Everyone
-everyone_first script = record { goroutines = beginner script 0 script.main ∷ []; owners = map (λ (d : Decl). None) script.decls }
+everyone_first script = record { goroutines = beginner script 0 script.main ∷ []; timers = map (λ (d : Decl). None) script.decls }
 
 abbrev pub everyone_told : Script → List Entry → Everyone
 everyone_told script h = told (everyone_by script) (everyone_first script) h
@@ -204,20 +244,16 @@ abbrev pub world_told : Script → ℕ → List Entry → ℕ
 world_told script g h = world_in (goroutine_told script g h)
 
 abbrev pub owner_told : Script → ℕ → List Entry → ℕ
-owner_told script t h = unwrap_or (at (everyone_told script h).owners t) 0
+owner_told script t h = owner_in (at (everyone_told script h).timers t)
+
+-- the time between two ticks of timer t: that of its last setting
+abbrev pub period_told : Script → ℕ → List Entry → ℕ
+period_told script t h = period_in (at (everyone_told script h).timers t)
 
 abbrev pub now_told : Script → ℕ → List Entry → ℕ
 now_told script g h = clock_told (world_told script g h) h
 
 -- where goroutine g is, and its wait
-abbrev pub place_of : Option ToldGoroutine → Option Place
-place_of None = None
-place_of (Some r) = r.place
-
-abbrev pub wait_of : Option ToldGoroutine → Wait
-wait_of None = awake
-wait_of (Some r) = r.wait
-
 abbrev pub place_told : Script → ℕ → List Entry → Option Place
 place_told script g h = place_of (goroutine_told script g h)
 
@@ -232,13 +268,9 @@ until_in (asleep until) = Some until
 abbrev pub until_told : Script → ℕ → List Entry → Option ℕ
 until_told script g h = until_in (wait_told script g h)
 
--- the instruction at which it stands: none where it sleeps, or is nowhere
-abbrev pub stands_in : Script → Option Place → Wait → Option Instr
-stands_in script place awake = option_and_then (instr_at script) place
-stands_in script place (asleep until) = None
-
+-- the instruction at which it stands
 abbrev pub stands_told : Script → ℕ → List Entry → Option Instr
-stands_told script g h = stands_in script (place_told script g h) (wait_told script g h)
+stands_told script g h = stands_of script (goroutine_told script g h)
 
 -- the operation at which a party stands, by its case number
 abbrev pub operation_in : Option Instr → ℕ → Option CaseKind

@@ -47,7 +47,7 @@ pub fn nothing_comes_early()
 /// No value of a setting that was ended is received, be it ended by a stop, by a later setting or by a receive: none is received twice.
 pub fn no_value_is_stale()
     ensures { (script : Script) (limits : Limits) (h : List Entry) (outcome : Outcome)
-        → IsGood script → History script limits h outcome → AtEach IsFresh h }
+        → IsGood script → History script limits h outcome → AtEach (IsFresh script) h }
 {}
 
 /// A timer or a channel is made once and used where it was made, and a channel is closed once, with nothing sent to it after: a call that would be a misuse
@@ -98,7 +98,7 @@ pub fn a_clock_jumps_to_the_least_time()
 /// These laws say all that the machine's rules ask: a list of entries that keeps them at each entry and has a finish is a complete history.
 pub fn what_keeps_the_laws_is_a_history()
     ensures { (script : Script) (limits : Limits) (h : List Entry) (outcome : Outcome)
-        → IsGood script → AtEach (InOrder script) h → AtEach (InTime script) h → AtEach IsFresh h → AtEach (UsesRightly script) h
+        → IsGood script → AtEach (InOrder script) h → AtEach (InTime script) h → AtEach (IsFresh script) h → AtEach (UsesRightly script) h
         → AtEach (PassesOn script) h → AtEach (ChoosesRightly script) h → AtEach (EndsRightly script limits) h → ending_told h ≡ Ending.Finished outcome → History script limits h outcome }
 {}
 
@@ -168,11 +168,15 @@ pub fn an_early_wake_breaks_the_law()
     ensures wrong_time { ¬ AtEach (InTime broken.one_sleep) broken.wrong_time }
 {}
 
-/// A receive of the value of a setting that a later one ended is no history, nor is a stop that denies a setting, or a timer that fires after it was stopped.
+/// A receive of the value of a setting that a later one ended is no history, nor is a stop that denies a setting, a timer that fires after it was stopped,
+/// a ticker that drifts or passes over a tick that is still to come, or one whose stop answers something.
 pub fn a_stale_value_breaks_the_law()
-    ensures stale { ¬ AtEach IsFresh broken.stale }
-    ensures denied { ¬ AtEach IsFresh broken.denied }
-    ensures fires_stopped { ¬ AtEach IsFresh broken.fires_stopped }
+    ensures stale { ¬ AtEach (IsFresh broken.one_timer) broken.stale }
+    ensures denied { ¬ AtEach (IsFresh broken.one_timer) broken.denied }
+    ensures fires_stopped { ¬ AtEach (IsFresh broken.one_timer) broken.fires_stopped }
+    ensures off_tick { ¬ AtEach (IsFresh broken.one_ticker) broken.off_tick }
+    ensures far_tick { ¬ AtEach (IsFresh broken.one_ticker) broken.far_tick }
+    ensures ticker_answers { ¬ AtEach (IsFresh broken.one_ticker) broken.ticker_answers }
 {}
 
 /// A value that comes out before one that was sent earlier is none of a history, nor is one that comes out twice, one too many for the room of its channel,
@@ -194,11 +198,12 @@ pub fn a_default_over_a_value_breaks_the_law()
     ensures neither_waits { ¬ AtEach (ChoosesRightly broken.two_polls) broken.neither_waits }
 {}
 
-/// A timer that is made twice or stopped before it was made, a panic without a misuse, for another reason or with the number of another case, and a choice
-/// that goes on beside a case which is a misuse, are no histories.
+/// A timer that is made twice or stopped before it was made, a ticker without a time between its ticks that goes on, a panic without a misuse, for another
+/// reason or with the number of another case, and a choice that goes on beside a case which is a misuse, are no histories.
 pub fn a_misuse_without_a_panic_breaks_the_law()
     ensures made_twice { ¬ AtEach (UsesRightly broken.two_calls) broken.made_twice }
     ensures unmade { ¬ AtEach (UsesRightly broken.one_stop) broken.unmade }
+    ensures without_a_period { ¬ AtEach (UsesRightly broken.no_period) broken.without_a_period }
     ensures for_nothing { ¬ AtEach (UsesRightly broken.two_calls) broken.for_nothing }
     ensures for_another_reason { ¬ AtEach (UsesRightly broken.one_stop) broken.for_another_reason }
     ensures beside_a_misuse { ¬ AtEach (UsesRightly broken.one_unmade) broken.beside_a_misuse }

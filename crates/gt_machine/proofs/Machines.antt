@@ -28,7 +28,7 @@ use Rattle.gt_model.proofs.Tables.{change-set, change_numbered-set}
 use Rattle.gt_model.proofs.Items.{numbered-change_other}
 use Rattle.gt_rules.specs.declared.change.Move.{Move}
 use Rattle.gt_rules.specs.declared.change.Setting.{Setting}
-use Rattle.gt_rules.specs.After.{moved, with_mover, retimed, number_of, set_due, set_again}
+use Rattle.gt_rules.specs.After.{moved, with_mover, retimed, number_of, new_period, set_due, set_again}
 use Rattle.gt_model.proofs.Changes.{length-change_numbered}
 
 -- the item at the place below a number has that number
@@ -146,7 +146,8 @@ room_begun gs hs r x y e k =
 
 -- a change of a timer is a write at its place
 pub retimed-set : (script : Script) (s : State) (mover : Option (ℕ × Move)) (ts : List (Option Timer)) (t : ℕ) (setting : Setting) (was : Option Timer)
-    → slice_get ts t ≡ Some was → set ts t (retimed_in (world_of s (number_of mover)) setting was) ≡ retimed script s mover t ts setting
+    → slice_get ts t ≡ Some was
+    → set ts t (retimed_in (world_of s (number_of mover)) (new_period script s (number_of mover) t) setting was) ≡ retimed script s mover t ts setting
 retimed-set script s mover ts t (Setting.Made due) was e = refl
-retimed-set script s mover ts t (Setting.SetAnew due) was e = sym (change-set ts t (set_again due 0) was e)
+retimed-set script s mover ts t (Setting.SetAnew due) was e = sym (change-set ts t (set_again due (new_period script s (number_of mover) t)) was e)
 retimed-set script s mover ts t (Setting.Ended due) was e = sym (change-set ts t (set_due due) was e)

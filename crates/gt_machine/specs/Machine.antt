@@ -60,11 +60,11 @@ abbrev pub with_new : List Goroutine → Option Goroutine → List Goroutine
 with_new gs None = gs
 with_new gs (Some r) = gs ++ r ∷ []
 
--- what becomes of one timer, by somebody of this world
-abbrev pub retimed_in : ℕ → Setting → Option Timer → Option Timer
-retimed_in world (Setting.Made due) was = Some (record { world = world; due = Some due; period = 0 })
-retimed_in world (Setting.SetAnew due) was = set_again due 0 was
-retimed_in world (Setting.Ended due) was = set_due due was
+-- what becomes of one timer, by somebody of this world whose setting has this period
+abbrev pub retimed_in : ℕ → ℕ → Setting → Option Timer → Option Timer
+retimed_in world period (Setting.Made due) was = Some (record { world = world; due = Some due; period = period })
+retimed_in world period (Setting.SetAnew due) was = set_again due period was
+retimed_in world period (Setting.Ended due) was = set_due due was
 
 -- A channel of which this may become: it is made once, and used once it is made; one that keeps one item more is open and has room for it
 abbrev pub MayTrade : Trade → chan.Channel → Type 0

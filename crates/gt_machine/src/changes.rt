@@ -57,17 +57,17 @@ fn set_anew(timer: Option<Timer>, due: u64, period: u64) -> Option<Timer>
     })
 }
 
-/// What becomes of a timer, by somebody of a world. No timer ticks again so far, so each period is 0.
-pub fn retimed(world: u32, was: Option<Timer>, setting: Setting) -> Option<Timer>
-    ensures { result ≡ retimed_in world setting was }
+/// What becomes of a timer, by somebody of a world whose setting has this time between its ticks.
+pub fn retimed(world: u32, period: u64, was: Option<Timer>, setting: Setting) -> Option<Timer>
+    ensures { result ≡ retimed_in world period setting was }
 {
     match setting {
         Setting::Made { due } => Some(Timer {
             world,
             due: Some(due),
-            period: 0,
+            period,
         }),
-        Setting::SetAnew { due } => set_anew(was, due, 0),
+        Setting::SetAnew { due } => set_anew(was, due, period),
         Setting::Ended { next } => with_due(was, next),
     }
 }

@@ -75,3 +75,16 @@ pub fn is_chan(script: &Script, o: u32) -> bool
         })
     )
 }
+
+/// Whether a declaration is a ticker.
+pub fn is_ticker(script: &Script, t: u32) -> bool
+    ensures { result ≡ names.is_ticker script.now t }
+{
+    matches!(
+        script.decls.as_slice().get(t as usize),
+        Some(Decl {
+            what: What::Ticker,
+            ..
+        })
+    )
+}

@@ -18,7 +18,7 @@ ghost use Rattle.gt_machine.specs.Outcomes as outcomes;
 ghost use Rattle.gt_machine.specs.Places.{placed_at};
 
 use crate::changes::{begun, move_goroutine, retimed, trade_channel};
-use crate::lookups::{capacity, declared_capacity, function_of, instr_at};
+use crate::lookups::{capacity, declared_capacity, function_of, instr_at, is_ticker};
 use gt_chan::Chan;
 use gt_model::{
     Case, CaseKind, Decl, Ending, Entry, Goroutine, Instr, Limits, Mode, NoMemory, Outcome, Reason,
@@ -157,7 +157,8 @@ impl Machine {
             return;
         };
         let world = self.mover_world(mover);
-        self.timers[t as usize] = retimed(world, self.timers[t as usize], setting);
+        let period = self.new_period(script, mover, t);
+        self.timers[t as usize] = retimed(world, period, self.timers[t as usize], setting);
     }
 
     /// What becomes of a channel, by who makes the entry.
@@ -327,6 +328,22 @@ impl Machine {
         }
     }
 
+    /// The time between two ticks of the setting that this one's instruction makes of timer t: 0 but for a ticker.
+    fn new_period(&self, script: &Script, mover: Option<(u32, Move)>, t: u32) -> u64
+        ensures { result ≡ after.new_period script.now (state_of self.now) (after.number_of mover) t }
+    {
+        if !is_ticker(script, t) {
+            return 0;
+        }
+        match mover {
+            Some((g, _)) => match self.stands_at(script, g) {
+                Some(instr) => duration_of(instr),
+                None => 0,
+            },
+            None => 0,
+        }
+    }
+
     /// The world in which timer t was made; 0 where it was not made.
     fn timer_world(&self, t: u32) -> u32
         ensures { result ≡ after.timer_world (state_of self.now) t }
@@ -379,13 +396,19 @@ impl Machine {
     }
 
     /// Why a goroutine panics that stands at this instruction; none where it does not.
-    pub fn fault(&self, i: &Instr) -> Option<Reason>
-        ensures { (script : _) → result ≡ panics.fault script (state_of self.now) i.now }
+    fn fault(&self, script: &Script, i: &Instr) -> Option<Reason>
+        ensures { result ≡ panics.fault script.now (state_of self.now) i.now }
     {
         match *i {
-            Instr::New { t, .. } => when(self.timer(t).is_some(), Reason::Twice),
+            Instr::New { t, d } => first_of(
+                when(self.timer(t).is_some(), Reason::Twice),
+                zero_ticker(script, t, d),
+            ),
             Instr::Stop { t } => when(self.timer(t).is_none(), Reason::Unmade),
-            Instr::Reset { t, .. } => when(self.timer(t).is_none(), Reason::Unmade),
+            Instr::Reset { t, d } => first_of(
+                when(self.timer(t).is_none(), Reason::Unmade),
+                zero_ticker(script, t, d),
+            ),
             Instr::Recv { o } => when(!self.is_made(o), Reason::Unmade),
             Instr::Make { c } => when(self.channel(c).is_some(), Reason::Twice),
             Instr::Send { c, .. } | Instr::Close { c } => self.open_fault(c),
@@ -399,16 +422,16 @@ impl Machine {
 
     /// Why a goroutine panics that stands at this instruction, and the number of the case: that of the first faulty one of a choice, and 0 of a plain
     /// instruction. None where it does not panic.
-    pub fn fault_at(&self, i: &Instr) -> Option<(u32, Reason)>
+    pub fn fault_at(&self, script: &Script, i: &Instr) -> Option<(u32, Reason)>
         requires { HasFewCases i.now }
-        ensures { (script : _) → result ≡ panics.fault_at script (state_of self.now) i.now }
+        ensures { result ≡ panics.fault_at script.now (state_of self.now) i.now }
     {
         match i {
             Instr::Select { cases, .. } => match self.faulty_case(cases.as_slice()) {
                 Some((k, reason)) => Some((k as u32 + 1, reason)),
                 None => None,
             },
-            _ => match self.fault(i) {
+            _ => match self.fault(script, i) {
                 Some(reason) => Some((0, reason)),
                 None => None,
             },
@@ -509,4 +532,31 @@ fn when(test: bool, reason: Reason) -> Option<Reason>
     ensures { result ≡ panics.when test reason }
 {
     if test { Some(reason) } else { None }
+}
+
+/// The first of two reasons.
+fn first_of(one: Option<Reason>, other: Option<Reason>) -> Option<Reason>
+    ensures { result ≡ panics.or_else one other }
+{
+    match one {
+        Some(reason) => Some(reason),
+        None => other,
+    }
+}
+
+/// Whether a ticker would have no time between its ticks.
+fn zero_ticker(script: &Script, t: u32, d: u64) -> Option<Reason>
+    ensures { result ≡ panics.zero_ticker script.now t d }
+{
+    when(is_ticker(script, t) && d == 0, Reason::Ticker)
+}
+
+/// The duration of a setting; 0 of any other instruction.
+fn duration_of(instr: &Instr) -> u64
+    ensures { result ≡ after.duration_of (Some instr.now) }
+{
+    match instr {
+        Instr::New { d, .. } | Instr::Reset { d, .. } => *d,
+        _ => 0,
+    }
 }

@@ -46,6 +46,7 @@ record IsFunctionPlace (ds : List Decl) (i x : ℕ) : Type 0 where
 
 function_is : (w : What) → is_function w ≡ true → w ≡ What.Function
 function_is What.Timer h = cc
+function_is What.Ticker h = cc
 function_is (What.AfterFunc func) h = cc
 function_is (What.Chan cap) h = cc
 function_is What.Function h = refl

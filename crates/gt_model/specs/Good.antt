@@ -154,6 +154,7 @@ pub record IsGoodCode (script : Script) (code : List Instr) : Type 0 where
 -- a declaration names what it starts, and a channel has a capacity that it may have
 abbrev pub DeclaresRightly : Script → What → Type 0
 DeclaresRightly script What.Timer = Unit {0}
+DeclaresRightly script What.Ticker = Unit {0}
 DeclaresRightly script (What.AfterFunc func) = func < length script.funcs
 DeclaresRightly script (What.Chan cap) = cap ≤ most_capacity
 DeclaresRightly script What.Function = Unit {0}
@@ -187,6 +188,7 @@ instruction_count script = sum_by (λ (f : Func). length (filter is_line f.code)
 -- whether a declaration is that of a function
 abbrev pub is_function : What → Bool
 is_function What.Timer = false
+is_function What.Ticker = false
 is_function (What.AfterFunc func) = false
 is_function (What.Chan cap) = false
 is_function What.Function = true

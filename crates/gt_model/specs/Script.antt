@@ -21,10 +21,15 @@ code_of script f = elim (slice_get script.funcs f) [ None ↦ [] | Some func ↦
 abbrev pub instr_at : Script → Place → Option Instr
 instr_at script p = slice_get (code_of script p.func) p.at
 
--- a channel timer; an AfterFunc timer
+-- what is received from by its times: a one-shot channel timer or a ticker; a ticker alone; an AfterFunc timer
 abbrev pub names_timer : Option What → Bool
 names_timer (Some What.Timer) = true
+names_timer (Some What.Ticker) = true
 names_timer _ = false
+
+abbrev pub names_ticker : Option What → Bool
+names_ticker (Some What.Ticker) = true
+names_ticker _ = false
 
 abbrev pub names_func : Option What → Bool
 names_func (Some (What.AfterFunc func)) = true
@@ -36,6 +41,9 @@ names_chan _ = false
 
 abbrev pub is_timer : Script → ℕ → Bool
 is_timer script t = names_timer (what_at script t)
+
+abbrev pub is_ticker : Script → ℕ → Bool
+is_ticker script t = names_ticker (what_at script t)
 
 abbrev pub is_func : Script → ℕ → Bool
 is_func script t = names_func (what_at script t)

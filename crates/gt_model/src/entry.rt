@@ -46,13 +46,13 @@ pub enum Entry {
         t: u32,
         due: u64,
     },
-    /// A goroutine stopped a timer; whether it was set.
+    /// A goroutine stopped a timer; whether it was set, none of a ticker.
     Stop {
         g: u32,
         t: u32,
         was: Option<bool>,
     },
-    /// A goroutine set a timer anew; whether it was set, and when it is due now.
+    /// A goroutine set a timer anew; whether it was set, none of a ticker, and when it is due now.
     Reset {
         g: u32,
         t: u32,
@@ -142,6 +142,8 @@ pub enum Reason {
     Twice,
     /// The channel was closed before.
     Closed,
+    /// A ticker was set with a period of 0.
+    Ticker,
 }
 
 /// The most entries that a run may have, its end not counted.

@@ -25,6 +25,8 @@ pub struct Decl {
 pub enum What {
     /// A one-shot channel timer.
     Timer,
+    /// A ticker: a channel timer that is due again one period after the other.
+    Ticker,
     /// An AfterFunc timer, which starts the function at this place in the script's `funcs`.
     AfterFunc { func: u32 },
     /// A channel that keeps so many values at most: 0 to 1,024.

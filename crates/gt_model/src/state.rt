@@ -30,7 +30,7 @@ pub struct Timer {
     pub world: u32,
     /// When it is due, in nanoseconds; none where it is not set.
     pub due: Option<u64>,
-    /// The time between two ticks, in nanoseconds; 0 for a timer that ticks once.
+    /// The time between two ticks, in nanoseconds; 0 for a timer that is no ticker.
     pub period: u64,
 }
 

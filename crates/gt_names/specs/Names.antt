@@ -39,6 +39,7 @@ naming_of _ = None
 abbrev pub functions_with : Kind → ℕ → ℕ
 functions_with Kind.Function functions = next functions
 functions_with Kind.Timer functions = functions
+functions_with Kind.Ticker functions = functions
 functions_with Kind.AfterFunc functions = functions
 functions_with Kind.Chan functions = functions
 

@@ -12,7 +12,7 @@ use Rattle.gt_model.specs.Good.{IsGood}
 use Rattle.gt_model.specs.Tables.{numbered, at, change_numbered}
 use Rattle.gt_model.proofs.Items.{at-set_same, at-set_other, at-change_same, at-change_other, numbered-change_same, numbered-change_other, numbered-push_same, numbered-push_other, numbered-next, HasNumber, has_number}
 use Rattle.gt_rules.specs.State.{State, goroutine_at, timer_at, due_of, sleeps_until, until_of, clock}
-use Rattle.gt_rules.specs.After.{after, changed, moved, set_due, set_again, with_mover, with_starts, started_by, with_retimed, with_clock, retimed}
+use Rattle.gt_rules.specs.After.{after, changed, moved, set_due, set_again, with_mover, with_starts, started_by, with_retimed, with_clock, retimed, new_period, number_of}
 use Rattle.gt_rules.specs.Change.{Change, change_of}
 use Rattle.gt_rules.specs.Finish.{Legal}
 use Rattle.gt_rules.specs.History.{state_after}
@@ -219,10 +219,11 @@ due-retimed script s mover ts (Some (t, Setting.Made due)) u right =
     (λ is. ap (λ v. due_in (at (retimed script s mover t ts (Setting.Made due)) v)) is ∙ ap due_in (at-set_same ts t _ right))
     (λ n. ap due_in (at-set_other ts t u _ n))
 due-retimed script s mover ts (Some (t, Setting.SetAnew due)) u right =
+    let period : ℕ = new_period script s (number_of mover) t in
     by-timer (due_in (at (retimed script s mover t ts (Setting.SetAnew due)) u)) (due_in (at ts u)) (Some due) t u
     (λ is. ap (λ v. due_in (at (retimed script s mover t ts (Setting.SetAnew due)) v)) is
-    ∙ (ap due_in (at-change_same ts t (set_again due 0) refl) ∙ due-set_again due 0 (at ts t) right))
-    (λ n. ap due_in (at-change_other ts t u (set_again due 0) n))
+    ∙ (ap due_in (at-change_same ts t (set_again due period) refl) ∙ due-set_again due period (at ts t) right))
+    (λ n. ap due_in (at-change_other ts t u (set_again due period) n))
 due-retimed script s mover ts (Some (t, Setting.Ended next)) u right =
     by-timer (due_in (at (retimed script s mover t ts (Setting.Ended next)) u)) (due_in (at ts u)) next t u
     (λ is. ap (λ v. due_in (at (retimed script s mover t ts (Setting.Ended next)) v)) is
@@ -346,14 +347,15 @@ period-retimed : (script : Script) (s : State) (c : Change) (u : ℕ) (o : Optio
     → period_in (at (with_retimed script s c.mover s.timers o) u) ≡ timer_period_touched script s c u (period_in (at s.timers u)) o
 period-retimed script s c u None right = refl
 period-retimed script s c u (Some (t, Setting.Made due)) right =
-    by-period (period_in (at (retimed script s c.mover t s.timers (Setting.Made due)) u)) (period_in (at s.timers u)) 0 t u
+    by-period (period_in (at (retimed script s c.mover t s.timers (Setting.Made due)) u)) (period_in (at s.timers u)) (new_period script s (number_of c.mover) t) t u
     (λ is. ap (λ v. period_in (at (retimed script s c.mover t s.timers (Setting.Made due)) v)) is ∙ ap period_in (at-set_same s.timers t _ right))
     (λ n. ap period_in (at-set_other s.timers t u _ n))
 period-retimed script s c u (Some (t, Setting.SetAnew due)) right =
-    by-period (period_in (at (retimed script s c.mover t s.timers (Setting.SetAnew due)) u)) (period_in (at s.timers u)) 0 t u
+    let period : ℕ = new_period script s (number_of c.mover) t in
+    by-period (period_in (at (retimed script s c.mover t s.timers (Setting.SetAnew due)) u)) (period_in (at s.timers u)) period t u
     (λ is. ap (λ v. period_in (at (retimed script s c.mover t s.timers (Setting.SetAnew due)) v)) is
-    ∙ (ap period_in (at-change_same s.timers t (set_again due 0) refl) ∙ period-set_again due 0 (at s.timers t) right))
-    (λ n. ap period_in (at-change_other s.timers t u (set_again due 0) n))
+    ∙ (ap period_in (at-change_same s.timers t (set_again due period) refl) ∙ period-set_again due period (at s.timers t) right))
+    (λ n. ap period_in (at-change_other s.timers t u (set_again due period) n))
 period-retimed script s c u (Some (t, Setting.Ended next)) right =
     by-period (period_in (at (retimed script s c.mover t s.timers (Setting.Ended next)) u)) (period_in (at s.timers u)) (period_in (at s.timers u)) t u
     (λ is. ap (λ v. period_in (at (retimed script s c.mover t s.timers (Setting.Ended next)) v)) is

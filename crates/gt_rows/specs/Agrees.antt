@@ -17,6 +17,7 @@ of_declaration script id = slice_get script.decls id
 
 abbrev pub kind_of_what : What → Option RecKind
 kind_of_what What.Timer = Some RecKind.Timer
+kind_of_what What.Ticker = Some RecKind.Ticker
 kind_of_what (What.AfterFunc f) = Some RecKind.Func
 kind_of_what (What.Chan cap) = None
 kind_of_what What.Function = None

@@ -16,7 +16,7 @@ use Rattle.gt_rec.specs.Changes.{armed, disarmed, ended, received, taken, more_b
 use Rattle.gt_lazy.specs.Slots.{LazyHeap, Scans}
 use Rattle.gt_lazy.specs.Running.{head_answer, head_run}
 use Rattle.gt_lazy.specs.declared.answer.Ran.{Ran}
-use Rattle.gt_schedule.specs.Schedule.{plainly, parties_at, marked, unmarked, IsLive}
+use Rattle.gt_schedule.specs.Schedule.{parties_at, marked, unmarked, IsLive}
 use Rattle.gt_schedule.specs.declared.status.Ticket.{Ticket}
 use Rattle.gt_book.specs.declared.answers.TimerOp.{TimerOp}
 use Rattle.gt_book.specs.declared.step.Step.{Step}
@@ -48,6 +48,10 @@ UnlessOver b over reply Same Row = MatchOption (outcome_of b) Row (λ outcome. (
 -- the answer of a section that entered: the run's outcome where it has one then
 abbrev pub Answers : {Done : Type 0} → BookView → (Outcome → Done) → Done → Done → Type 0
 Answers b over reply answer = MatchOption (outcome_of b) (reply ≡ answer) (λ outcome. reply ≡ over outcome)
+
+-- what ending a setting, or renewing it, answers by a record: whether it was set; nothing of a ticker
+abbrev pub answer_of : Rec → Option Bool
+answer_of r = elim r.kind [ RecKind.Ticker ↦ None | _ ↦ Some (is_some (shown r)) ]
 
 -- what a goroutine does next
 abbrev pub next_of : BookView → ℕ → Option Step
@@ -91,7 +95,7 @@ pub record OnlyEnters (old : Parts) (e : Entry) (new : Parts) (reply : SetDone) 
 abbrev pub SetsBy : Parts → ℕ → Parts → SetDone → Option Step → Type 0
 SetsBy old g new reply (Some (Step.Needs (TimerOp.Set t d anew))) =
     let due : ℕ = due_at (clock_of old.book.state g) d
-    in Arms old (set_entry g t anew (is_some (shown old.rec)) due) due (new_period old.book.script old.book.state g t) new reply
+    in Arms old (set_entry g t anew (answer_of old.rec) due) due (new_period old.book.script old.book.state g t) new reply
 SetsBy old g new reply (Some (Step.Makes e)) = OnlyEnters old e new reply
 SetsBy old g new reply (Some (Step.Needs (TimerOp.Stop t))) = ⊥
 SetsBy old g new reply (Some (Step.Needs (TimerOp.Enrolled ticket))) = ⊥
@@ -156,7 +160,7 @@ pub record Stops (old : Pair) (e : Entry) (r : Rec) (new : Pair) (reply : StopDo
   pub answer : Answers new.book StopDone.Over reply StopDone.Done
 
 abbrev pub StopsBy : Pair → ℕ → Pair → StopDone → Option Step → Type 0
-StopsBy old g new reply (Some (Step.Needs (TimerOp.Stop t))) = Stops old (Entry.Stop g t (Some (is_some (shown old.rec)))) (disarmed old.rec) new reply
+StopsBy old g new reply (Some (Step.Needs (TimerOp.Stop t))) = Stops old (Entry.Stop g t (answer_of old.rec)) (disarmed old.rec) new reply
 StopsBy old g new reply (Some (Step.Makes e)) = Stops old e old.rec new reply
 StopsBy old g new reply (Some (Step.Needs (TimerOp.Set t d anew))) = ⊥
 StopsBy old g new reply (Some (Step.Needs (TimerOp.Enrolled ticket))) = ⊥

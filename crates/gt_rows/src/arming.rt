@@ -1,6 +1,6 @@
-//! A new setting of a record that ticks once.
+//! A new setting of a record.
 
-ghost use Rattle.std.specs.Prelude.{◌≡◌, ◌≢◌, ◌<◌, ◌≤◌, IsNone};
+ghost use Rattle.std.specs.Prelude.{◌≡◌, ◌<◌, ◌≤◌, IsNone};
 ghost use Rattle.gt_rec.specs.Ticks.{greatest_time};
 ghost use Rattle.gt_rec.specs.declared.RecKind.{RecKind};
 ghost use Rattle.gt_rec.specs.Rec.{BitsRight};
@@ -12,19 +12,19 @@ use crate::answers::SetDone;
 use gt_lazy::{Lazy, change};
 use gt_rec::TimerRec;
 
-/// Sets a record that ticks once anew, due at a time in nanoseconds. It joins the heap where it needs one and is in none. The answer says whether
-/// it did, or else which heap has to be told of the due time.
-pub fn arm(heap: &mut Lazy, rec: &mut TimerRec, due: u64) -> SetDone
+/// Sets a record anew, due at a time and with a period, in nanoseconds; only a ticker's is above 0. It joins the heap where it needs one and is in none. The
+/// answer says whether it did, or else which heap has to be told of the due time.
+pub fn arm(heap: &mut Lazy, rec: &mut TimerRec, due: u64, period: u64) -> SetDone
     requires time { due ≤ greatest_time }
-    requires kind { rec.old.kind ≢ RecKind.Ticker }
+    requires period { rec.old.kind ≡ RecKind.Ticker → 0 < period }
     requires placed { IsPlaced heap.old rec.old }
     requires room { IsNone rec.old.heaped → 0 < heap.old.spare }
-    ensures answer { result ≡ set_answer rec.old due 0 }
-    ensures place { Settles heap.old (armed rec.old due 0) heap.new rec.new (joins (armed rec.old due 0)) }
+    ensures answer { result ≡ set_answer rec.old due period }
+    ensures place { Settles heap.old (armed rec.old due period) heap.new rec.new (joins (armed rec.old due period)) }
     ensures placed { IsPlaced heap.new rec.new }
     ensures bits { BitsRight rec.new }
 {
-    let told = change(rec, due, 0);
+    let told = change(rec, due, period);
     if rec.heaped.is_none() && rec.needs_heap() {
         heap.add(rec);
         return SetDone::Lower(due);

@@ -1,5 +1,5 @@
 -- The state after an entry.
-use Rattle.std.specs.Prelude.{ℕ, ◌+◌, true, false, List, [], ◌∷◌, ◌++◌, drop, map, set}
+use Rattle.std.specs.Prelude.{ℕ, ◌+◌, cond, true, false, List, [], ◌∷◌, ◌++◌, drop, map, set}
 use Rattle.std.specs.declared.option.Option.{Option}
 use Rattle.std.specs.declared.option.Option.TheVariants.{None, Some}
 use Rattle.gt_model.specs.declared.script.Script.{Script}
@@ -12,7 +12,7 @@ use Rattle.gt_model.specs.declared.state.Timer.{Timer}
 use Rattle.gt_model.specs.declared.state.Ending.{Ending}
 use Rattle.gt_model.specs.Tables.{change, change_numbered}
 use Rattle.gt_rules.specs.State.{State, Channel, stands_at, world_of, timer_at}
-use Rattle.gt_model.specs.Script.{func_of}
+use Rattle.gt_model.specs.Script.{func_of, is_ticker}
 use Rattle.gt_rules.specs.Places.{first_place, place_after}
 use Rattle.gt_rules.specs.declared.change.Move.{Move}
 use Rattle.gt_rules.specs.declared.change.Setting.{Setting}
@@ -39,7 +39,7 @@ begun script w f = record { world = w; place = first_place script f; mode = Mode
 
 -- the time between two ticks, of a setting that was made with d: only a ticker ticks again
 abbrev pub period_of : Script → ℕ → ℕ → ℕ
-period_of script t d = 0
+period_of script t d = cond (is_ticker script t) d 0
 
 -- the duration of a `new` or `reset`
 abbrev pub duration_of : Option Instr → ℕ

@@ -1,5 +1,5 @@
 -- Which entry may come next.
-use Rattle.std.specs.Prelude.{ℕ, zero, suc, ◌+◌, ◌<◌, ◌≤◌, ◌≡◌, min, Bool, false, not, ◌&&◌, IsTrue, IsSomeAnd, is_some, ◌≢◌, MatchOption, List, [], slice_get}
+use Rattle.std.specs.Prelude.{ℕ, zero, suc, ◌+◌, ◌-◌, ◌*◌, ◌<◌, ◌≤◌, ◌≡◌, min, cond, Bool, true, false, not, ◌&&◌, IsTrue, IsSomeAnd, is_some, ◌≢◌, MatchOption, List, [], slice_get}
 use Rattle.std.specs.List.{All}
 use Rattle.std.specs.declared.option.Option.{Option}
 use Rattle.std.specs.declared.option.Option.TheVariants.{None, Some}
@@ -12,9 +12,9 @@ use Rattle.gt_model.specs.declared.entry.Reason.{Reason}
 use Rattle.gt_model.specs.declared.state.Timer.{Timer}
 use Rattle.gt_model.specs.declared.script.Case.{Case}
 use Rattle.gt_model.specs.declared.script.CaseKind.{CaseKind}
-use Rattle.gt_rules.specs.State.{State, stands_at, clock, clock_of, world_of, sleeps_until, next_number, timer_at, due_of, items_of, item_count, is_open, is_closed}
+use Rattle.gt_rules.specs.State.{State, stands_at, clock, clock_of, world_of, sleeps_until, next_number, timer_at, due_of, period_at, items_of, item_count, is_open, is_closed}
 use Rattle.gt_rules.specs.Operations.{operation, polls}
-use Rattle.gt_model.specs.Script.{is_timer, is_func, is_chan, capacity_of}
+use Rattle.gt_model.specs.Script.{is_timer, is_ticker, is_func, is_chan, capacity_of}
 use Rattle.gt_rules.specs.Panics.{panic_at}
 use Rattle.gt_rules.specs.Ready.{is_due, is_ready_alone, has_come}
 
@@ -41,13 +41,25 @@ pub record Operates (script : Script) (s : State) (p : Party) (kind : CaseKind) 
   pub stands : operation_at script s p ≡ Some kind
   pub calm : panic_at script s p.g ≡ None
 
--- what `stop` and `reset` answer: whether the timer is set
+-- what `stop` and `reset` answer: whether the timer is set; nothing of a ticker
 abbrev pub was_set : Script → State → ℕ → Option Bool
-was_set script s t = Some (is_some (due_of s t))
+was_set script s t = cond (is_ticker script t) None (Some (is_some (due_of s t)))
+
+-- The tick that is next once the one at v has been received at a clock: some periods later, the last one but one of which has begun by then. So a slow
+-- receiver misses ticks, and gets none early (Go 1.23, package time: "The ticker will adjust the time interval or drop ticks to make up for slow receivers")
+pub record IsNextTick (now v period next : ℕ) : Type 0 where
+  pub ticks : ℕ
+  pub some : 1 ≤ ticks
+  pub begun : v + (ticks - 1) * period ≤ now
+  pub is : next ≡ min greatest_time (v + ticks * period)
 
 -- the due time after a receive of v: a timer that ticks once has none
+abbrev pub LeavesBy : Bool → ℕ → ℕ → ℕ → Option ℕ → Type 0
+LeavesBy true now v period next = IsSomeAnd next (λ at. IsNextTick now v period at)
+LeavesBy false now v period next = next ≡ None
+
 abbrev pub LeavesDue : Script → State → ℕ → ℕ → ℕ → Option ℕ → Type 0
-LeavesDue script s now t v next = next ≡ None
+LeavesDue script s now t v next = LeavesBy (is_ticker script t) now v (period_at s t) next
 
 -- what a receive from a channel gives: its first value, or none where it is closed and keeps none
 abbrev pub Gives : State → ℕ → Option ℕ → Type 0

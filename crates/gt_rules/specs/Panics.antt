@@ -1,8 +1,9 @@
 -- What ends a run: the misuse of an object.
-use Rattle.std.specs.Prelude.{ℕ, ◌+◌, Bool, true, false, not, cond, is_some, is_none, List, [], ◌∷◌}
+use Rattle.std.specs.Prelude.{ℕ, ◌+◌, ◌==◌, ◌&&◌, Bool, true, false, not, cond, is_some, is_none, List, [], ◌∷◌}
 use Rattle.std.specs.declared.option.Option.{Option}
 use Rattle.std.specs.declared.option.Option.TheVariants.{None, Some}
 use Rattle.gt_model.specs.declared.script.Script.{Script}
+use Rattle.gt_model.specs.Script.{is_ticker}
 use Rattle.gt_model.specs.declared.script.Instr.{Instr}
 use Rattle.gt_model.specs.declared.script.Case.{Case}
 use Rattle.gt_model.specs.declared.script.CaseKind.{CaseKind}
@@ -38,11 +39,15 @@ abbrev pub faulty_case : State → ℕ → List Case → ℕ
 faulty_case s n [] = n
 faulty_case s n (c ∷ cases) = cond (is_some (case_fault s c.kind)) n (faulty_case s (n + 1) cases)
 
+-- a ticker without a time between its ticks (Go 1.23, package time: NewTicker and Reset panic where d is not above 0)
+abbrev pub zero_ticker : Script → ℕ → ℕ → Option Reason
+zero_ticker script t d = when (is_ticker script t && d == 0) Reason.Ticker
+
 -- the first misuse of an instruction
 abbrev pub fault : Script → State → Instr → Option Reason
-fault script s (Instr.New t d) = when (is_some (timer_at s t)) Reason.Twice
+fault script s (Instr.New t d) = or_else (when (is_some (timer_at s t)) Reason.Twice) (zero_ticker script t d)
 fault script s (Instr.Stop t) = when (is_none (timer_at s t)) Reason.Unmade
-fault script s (Instr.Reset t d) = when (is_none (timer_at s t)) Reason.Unmade
+fault script s (Instr.Reset t d) = or_else (when (is_none (timer_at s t)) Reason.Unmade) (zero_ticker script t d)
 fault script s (Instr.Recv o) = when (not (is_made s o)) Reason.Unmade
 fault script s (Instr.Make c) = when (is_some (channel_at s c)) Reason.Twice
 fault script s (Instr.Send c v) = open_fault s c

@@ -38,6 +38,7 @@ has_partner script s counts me (CaseKind.Send c v) = capacity_of script c == 0 &
 abbrev pub is_ready_recv : State → (ℕ → Bool) → ℕ → Option What → Bool
 is_ready_recv s timed o None = false
 is_ready_recv s timed o (Some What.Timer) = timed o
+is_ready_recv s timed o (Some What.Ticker) = timed o
 is_ready_recv s timed o (Some (What.AfterFunc func)) = false
 is_ready_recv s timed o (Some (What.Chan cap)) = nat_lt 0 (item_count s o) || is_closed s o
 is_ready_recv s timed o (Some What.Function) = false

@@ -68,6 +68,10 @@ timer_at s t = at s.timers t
 abbrev pub due_of : State → ℕ → Option ℕ
 due_of s t = elim (timer_at s t) [ None ↦ None | Some r ↦ r.due ]
 
+-- the time between two ticks of a timer
+abbrev pub period_at : State → ℕ → ℕ
+period_at s t = elim (timer_at s t) [ None ↦ 0 | Some r ↦ r.period ]
+
 abbrev pub channel_at : State → ℕ → Option Channel
 channel_at s c = at s.channels c
 

@@ -123,6 +123,7 @@ first-kind script limits h id w (Some kind) empty is what bits =
   where
     kinds : (w : What) (kind : RecKind) → kind_of_what w ≡ Some kind → kind ≡ kind_at w
     kinds What.Timer kind e = cc
+    kinds What.Ticker kind e = cc
     kinds (What.AfterFunc f) kind e = cc
     kinds (What.Chan cap) kind e = cc
     kinds What.Function kind e = cc

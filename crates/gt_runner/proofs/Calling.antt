@@ -23,11 +23,11 @@ use Rattle.gt_rules.specs.After.{new_period}
 use Rattle.gt_chtimer.proofs.Setting.{names-setting}
 use Rattle.gt_facts.proofs.Lookups.{Standing, standing, names-instr_at}
 use Rattle.gt_rec.specs.declared.RecKind.{RecKind}
-use Rattle.gt_rec.specs.Rec.{Rec, shown}
+use Rattle.gt_rec.specs.Rec.{Rec}
 use Rattle.gt_rows.specs.Agrees.{kind_by, kind_of_what, of_declaration}
 use Rattle.gt_rows.specs.declared.answers.SetDone.{SetDone}
 use Rattle.gt_rows.specs.Lent.{IsLent, IsKept}
-use Rattle.gt_rows.specs.Rows.{Parts, sets, SetsAt, SetsBy, SetRow, Arms, UnlessOver, next_of}
+use Rattle.gt_rows.specs.Rows.{Parts, answer_of, sets, SetsAt, SetsBy, SetRow, Arms, UnlessOver, next_of}
 use Rattle.gt_schedule.specs.declared.status.RunStatus.{RunStatus}
 use Rattle.gt_schedule.specs.Schedule.{at_case, Schedule, status_of, Served}
 use Rattle.gt_schedule.proofs.Counting.{count-cons}
@@ -146,6 +146,7 @@ some-kind (Some decl) h = of_what decl.what h
   where
     of_what : (w : What) → (names_timer (Some w) || names_func (Some w)) ≡ true → (kind : RecKind) × (kind_of_what w ≡ Some kind)
     of_what What.Timer h = (RecKind.Timer, refl)
+    of_what What.Ticker h = (RecKind.Ticker, refl)
     of_what (What.AfterFunc f) h = (RecKind.Func, refl)
     of_what (What.Chan cap) h = cc
     of_what What.Function h = cc
@@ -337,15 +338,15 @@ wants-sets v g t w =
 -- ---- setting a timer
 
 -- the entry of a setting touches no other record and moves no clock, and its goroutine may make it
-set-leaves : (v : BookView) (g t due : ℕ) (anew was : Bool) (j : ℕ) → sleeps_until v.state g ≡ None → j ≢ t → Leaves v (change_of (set_entry g t anew was due)) j
+set-leaves : (v : BookView) (g t due : ℕ) (anew : Bool) (was : Option Bool) (j : ℕ) → sleeps_until v.state g ≡ None → j ≢ t → Leaves v (change_of (set_entry g t anew was due)) j
 set-leaves v g t due true was j awake n = record { timer = λ e. n (sym e); mover = inr (awake, refl); partner = tt }
 set-leaves v g t due false was j awake n = record { timer = λ e. n (sym e); mover = inr (awake, refl); partner = tt }
 
-set-served : (v : BookView) (g t due : ℕ) (anew was : Bool) → status_of v.schedule g ≡ Some RunStatus.InHand → Served v.schedule (set_entry g t anew was due)
+set-served : (v : BookView) (g t due : ℕ) (anew : Bool) (was : Option Bool) → status_of v.schedule g ≡ Some RunStatus.InHand → Served v.schedule (set_entry g t anew was due)
 set-served v g t due true was in_hand = (in_hand-goes (status_of v.schedule g) in_hand, tt)
 set-served v g t due false was in_hand = (in_hand-goes (status_of v.schedule g) in_hand, tt)
 
-set-no_clock : (v : BookView) (g t due : ℕ) (anew was : Bool) → ClockJumps v.script 0 v.state (set_entry g t anew was due)
+set-no_clock : (v : BookView) (g t due : ℕ) (anew : Bool) (was : Option Bool) → ClockJumps v.script 0 v.state (set_entry g t anew was due)
 set-no_clock v g t due true was = tt
 set-no_clock v g t due false was = tt
 
@@ -362,7 +363,7 @@ after-set x x' g t r r' done ready wants h there records_are spare noted_is row 
     let new : Parts = record { heap = x'.heap; rec = r'; book = x'.book } in
     let by : SetsBy old g new done (next_of x.book g) = running-row x.book SetDone.Over done (new ≡ old) (SetsBy old g new done (next_of x.book g)) ready.running row in
     let arms = subst (SetsBy old g new done) wants.wants by in
-    let was : Bool = is_some (shown r) in
+    let was : Option Bool = answer_of r in
     let due : ℕ = due_at (clock_of x.book.state g) wants.d in
     after-armed x x' g t r r' (set_entry g t wants.anew was due) due (new_period x.book.script x.book.state g t) done ready (record {
       there = there;

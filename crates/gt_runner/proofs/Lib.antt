@@ -9,6 +9,7 @@ pub mod Named
 pub mod Watching
 pub mod Needing
 pub mod Touching
+pub mod Receiving
 pub mod Cleanings
 pub mod Calling
 pub mod Waiting

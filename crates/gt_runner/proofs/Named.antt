@@ -84,6 +84,7 @@ due-setting v t w lawful e =
 what-plain : (o : Option What) → names_timer o ≡ true → names_chan o ≡ false
 what-plain None h = cc
 what-plain (Some What.Timer) h = refl
+what-plain (Some What.Ticker) h = refl
 what-plain (Some (What.AfterFunc f)) h = cc
 what-plain (Some (What.Chan cap)) h = cc
 what-plain (Some What.Function) h = cc

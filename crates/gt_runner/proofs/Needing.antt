@@ -31,16 +31,22 @@ shown-when r ready sent =
 
 -- ---- where a record's time stands
 
--- a channel timer, an AfterFunc timer, or a goroutine's sleep
-pub kind-timer : (o : Option Decl) → (elim o as (λ _. Option RecKind) [ None ↦ Some RecKind.Sleep | Some decl ↦ kind_of_what decl.what ]) ≡ Some RecKind.Timer → names_timer (option_map (λ (d : Decl). d.what) o) ≡ true
-kind-timer None e = cc
-kind-timer (Some decl) e = of_what decl.what e
+both-ways : (b : Bool) → b ≡ true → b ≡ false → ⊥
+both-ways true e h = cc
+both-ways false e h = cc
+
+-- a timer that gives values, an AfterFunc timer, or a goroutine's sleep
+pub channel-timer : (o : Option Decl) (kind : RecKind) → (elim o as (λ _. Option RecKind) [ None ↦ Some RecKind.Sleep | Some decl ↦ kind_of_what decl.what ]) ≡ Some kind → has_channel kind ≡ true
+    → names_timer (option_map (λ (d : Decl). d.what) o) ≡ true
+channel-timer None kind e h = let is : RecKind.Sleep ≡ kind = cc in absurd (both-ways (has_channel kind) h (ap has_channel (sym is)))
+channel-timer (Some decl) kind e h = of_what decl.what kind e h
   where
-    of_what : (w : What) → kind_of_what w ≡ Some RecKind.Timer → names_timer (Some w) ≡ true
-    of_what What.Timer e = refl
-    of_what (What.AfterFunc f) e = cc
-    of_what (What.Chan cap) e = cc
-    of_what What.Function e = cc
+    of_what : (w : What) (kind : RecKind) → kind_of_what w ≡ Some kind → has_channel kind ≡ true → names_timer (Some w) ≡ true
+    of_what What.Timer kind e h = refl
+    of_what What.Ticker kind e h = refl
+    of_what (What.AfterFunc f) kind e h = let is : RecKind.Func ≡ kind = cc in absurd (both-ways (has_channel kind) h (ap has_channel (sym is)))
+    of_what (What.Chan cap) kind e h = cc
+    of_what What.Function kind e h = cc
 
 kind-func : (o : Option Decl) → (elim o as (λ _. Option RecKind) [ None ↦ Some RecKind.Sleep | Some decl ↦ kind_of_what decl.what ]) ≡ Some RecKind.Func → names_func (option_map (λ (d : Decl). d.what) o) ≡ true
 kind-func None e = cc
@@ -48,6 +54,7 @@ kind-func (Some decl) e = of_what decl.what e
   where
     of_what : (w : What) → kind_of_what w ≡ Some RecKind.Func → names_func (Some w) ≡ true
     of_what What.Timer e = cc
+    of_what What.Ticker e = cc
     of_what (What.AfterFunc f) e = refl
     of_what (What.Chan cap) e = cc
     of_what What.Function e = cc
@@ -58,26 +65,25 @@ kind-sleep (Some decl) e = absurd (of_what decl.what e)
   where
     of_what : (w : What) → kind_of_what w ≡ Some RecKind.Sleep → ⊥
     of_what What.Timer e = cc
+    of_what What.Ticker e = cc
     of_what (What.AfterFunc f) e = cc
     of_what (What.Chan cap) e = cc
     of_what What.Function e = cc
 
 kind-other : (o : Option Decl) (kind : RecKind) → (elim o as (λ _. Option RecKind) [ None ↦ Some RecKind.Sleep | Some decl ↦ kind_of_what decl.what ]) ≡ Some kind
-    → (kind ≡ RecKind.Ticker → ⊥) × (kind ≡ RecKind.Deadline → ⊥)
-kind-other None kind e = let is : RecKind.Sleep ≡ kind = cc in (λ h. cc, λ h. cc)
-kind-other (Some decl) kind e = of_what decl.what kind e
+    → kind ≡ RecKind.Deadline → ⊥
+kind-other None kind e h = cc
+kind-other (Some decl) kind e h = of_what decl.what kind e h
   where
-    of_what : (w : What) (kind : RecKind) → kind_of_what w ≡ Some kind → (kind ≡ RecKind.Ticker → ⊥) × (kind ≡ RecKind.Deadline → ⊥)
-    of_what What.Timer kind e = let is : RecKind.Timer ≡ kind = cc in (λ h. cc, λ h. cc)
-    of_what (What.AfterFunc f) kind e = let is : RecKind.Func ≡ kind = cc in (λ h. cc, λ h. cc)
-    of_what (What.Chan cap) kind e = cc
-    of_what What.Function kind e = cc
-
-pub never-ticker : (script : Script) (id : ℕ) (r : Rec) → kind_by script id ≡ Some r.kind → r.kind ≡ RecKind.Ticker → ⊥
-never-ticker script id r e = (kind-other (of_declaration script id) r.kind e).0
+    of_what : (w : What) (kind : RecKind) → kind_of_what w ≡ Some kind → kind ≡ RecKind.Deadline → ⊥
+    of_what What.Timer kind e h = cc
+    of_what What.Ticker kind e h = cc
+    of_what (What.AfterFunc f) kind e h = cc
+    of_what (What.Chan cap) kind e h = cc
+    of_what What.Function kind e h = cc
 
 pub never-deadline : (script : Script) (id : ℕ) (r : Rec) → kind_by script id ≡ Some r.kind → r.kind ≡ RecKind.Deadline → ⊥
-never-deadline script id r e = (kind-other (of_declaration script id) r.kind e).1
+never-deadline script id r e h = kind-other (of_declaration script id) r.kind e h
 
 pub get-none : {X : Type 0} (xs : List X) (i : ℕ) → slice_get xs i ≡ None → length xs ≤ i
 get-none [] i e = omega arith
@@ -179,6 +185,28 @@ pub needs-some : (a b : Bool) (w : Option ℕ) → (is_some w && (not a || b)) �
 needs-some true b w e h = right-of (is_some w) b e
 needs-some false b w e h = cc
 
+or-first : (a b : Bool) → a ≡ true → (a || b) ≡ true
+or-first true b e = refl
+or-first false b e = cc
+
+or-second : (a b : Bool) → b ≡ true → (a || b) ≡ true
+or-second true b e = refl
+or-second false b e = e
+
+-- somebody waits at a timer whose record needs the heap
+channel-counted : (x : Runner) (id w : ℕ) (r : Rec) → IsLawful x.book → NobodyRuns x.book → ((h : ℕ) → MarkFitsAt x.book.script x.book.state x.book.schedule h)
+    → r.id ≡ id → IsWatched x.book x.heap x.noted r → needs_heap r ≡ true → has_channel r.kind ≡ true → kind_by x.book.script id ≡ Some r.kind
+    → due_by x.book.script x.book.state id ≡ Some w → counted_of x.book.script x.book.state id ≡ Some w
+channel-counted x id w r lawful nobody fit is watched needs channel kind due =
+    let v : BookView = x.book in
+    let named : names_timer (what_at v.script id) ≡ true = channel-timer (of_declaration v.script id) r.kind kind channel in
+    let within : id < length v.script.decls = named-within v.script id names_timer refl named in
+    let blocked : 0 < r.blocked = ltb-true 0 r.blocked (needs-some (has_channel r.kind) (nat_lt 0 r.blocked) r.when needs channel) in
+    let count : r.blocked ≡ mark_count v.schedule id = watched.blocked channel ∙ ap (mark_count v.schedule) is in
+    let receiver = marked-receiver x id lawful nobody fit (omega arith) in
+    counted-declared v.script v.state id within
+    ∙ timer-counts v id w lawful (or-second (is_func v.script id) _ (receiver-awaited v id receiver.0 lawful receiver.1)) (sym (due-declared v.script v.state id within) ∙ due)
+
 pub needs-counted : (x : Runner) (id w : ℕ) (r : Rec) → IsLawful x.book → NobodyRuns x.book → ((h : ℕ) → MarkFitsAt x.book.script x.book.state x.book.schedule h)
     → r.id ≡ id → IsWatched x.book x.heap x.noted r → needs_heap r ≡ true → r.when ≡ Some w → counted_of x.book.script x.book.state id ≡ Some w
 needs-counted x id w r lawful nobody fit is watched needs at =
@@ -187,14 +215,8 @@ needs-counted x id w r lawful nobody fit is watched needs at =
     let due : due_by v.script v.state id ≡ Some w =
     ap (due_by v.script v.state) (sym is) ∙ (sym watched.kept.rec.agrees.shown ∙ (shown-when r watched.none_ready watched.none_sent ∙ at)) in
     elim r.kind as (λ k. r.kind ≡ k → kind_by v.script id ≡ Some k → counted_of v.script v.state id ≡ Some w) [
-      | RecKind.Timer ↦ λ q k.
-          let named : names_timer (what_at v.script id) ≡ true = kind-timer (of_declaration v.script id) k in
-          let within : id < length v.script.decls = named-within v.script id names_timer refl named in
-          let blocked : 0 < r.blocked = ltb-true 0 r.blocked (needs-some (has_channel r.kind) (nat_lt 0 r.blocked) r.when needs (ap has_channel q)) in
-          let count : r.blocked ≡ mark_count v.schedule id = watched.blocked (ap has_channel q) ∙ ap (mark_count v.schedule) is in
-          let receiver = marked-receiver x id lawful nobody fit (omega arith) in
-          counted-declared v.script v.state id within
-          ∙ timer-counts v id w lawful (or-second (is_func v.script id) _ (receiver-awaited v id receiver.0 lawful receiver.1)) (sym (due-declared v.script v.state id within) ∙ due)
+      | RecKind.Timer ↦ λ q k. channel-counted x id w r lawful nobody fit is watched needs (ap has_channel q) kind due
+      | RecKind.Ticker ↦ λ q k. channel-counted x id w r lawful nobody fit is watched needs (ap has_channel q) kind due
       | RecKind.Func ↦ λ q k.
           let named : names_func (what_at v.script id) ≡ true = kind-func (of_declaration v.script id) k in
           let within : id < length v.script.decls = named-within v.script id names_func refl named in
@@ -203,17 +225,8 @@ needs-counted x id w r lawful nobody fit is watched needs at =
       | RecKind.Sleep ↦ λ q k.
           let behind : length v.script.decls ≤ id = get-none v.script.decls id (kind-sleep (of_declaration v.script id) k) in
           counted-slept v.script v.state id behind ∙ sleep-counts v (id - length v.script.decls) w lawful (sym (due-slept v.script v.state id behind) ∙ due)
-      | RecKind.Ticker ↦ λ q k. absurd ((kind-other (of_declaration v.script id) RecKind.Ticker k).0 refl)
-      | RecKind.Deadline ↦ λ q k. absurd ((kind-other (of_declaration v.script id) RecKind.Deadline k).1 refl)
+      | RecKind.Deadline ↦ λ q k. absurd (kind-other (of_declaration v.script id) RecKind.Deadline k refl)
     ] refl kind
-  where
-    or-first : (a b : Bool) → a ≡ true → (a || b) ≡ true
-    or-first true b e = refl
-    or-first false b e = cc
-
-    or-second : (a b : Bool) → b ≡ true → (a || b) ≡ true
-    or-second true b e = refl
-    or-second false b e = e
 
 -- ---- a time that counts is shown by a record that needs the heap
 
@@ -254,13 +267,10 @@ not-named (Some decl) e = of_what decl.what e
   where
     of_what : (w : What) → kind_of_what w ≡ None → (names_func (Some w) ≡ false) × (names_timer (Some w) ≡ false)
     of_what What.Timer e = cc
+    of_what What.Ticker e = cc
     of_what (What.AfterFunc f) e = cc
     of_what (What.Chan cap) e = (refl, refl)
     of_what What.Function e = (refl, refl)
-
-both-ways : (b : Bool) → b ≡ true → b ≡ false → ⊥
-both-ways true e h = cc
-both-ways false e h = cc
 
 neither : (a b : Bool) → (a || b) ≡ true → a ≡ false → b ≡ false → ⊥
 neither true b h p q = cc
@@ -269,20 +279,10 @@ neither false b h p q = both-ways b h q
 func-not_timer : (o : Option What) → names_func o ≡ true → names_timer o ≡ true → ⊥
 func-not_timer None e h = cc
 func-not_timer (Some What.Timer) e h = cc
+func-not_timer (Some What.Ticker) e h = cc
 func-not_timer (Some (What.AfterFunc f)) e h = cc
 func-not_timer (Some (What.Chan cap)) e h = cc
 func-not_timer (Some What.Function) e h = cc
-
-channel-timer : (o : Option Decl) (kind : RecKind) → (elim o as (λ _. Option RecKind) [ None ↦ Some RecKind.Sleep | Some decl ↦ kind_of_what decl.what ]) ≡ Some kind → has_channel kind ≡ true
-    → names_timer (option_map (λ (d : Decl). d.what) o) ≡ true
-channel-timer None kind e h = let is : RecKind.Sleep ≡ kind = cc in absurd (both-ways (has_channel kind) h (ap has_channel (sym is)))
-channel-timer (Some decl) kind e h = of_what decl.what kind e h
-  where
-    of_what : (w : What) (kind : RecKind) → kind_of_what w ≡ Some kind → has_channel kind ≡ true → names_timer (Some w) ≡ true
-    of_what What.Timer kind e h = refl
-    of_what (What.AfterFunc f) kind e h = let is : RecKind.Func ≡ kind = cc in absurd (both-ways (has_channel kind) h (ap has_channel (sym is)))
-    of_what (What.Chan cap) kind e h = cc
-    of_what What.Function kind e h = cc
 
 declared-needing : (x : Runner) (id w : ℕ) → IsLawful x.book → NobodyRuns x.book → IsServed x → id < length x.book.script.decls → Counts x.book id w → Needing x id w
 declared-needing x id w lawful nobody served within c =

@@ -11,7 +11,7 @@ use Rattle.gt_rules.specs.State.{State, clock, clock_of}
 use Rattle.gt_rules.specs.Operations.{offers, receives_from}
 use Rattle.gt_rules.specs.Panics.{fault}
 use Rattle.gt_facts.proofs.Lookups.{offers-operation}
-use Rattle.gt_rec.specs.Rec.{Rec, has_channel, needs_heap}
+use Rattle.gt_rec.specs.Rec.{Rec, has_channel}
 use Rattle.gt_rec.specs.Changes.{received, taken}
 use Rattle.gt_lazy.specs.Slots.{LazyHeap, slot_with}
 use Rattle.gt_schedule.specs.Counts.{as_number}
@@ -29,12 +29,12 @@ use Rattle.gt_rows.specs.Rows.{Pair, PollsAt, PollsBy, PollsFor, PollRow, polls_
 use Rattle.gt_chtimer.proofs.Polling.{Comes, comes}
 use Rattle.gt_runner.specs.declared.runner.Runner.{Runner}
 use Rattle.gt_runner.specs.Calls.{After, HasRecord, Ready}
-use Rattle.gt_runner.specs.Served.{IsWatched, is_heaped}
+use Rattle.gt_runner.specs.Served.{is_heaped}
 use Rattle.gt_runner.proofs.Calling.{record-is, after-enters, in_hand-awake, running-row, setting-record}
-use Rattle.gt_runner.proofs.Needing.{never-ticker}
-use Rattle.gt_runner.proofs.Tending.{tended-touched}
-use Rattle.gt_runner.proofs.Touching.{rests-touches}
-use Rattle.gt_runner.proofs.Waiting.{received-none, channel-of}
+use Rattle.gt_runner.proofs.Tending.{KeepsNote, tended-touched}
+use Rattle.gt_runner.proofs.Touching.{note-same, rests-touches}
+use Rattle.gt_runner.proofs.Receiving.{taken-noted}
+use Rattle.gt_runner.proofs.Waiting.{channel-of}
 
 -- ---- where it stands
 
@@ -123,17 +123,19 @@ poll-stands x g t r ready next there =
 record HasPolled (x x' : Runner) (g t : ℕ) (r r' : Rec) : Type 0 where
   due : ℕ
   next : Option ℕ
+  value : received r (clock x.book.state 0) ≡ Some (due, next)
   entered : Enters x.book (Entry.TRecv (receiver_of x.book.script x.book.state g t) t due next) x'.book
-  rec_is : r' ≡ taken r None
+  rec_is : r' ≡ taken r next
 
-polled : (x x' : Runner) (g t : ℕ) (r r' : Rec) (reply : PollDone) (o : Option (ℕ × Option ℕ)) → r.id ≡ t → IsWatched x.book x.heap x.noted r
+polled : (x x' : Runner) (g t : ℕ) (r r' : Rec) (reply : PollDone) (o : Option (ℕ × Option ℕ)) → r.id ≡ t
     → received r (clock x.book.state 0) ≡ o → PollsFor (record { rec = r; book = x.book }) g (record { rec = r'; book = x'.book }) reply o → HasPolled x x' g t r r'
-polled x x' g t r r' reply None its watched is row = absurd row
-polled x x' g t r r' reply (Some o) its watched is row = record {
+polled x x' g t r r' reply None its is row = absurd row
+polled x x' g t r r' reply (Some o) its is row = record {
   due = o.0;
   next = o.1;
+  value = is;
   entered = subst (λ i. Enters x.book (Entry.TRecv (receiver_of x.book.script x.book.state g i) i o.0 o.1) x'.book) its row.entered;
-  rec_is = row.rec ∙ ap (taken r) (received-none r (clock x.book.state 0) o (never-ticker x.book.script r.id r watched.kept.rec.agrees.kind) is);
+  rec_is = row.rec;
 }
 
 pub after-poll : (x x' : Runner) (g t : ℕ) (r r' : Rec) (reply : PollDone) → Ready x g → next_of x.book g ≡ Some (Step.Needs (TimerOp.Poll t))
@@ -145,10 +147,11 @@ after-poll x x' g t r r' reply ready next there records_are spare noted_is heap_
     let new : Pair = record { rec = r'; book = x'.book } in
     let by : PollsBy old g new reply (next_of x.book g) = running-row x.book PollDone.Over reply (new ≡ old) (PollsBy old g new reply (next_of x.book g)) ready.running row in
     let p : HasPolled x x' g t r r' =
-    polled x x' g t r r' reply (received r (clock x.book.state 0)) own.1 own.2 refl (subst (PollsBy old g new reply) next by) in
+    polled x x' g t r r' reply (received r (clock x.book.state 0)) own.1 refl (subst (PollsBy old g new reply) next by) in
     let same_heaped : r'.heaped ≡ r.heaped = ap (λ (r : Rec). r.heaped) p.rec_is in
     let number_is : x'.heap.number ≡ x.heap.number = ap (λ (h : LazyHeap). h.number) heap_is in
     let placed : IsPlaced x.heap r' = subst (IsPlaced x.heap) (sym p.rec_is) (record { here = own.2.kept.placed.here; elsewhere = own.2.kept.placed.elsewhere }) in
+    let notes : KeepsNote x.noted x'.noted = note-same x.noted x'.noted noted_is in
     after-enters x x' g _ ready p.entered (in_hand-goes (status_of x.book.schedule g) ready.alone.in_hand, tt) tt
     (tended-touched x x' t r r' ready.served.tended (rests-touches x x' t r r' _ ready.lawful (record {
       there = there;
@@ -156,7 +159,7 @@ after-poll x x' g t r r' reply ready next there records_are spare noted_is heap_
       watched = own.2;
       records_are = records_are;
       spare = spare;
-      noted_is = noted_is;
+      notes = notes;
       enters = p.entered;
       leaves = λ j n. record { timer = λ e. n (sym e); mover = inr (in_hand-awake x.book g ready.lawful ready.alone.in_hand, refl); partner = tt };
       slots = λ j n. ap (λ (h : LazyHeap). slot_with h.slots j) heap_is;
@@ -167,7 +170,7 @@ after-poll x x' g t r r' reply ready next there records_are spare noted_is heap_
       same_kind = ap (λ (r : Rec). r.kind) p.rec_is;
       same_blocked = ap (λ (r : Rec). r.blocked) p.rec_is;
       inside = λ some. same_heaped ∙ (own.2.inside (subst IsSome same_heaped some) ∙ ap Some (sym number_is));
-      needs_not = ap needs_heap p.rec_is;
+      needs = taken-noted x.book x.heap x.noted x'.noted r r' (p.due, p.next) ready.lawful own.2 p.value p.rec_is notes;
       none_ready = ap (λ (r : Rec). r.ready) p.rec_is;
       none_sent = ap (λ (r : Rec). r.sending) p.rec_is;
     })))

@@ -1,5 +1,5 @@
 -- The head whose time has come is served: one entry is made, and the run is tended as before.
-use Rattle.std.proofs.Common.{◌≡◌, ◌≢◌, ℕ, zero, suc, ◌+◌, ◌-◌, ◌<◌, ◌≤◌, nat_lt, nat_le, if◌then◌else◌, List, [], ◌∷◌, length, set, slice_get, refl, sym, ap, subst, ◌∙◌, arith, Option, None, Some, IsSome, IsSomeAnd, MatchOption, Bool, true, false, not, ◌&&◌, ◌||◌, is_some, is_none, eq-eqb, inl, inr}
+use Rattle.std.proofs.Common.{◌≡◌, ◌≢◌, ℕ, zero, suc, ◌+◌, ◌-◌, ◌<◌, ◌≤◌, nat_lt, nat_le, if◌then◌else◌, List, [], ◌∷◌, length, set, slice_get, refl, sym, ap, subst, ◌∙◌, arith, Option, None, Some, IsSome, IsSomeAnd, MatchOption, Bool, true, false, not, ◌&&◌, ◌||◌, is_some, is_none, eq-eqb, unwrap_or, ◌==◌, inl, inr}
 use Rattle.std.specs.Option.{option_or, option_map, option_and_then}
 use Rattle.std.proofs.lemmas.Bool.{le-ltb, le-leb, ltb-true, eqb-true}
 use Rattle.gt_model.specs.declared.script.CaseKind.{CaseKind}
@@ -13,9 +13,9 @@ use Rattle.gt_rules.specs.Change.{change_of}
 use Rattle.gt_rules.specs.History.{ClockJumps}
 use Rattle.gt_facts.proofs.Lookups.{AtOperation, at_operation}
 use Rattle.gt_rec.specs.declared.RecKind.{RecKind}
-use Rattle.gt_rec.specs.Ticks.{due_left}
+use Rattle.gt_rec.specs.Ticks.{next_tick, due_left}
 use Rattle.gt_rec.specs.Rec.{Rec, needs_heap, has_channel, in_flight, due_of_send, shown, is_awaited}
-use Rattle.gt_rec.specs.Changes.{disarmed, out_of_heap, begun, send_begun, ended, received, taken}
+use Rattle.gt_rec.specs.Changes.{disarmed, out_of_heap, rekeyed, begun, send_begun, ended, received}
 use Rattle.gt_lazy.specs.Slots.{LazyHeap, Scans}
 use Rattle.gt_lazy.specs.Running.{is_stale, head_answer, head_run, due_answer, run_as, send_answer}
 use Rattle.gt_lazy.specs.declared.answer.Ran.{Ran}
@@ -34,12 +34,12 @@ use Rattle.gt_runner.specs.Serves.{IsIdleRun, IsDueHead, Passing}
 use Rattle.gt_runner.proofs.Fitting.{fit-enters, named-enters}
 use Rattle.gt_runner.proofs.Leaving.{Leaves}
 use Rattle.gt_runner.proofs.Tending.{tended-touched}
-use Rattle.gt_runner.proofs.Touching.{rests-touches}
+use Rattle.gt_runner.proofs.Touching.{IsNoted, needs-nothing, note-same, rests-touches}
 use Rattle.gt_model.specs.Script.{what_at, names_timer}
 use Rattle.gt_facts.proofs.Lookups.{sleeper}
 use Rattle.gt_rows.specs.Agrees.{kind_by, due_by, of_declaration}
 use Rattle.gt_runner.proofs.Watching.{marked-receiver, receiver-parked}
-use Rattle.gt_runner.proofs.Needing.{shown-when, kind-sleep, kind-timer, get-none, due-slept, never-ticker, never-deadline, needs-some, named-within}
+use Rattle.gt_runner.proofs.Needing.{shown-when, kind-sleep, channel-timer, get-none, due-slept, never-deadline, needs-some, named-within}
 use Rattle.gt_runner.proofs.Calling.{stands-awake}
 use Rattle.gt_runner.proofs.Waiting.{placed-same}
 use Rattle.gt_runner.proofs.Passes.{moves-enters}
@@ -79,9 +79,9 @@ run-due r now fresh come =
     ap (λ b. if b then Rattle.gt_lazy.specs.Cleaning.cleaned r else (if nat_lt now r.key then r else run_as r.kind r now)) fresh
     ∙ ap (λ b. if b then r else run_as r.kind r now) (le-ltb now r.key come)
 
--- ---- an entry after which the record has left the heap
+-- ---- an entry after which the head was run
 
-pub record Leaves_heap (x x' : Runner) (id : ℕ) (r r1 r' : Rec) (e : Entry) : Type 0 where
+pub record RunsHead (x x' : Runner) (id : ℕ) (r r1 r' : Rec) (e : Entry) : Type 0 where
   pub there : slice_get x.records.items id ≡ Some r
   pub id_is : r.id ≡ id
   pub watched : IsWatched x.book x.heap x.noted r
@@ -92,13 +92,14 @@ pub record Leaves_heap (x x' : Runner) (id : ℕ) (r r1 r' : Rec) (e : Entry) : 
   pub enters : Enters x.book e x'.book
   pub leaves : (j : ℕ) → j ≢ id → Leaves x.book (change_of e) j
   pub scans : Scans x.heap x'.heap 0 r r1
-  pub out : r1.heaped ≡ None
+  -- it has left the heap, or is there still
+  pub stays : IsSome r1.heaped → r1.heaped ≡ r.heaped
   pub kept : IsKept x'.book x'.heap r'
   pub same_id : r'.id ≡ r.id
   pub same_kind : r'.kind ≡ r.kind
   pub same_blocked : r'.blocked ≡ r.blocked
-  pub none_heaped : r'.heaped ≡ None
-  pub needs_not : needs_heap r' ≡ false
+  pub same_heaped : r'.heaped ≡ r1.heaped
+  pub needs : needs_heap r' ≡ true → IsNoted x'.noted r'
   pub none_ready : r'.ready ≡ None
   pub none_sent : r'.sending ≡ None
   pub served : Served x.book.schedule e
@@ -108,8 +109,12 @@ none-some : (o : Option ℕ) → o ≡ None → IsSome o → ⊥
 none-some None e h = cc
 none-some (Some q) e h = cc
 
-pub leaves-passing : (x x' : Runner) (id : ℕ) (r r1 r' : Rec) (e : Entry) → IsIdleRun x → Leaves_heap x x' id r r1 r' e → Passing x x'
-leaves-passing x x' id r r1 r' e idle c = record {
+room-scanned : (out : Bool) (was now before after : ℕ) → was ≡ 1 → now ≡ as_number out → after ≡ before + (if out then 0 else 1) → after + now ≡ before + was
+room-scanned true was now before after a b c = let one : now ≡ 1 = b in omega arith
+room-scanned false was now before after a b c = let none : now ≡ 0 = b in omega arith
+
+pub runs-passing : (x x' : Runner) (id : ℕ) (r r1 r' : Rec) (e : Entry) → IsIdleRun x → RunsHead x x' id r r1 r' e → Passing x x'
+runs-passing x x' id r r1 r' e idle c = record {
   moves = moves-enters x.book e x'.book idle.lawful c.enters c.clock idle.nobody.hands;
   served = λ _. record {
     tended = tended-touched x x' id r r' idle.served.tended (rests-touches x x' id r r' e idle.lawful (record {
@@ -118,22 +123,19 @@ leaves-passing x x' id r r1 r' e idle c = record {
       watched = c.watched;
       records_are = c.records_are;
       spare = c.spare;
-      noted_is = c.noted_is;
+      notes = note-same x.noted x'.noted c.noted_is;
       enters = c.enters;
       leaves = c.leaves;
       slots = λ j n. c.scans.entries.others j (λ e. n (e ∙ c.id_is));
       number_is = c.scans.number;
-      room =
-          (let was : as_number (is_heaped r) ≡ 1 = ap (λ o. as_number (is_some o)) c.heaped in
-          let now : as_number (is_heaped r') ≡ 0 = ap (λ o. as_number (is_some o)) c.none_heaped in
-          let free : x'.heap.spare ≡ x.heap.spare + 1 = c.scans.spare ∙ ap (λ o. x.heap.spare + (if is_some o then 0 else 1)) c.out in
-          omega arith);
+      room = room-scanned (is_some r1.heaped) (as_number (is_heaped r)) (as_number (is_heaped r')) x.heap.spare x'.heap.spare
+          (ap (λ o. as_number (is_some o)) c.heaped) (ap (λ o. as_number (is_some o)) c.same_heaped) c.scans.spare;
       kept = c.kept;
       same_id = c.same_id;
       same_kind = c.same_kind;
       same_blocked = c.same_blocked;
-      inside = λ some. absurd (none-some r'.heaped c.none_heaped some);
-      needs_not = c.needs_not;
+      inside = λ some. c.same_heaped ∙ (c.stays (subst IsSome c.same_heaped some) ∙ (c.heaped ∙ ap Some (sym c.scans.number)));
+      needs = c.needs;
       none_ready = c.none_ready;
       none_sent = c.none_sent;
     }));
@@ -162,7 +164,7 @@ fires-passing x x' id d r r' e reply idle is there records_are spare noted_is fi
     let stale : is_stale r ≡ false = subst (λ r. is_stale r ≡ false) is d.fresh in
     let come : r.key ≤ now = subst (λ (r : Rec). r.key ≤ now) is d.come in
     let rec_is : r' ≡ out_of_heap (disarmed r) = fires.rec ∙ (run-due r now stale come ∙ runs) in
-    leaves-passing x x' id r r' r' e idle (record {
+    runs-passing x x' id r r' r' e idle (record {
       there = there;
       id_is = subst (λ (r : Rec). r.id ≡ id) is d.id_is;
       watched = subst (IsWatched x.book x.heap x.noted) is d.watched;
@@ -173,13 +175,13 @@ fires-passing x x' id d r r' e reply idle is there records_are spare noted_is fi
       enters = fires.entered;
       leaves = leaves;
       scans = fires.scans;
-      out = ap (λ (r : Rec). r.heaped) rec_is;
+      stays = λ some. absurd (none-some r'.heaped (ap (λ (r : Rec). r.heaped) rec_is) some);
       kept = kept;
       same_id = ap (λ (r : Rec). r.id) rec_is;
       same_kind = ap (λ (r : Rec). r.kind) rec_is;
       same_blocked = ap (λ (r : Rec). r.blocked) rec_is;
-      none_heaped = ap (λ (r : Rec). r.heaped) rec_is;
-      needs_not = ap needs_heap rec_is;
+      same_heaped = refl;
+      needs = needs-nothing x'.noted r' (ap needs_heap rec_is);
       none_ready = ap (λ (r : Rec). r.ready) rec_is;
       none_sent = ap (λ (r : Rec). r.sending) rec_is;
       served = served;
@@ -268,6 +270,8 @@ heads-passing x x' id r r' reply idle d there records_are spare noted_is row kep
     let now : ℕ = clock x.book.state 0 in
     let plain : has_channel r.kind ≡ false → HeadBy (parts x r) (parts x' r') reply (Ran.Fired r.key r.seq None) = λ c.
     head-by x x' r r' reply (Ran.Fired r.key r.seq None) idle row (plain-answer r now c d.fresh d.come) in
+    let sent : has_channel r.kind ≡ true → HeadBy (parts x r) (parts x' r') reply (Ran.Fired r.key r.seq (begun r now).when) = λ c.
+    head-by x x' r r' reply (Ran.Fired r.key r.seq (begun r now).when) idle row (timer-answer r now r.key c d.fresh d.come d.watched.none_ready d.watched.none_sent d.at) in
     elim r.kind as (λ k. r.kind ≡ k → Passing x x') [
       | RecKind.Func ↦ λ k.
           let fires = subst (FiresAs (parts x r) r.seq (parts x' r') reply) k (plain (ap has_channel k)) in
@@ -278,21 +282,18 @@ heads-passing x x' id r r' reply idle d there records_are spare noted_is row kep
           let served = sleep-served x id r idle d k in
           fires-passing x x' id d.head r r' _ reply idle d.is there records_are spare noted_is fires kept (ap (λ k. run_as k r now) k)
           (λ j n. wake-leaves x.book (r.id - length x.book.script.decls) j (λ e. n (sym e ∙ served.0))) (parked-goes (status_of x.book.schedule (r.id - length x.book.script.decls)) served.1, tt) tt
-      | RecKind.Timer ↦ λ k.
-          let by = head-by x x' r r' reply (Ran.Fired r.key r.seq (begun r now).when) idle row (timer-answer r now r.key (ap has_channel k) d.fresh d.come d.watched.none_ready d.watched.none_sent d.at) in
-          let runs = subst (FiresAs (parts x r) r.seq (parts x' r') reply) k by in
-          absurd (other r.seq runs.answer)
-      | RecKind.Ticker ↦ λ k. absurd (never-ticker x.book.script r.id r d.watched.kept.rec.agrees.kind k)
+      | RecKind.Timer ↦ λ k. (let runs = subst (FiresAs (parts x r) r.seq (parts x' r') reply) k (sent (ap has_channel k)) in absurd (other r.seq runs.answer))
+      | RecKind.Ticker ↦ λ k. (let runs = subst (FiresAs (parts x r) r.seq (parts x' r') reply) k (sent (ap has_channel k)) in absurd (other r.seq runs.answer))
       | RecKind.Deadline ↦ λ k. absurd (never-deadline x.book.script r.id r d.watched.kept.rec.agrees.kind k)
     ] refl
 
 -- ---- a timer's send is delivered at once
 
--- only a timer begins a send
+-- only a timer that gives values begins a send
 pub record Sends (x : Runner) (b1 : BookView) (h1 : LazyHeap) (r r1 : Rec) (seq : ℕ) : Type 0 where
-  pub kind : r.kind ≡ RecKind.Timer
+  pub channel : has_channel r.kind ≡ true
   pub book_is : b1 ≡ x.book
-  pub rec_is : r1 ≡ out_of_heap (begun r (clock x.book.state 0))
+  pub rec_is : r1 ≡ run_as r.kind r (clock x.book.state 0)
   pub scans : Scans x.heap h1 0 r r1
   pub seq_is : seq ≡ r.seq
 
@@ -303,67 +304,133 @@ not-fired b reply seq h e =
       | Some outcome ↦ λ k. cc
     ] h
 
+runs-sends : (x x' : Runner) (id : ℕ) (r r' : Rec) (reply : HeadDone) (seq : ℕ) → Due x id r → has_channel r.kind ≡ true → Runs (parts x r) (parts x' r') reply (HeadDone.Send r.seq)
+    → reply ≡ HeadDone.Send seq → Sends x x'.book x'.heap r r' seq
+runs-sends x x' id r r' reply seq d channel runs e =
+    let answer : reply ≡ HeadDone.Send r.seq = runs.answer in
+    record {
+      channel = channel;
+      book_is = runs.book;
+      rec_is = runs.rec ∙ run-due r (clock x.book.state 0) d.fresh d.come;
+      scans = runs.scans;
+      seq_is = cc;
+    }
+
 pub head-sends : (x x' : Runner) (id : ℕ) (r r' : Rec) (reply : HeadDone) (seq : ℕ) → IsIdleRun x → Due x id r → HeadRow (parts x r) (parts x' r') reply → reply ≡ HeadDone.Send seq
     → Sends x x'.book x'.heap r r' seq
 head-sends x x' id r r' reply seq idle d row e =
     let now : ℕ = clock x.book.state 0 in
     let plain : has_channel r.kind ≡ false → HeadBy (parts x r) (parts x' r') reply (Ran.Fired r.key r.seq None) = λ c.
     head-by x x' r r' reply (Ran.Fired r.key r.seq None) idle row (plain-answer r now c d.fresh d.come) in
+    let sent : has_channel r.kind ≡ true → HeadBy (parts x r) (parts x' r') reply (Ran.Fired r.key r.seq (begun r now).when) = λ c.
+    head-by x x' r r' reply (Ran.Fired r.key r.seq (begun r now).when) idle row (timer-answer r now r.key c d.fresh d.come d.watched.none_ready d.watched.none_sent d.at) in
     elim r.kind as (λ k. r.kind ≡ k → Sends x x'.book x'.heap r r' seq) [
       | RecKind.Func ↦ λ k. (let fires = subst (FiresAs (parts x r) r.seq (parts x' r') reply) k (plain (ap has_channel k)) in absurd (not-fired x'.book reply seq fires.answer e))
       | RecKind.Sleep ↦ λ k. (let fires = subst (FiresAs (parts x r) r.seq (parts x' r') reply) k (plain (ap has_channel k)) in absurd (not-fired x'.book reply seq fires.answer e))
-      | RecKind.Timer ↦ λ k.
-          let by = head-by x x' r r' reply (Ran.Fired r.key r.seq (begun r now).when) idle row (timer-answer r now r.key (ap has_channel k) d.fresh d.come d.watched.none_ready d.watched.none_sent d.at) in
-          let runs = subst (FiresAs (parts x r) r.seq (parts x' r') reply) k by in
-          let answer : reply ≡ HeadDone.Send r.seq = runs.answer in
-          record {
-            kind = k;
-            book_is = runs.book;
-            rec_is = runs.rec ∙ (run-due r now d.fresh d.come ∙ ap (λ k. run_as k r now) k);
-            scans = runs.scans;
-            seq_is = cc;
-          }
-      | RecKind.Ticker ↦ λ k. absurd (never-ticker x.book.script r.id r d.watched.kept.rec.agrees.kind k)
+      | RecKind.Timer ↦ λ k. runs-sends x x' id r r' reply seq d (ap has_channel k) (subst (FiresAs (parts x r) r.seq (parts x' r') reply) k (sent (ap has_channel k))) e
+      | RecKind.Ticker ↦ λ k. runs-sends x x' id r r' reply seq d (ap has_channel k) (subst (FiresAs (parts x r) r.seq (parts x' r') reply) k (sent (ap has_channel k))) e
       | RecKind.Deadline ↦ λ k. absurd (never-deadline x.book.script r.id r d.watched.kept.rec.agrees.kind k)
     ] refl
 
--- what the record is whose send has begun
+-- the record whose send has begun: a ticker's is in the heap still
+pub record IsSent (r : Rec) (now : ℕ) (r1 : Rec) : Type 0 where
+  pub id : r1.id ≡ r.id
+  pub kind : r1.kind ≡ r.kind
+  pub period : r1.period ≡ r.period
+  pub seq : r1.seq ≡ r.seq
+  pub blocked : r1.blocked ≡ r.blocked
+  pub ready : r1.ready ≡ r.ready
+  pub sending : r1.sending ≡ option_or (send_begun r) r.sending
+  pub stays : IsSome r1.heaped → r1.heaped ≡ r.heaped
+
+sent-as : (k : RecKind) (r : Rec) (now : ℕ) → has_channel k ≡ true → IsSent r now (run_as k r now)
+sent-as RecKind.Timer r now channel =
+    record { id = refl; kind = refl; period = refl; seq = refl; blocked = refl; ready = refl; sending = refl; stays = λ some. absurd (none-some None refl some) }
+sent-as RecKind.Ticker r now channel =
+    record { id = refl; kind = refl; period = refl; seq = refl; blocked = refl; ready = refl; sending = refl; stays = λ some. refl }
+sent-as RecKind.Func r now channel = cc
+sent-as RecKind.Sleep r now channel = cc
+sent-as RecKind.Deadline r now channel = cc
+
+pub is-sent : (x : Runner) (b1 : BookView) (h1 : LazyHeap) (r r1 : Rec) (seq : ℕ) → Sends x b1 h1 r r1 seq → IsSent r (clock x.book.state 0) r1
+is-sent x b1 h1 r r1 seq s = subst (IsSent r (clock x.book.state 0)) (sym s.rec_is) (sent-as r.kind r (clock x.book.state 0) s.channel)
+
+-- what a receive takes from it
 pub record Begun (r : Rec) (now : ℕ) (r1 : Rec) : Type 0 where
   pub awaited : is_awaited r1 r.seq ≡ true
-  pub received_is : received (ended r1 r.seq) now ≡ Some (r.key, None)
+  pub received_is : received (ended r1 r.seq) now ≡ Some (r.key, due_left r.kind r.period r.key now)
 
-begun-is : (r : Rec) (now : ℕ) (r1 : Rec) → r.kind ≡ RecKind.Timer → r.ready ≡ None → r.sending ≡ None → r.when ≡ Some r.key → r.key ≤ now → r1 ≡ out_of_heap (begun r now) → Begun r now r1
-begun-is r now r1 kind ready sent at come is =
-    let b : Rec = out_of_heap (begun r now) in
-    let sending : b.sending ≡ Some (r.seq, r.key) = ap (λ o. option_or o r.sending) (timer-begins r r.key ready sent at) in
-    let flying : in_flight b ≡ Some r.key =
-    ap (λ o. due_of_send o r.seq) sending ∙ ap (λ q. if q then Some r.key else None) (eq-eqb r.seq r.seq refl) in
-    let awaited : is_awaited b r.seq ≡ true =
-    ap (λ q. q && is_none r.ready && is_some (in_flight b)) (eq-eqb r.seq r.seq refl)
-    ∙ (ap (λ o. is_none o && is_some (in_flight b)) ready ∙ ap is_some flying) in
-    let ready_now : (ended b r.seq).ready ≡ Some r.key = ap (λ q. if q then in_flight b else b.ready) awaited ∙ flying in
-    let shows : shown (ended b r.seq) ≡ Some r.key = ap (λ o. option_or o (option_or (in_flight (ended b r.seq)) (ended b r.seq).when)) ready_now in
-    let got : received (ended b r.seq) now ≡ Some (r.key, None) =
+received-shown : (r : Rec) (now due : ℕ) → shown r ≡ Some due → due ≤ now → received r now ≡ Some (due, due_left r.kind r.period due now)
+received-shown r now due shows come =
     ap (option_and_then (λ due. if nat_le due now then Some (due, due_left r.kind r.period due now) else None)) shows
-    ∙ (ap (λ q. if q then Some (r.key, due_left r.kind r.period r.key now) else None) (le-leb r.key now come)
-    ∙ ap (λ k. Some (r.key, due_left k r.period r.key now)) kind) in
-    subst (Begun r now) (sym is) (record { awaited = awaited; received_is = got })
+    ∙ ap (λ q. if q then Some (due, due_left r.kind r.period due now) else None) (le-leb due now come)
+
+begun-is : (r : Rec) (now : ℕ) (r1 : Rec) → r.ready ≡ None → r.sending ≡ None → r.when ≡ Some r.key → r.key ≤ now → IsSent r now r1 → Begun r now r1
+begun-is r now r1 ready sent at come s =
+    let sending : r1.sending ≡ Some (r.seq, r.key) = s.sending ∙ ap (λ o. option_or o r.sending) (timer-begins r r.key ready sent at) in
+    let same : (r.seq == r1.seq) ≡ true = eq-eqb r.seq r1.seq (sym s.seq) in
+    let flying : in_flight r1 ≡ Some r.key = ap (λ o. due_of_send o r1.seq) sending ∙ ap (λ q. if q then Some r.key else None) same in
+    let awaited : is_awaited r1 r.seq ≡ true =
+    ap (λ q. q && is_none r1.ready && is_some (in_flight r1)) same
+    ∙ (ap (λ o. is_none o && is_some (in_flight r1)) (s.ready ∙ ready) ∙ ap is_some flying) in
+    let ready_now : (ended r1 r.seq).ready ≡ Some r.key = ap (λ q. if q then in_flight r1 else r1.ready) awaited ∙ flying in
+    let shows : shown (ended r1 r.seq) ≡ Some r.key = ap (λ o. option_or o (option_or (in_flight (ended r1 r.seq)) (ended r1 r.seq).when)) ready_now in
+    let got : received (ended r1 r.seq) now ≡ Some (r.key, due_left r1.kind r1.period r.key now) = received-shown (ended r1 r.seq) now r.key shows come in
+    let kind : due_left r1.kind r1.period r.key now ≡ due_left r.kind r1.period r.key now = ap (λ k. due_left k r1.period r.key now) s.kind in
+    let period : due_left r.kind r1.period r.key now ≡ due_left r.kind r.period r.key now = ap (λ p. due_left r.kind p r.key now) s.period in
+    record { awaited = awaited; received_is = got ∙ ap (λ left. Some (r.key, left)) (kind ∙ period) }
+
+-- ---- what the receive leaves: a ticker stands in the heap under its next due time
+
+needs-when : (r : Rec) → r.when ≡ None → needs_heap r ≡ true → ⊥
+needs-when r none needs =
+    let off : needs_heap r ≡ false = ap (λ o. is_some o && (not (has_channel r.kind) || nat_lt 0 r.blocked)) none in
+    cc
+
+begun-when : (r : Rec) (now : ℕ) → r.when ≡ Some r.key → (begun r now).when ≡ due_left r.kind r.period r.key now
+begun-when r now at = ap (option_and_then (λ due. due_left r.kind r.period due now)) at
+
+ticker-noted : (r r1 r' : Rec) (now : ℕ) (noted : Option ℕ) → r.kind ≡ RecKind.Ticker → IsSome r.heaped → r.when ≡ Some r.key → r1 ≡ rekeyed (begun r now)
+    → r'.heaped ≡ r1.heaped → r'.key ≡ r1.key → r'.when ≡ due_left r.kind r.period r.key now → IsNoted noted r'
+ticker-noted r r1 r' now noted kind heaped at is same_heaped same_key when_is =
+    let tick : ℕ = next_tick r.key r.period now in
+    let left : due_left r.kind r.period r.key now ≡ Some tick = ap (λ k. due_left k r.period r.key now) kind in
+    let key : r'.key ≡ tick = same_key ∙ (ap (λ (r : Rec). r.key) is ∙ ap (λ o. unwrap_or o r.key) (begun-when r now at ∙ left)) in
+    record {
+      heaped = subst IsSome (sym (same_heaped ∙ ap (λ (r : Rec). r.heaped) is)) heaped;
+      early = λ w e low.
+          let due : tick ≡ w = (let both : Some tick ≡ Some w = sym (when_is ∙ left) ∙ e in cc) in
+          absurd (omega arith);
+    }
+
+sent-noted : (r r1 r' : Rec) (now : ℕ) (noted : Option ℕ) → has_channel r.kind ≡ true → IsSome r.heaped → r.when ≡ Some r.key → r1 ≡ run_as r.kind r now
+    → r'.heaped ≡ r1.heaped → r'.key ≡ r1.key → r'.when ≡ due_left r.kind r.period r.key now → needs_heap r' ≡ true → IsNoted noted r'
+sent-noted r r1 r' now noted channel heaped at is same_heaped same_key when_is needs =
+    elim r.kind as (λ k. r.kind ≡ k → IsNoted noted r') [
+      | RecKind.Timer ↦ λ k. absurd (needs-when r' (when_is ∙ ap (λ k. due_left k r.period r.key now) k) needs)
+      | RecKind.Ticker ↦ λ k. ticker-noted r r1 r' now noted k heaped at (is ∙ ap (λ k. run_as k r now) k) same_heaped same_key when_is
+      | RecKind.Func ↦ λ k. absurd (no-channel k refl)
+      | RecKind.Sleep ↦ λ k. absurd (no-channel k refl)
+      | RecKind.Deadline ↦ λ k. absurd (no-channel k refl)
+    ] refl
+  where
+    no-channel : {k : RecKind} → r.kind ≡ k → has_channel k ≡ false → ⊥
+    no-channel is h = let both : true ≡ false = sym channel ∙ (ap has_channel is ∙ h) in cc
 
 -- who waits longest there
 some-party : (ps : List Party) (p : Party) → 0 < often p ps → (q : Party) × (slice_get ps 0 ≡ Some q)
 some-party [] p h = absurd (omega arith)
 some-party (q ∷ qs) p h = (q, refl)
 
-pub waiter-there : (x : Runner) (id : ℕ) (r : Rec) → IsIdleRun x → Due x id r → r.kind ≡ RecKind.Timer → (p : Party) × (slice_get (parties_at x.book.schedule.receivers id) 0 ≡ Some p)
-waiter-there x id r idle d kind =
+pub waiter-there : (x : Runner) (id : ℕ) (r : Rec) → IsIdleRun x → Due x id r → has_channel r.kind ≡ true → (p : Party) × (slice_get (parties_at x.book.schedule.receivers id) 0 ≡ Some p)
+waiter-there x id r idle d channel =
     let v : BookView = x.book in
-    let channel : has_channel r.kind ≡ true = ap has_channel kind in
     let blocked : 0 < r.blocked = ltb-true 0 r.blocked (needs-some (has_channel r.kind) (nat_lt 0 r.blocked) r.when d.needs channel) in
     let count : r.blocked ≡ mark_count v.schedule id = d.watched.blocked channel ∙ ap (mark_count v.schedule) d.id_is in
     let receiver = marked-receiver x id idle.lawful idle.nobody idle.served.marks (omega arith) in
     let p : Party = receiver.0 in
     let parked : is_parked_at v.script v.state v.schedule p (receives_from id) ≡ true = receiver-parked v id p idle.lawful idle.nobody receiver.1 in
-    let named : names_timer (what_at v.script id) ≡ true = kind-timer (of_declaration v.script id) (ap (kind_by v.script) (sym d.id_is) ∙ (d.watched.kept.rec.agrees.kind ∙ ap Some kind)) in
+    let named : names_timer (what_at v.script id) ≡ true = channel-timer (of_declaration v.script id) r.kind (ap (kind_by v.script) (sym d.id_is) ∙ d.watched.kept.rec.agrees.kind) channel in
     let within : id < length v.script.decls = named-within v.script id names_timer refl named in
     let often_is : often p (parties_at v.schedule.receivers id) ≡ as_number (is_parked_at v.script v.state v.schedule p (receives_from id)) = idle.lawful.fits.waiting id p within in
     let one : as_number (is_parked_at v.script v.state v.schedule p (receives_from id)) ≡ 1 = ap as_number parked in
@@ -402,24 +469,27 @@ sends-passing x x' id seq r r1 r' b1 h1 reply idle d there s records_are spare n
     let new : Pair = record { rec = r'; book = x'.book } in
     let row_x : DeliverRow old seq new reply = subst (λ b. DeliverRow (record { rec = r1; book = b }) seq new reply) s.book_is row in
     let by : DeliversBy old seq new reply (is_awaited r1 seq) = by-delivering v reply (new ≡ old) (DeliversBy old seq new reply (is_awaited r1 seq)) idle.running row_x in
-    let b : Begun r now r1 = begun-is r now r1 s.kind d.watched.none_ready d.watched.none_sent d.at d.come s.rec_is in
+    let sent : IsSent r now r1 = is-sent x b1 h1 r r1 seq s in
+    let b : Begun r now r1 = begun-is r now r1 d.watched.none_ready d.watched.none_sent d.at d.come sent in
+    let left : Option ℕ = due_left r.kind r.period r.key now in
     let same_seq : seq ≡ r.seq = s.seq_is in
     let awaited : is_awaited r1 seq ≡ true = ap (is_awaited r1) same_seq ∙ b.awaited in
-    let got : received (ended r1 seq) now ≡ Some (r.key, None) = ap (λ k. received (ended r1 k) now) same_seq ∙ b.received_is in
+    let got : received (ended r1 seq) now ≡ Some (r.key, left) = ap (λ k. received (ended r1 k) now) same_seq ∙ b.received_is in
     let to : DeliversTo old (ended r1 seq) new reply (slice_get (parties_at v.schedule.receivers r1.id) 0) (received (ended r1 seq) now) = subst (DeliversBy old seq new reply) awaited by in
-    let id1 : r1.id ≡ id = ap (λ (r : Rec). r.id) s.rec_is ∙ d.id_is in
-    let waiter = waiter-there x id r idle d s.kind in
+    let id1 : r1.id ≡ id = sent.id ∙ d.id_is in
+    let waiter = waiter-there x id r idle d s.channel in
     let first : slice_get (parties_at v.schedule.receivers r1.id) 0 ≡ Some waiter.0 = ap (λ i. slice_get (parties_at v.schedule.receivers i) 0) id1 ∙ waiter.1 in
-    let gives : Gives old (ended r1 seq) waiter.0 r.key None new reply =
+    let gives : Gives old (ended r1 seq) waiter.0 r.key left new reply =
     subst (λ o. DeliversTo old (ended r1 seq) new reply (Some waiter.0) o) got (subst (λ o. DeliversTo old (ended r1 seq) new reply o (received (ended r1 seq) now)) first to) in
-    let enters : Enters v (Entry.TRecv waiter.0 id r.key None) x'.book = subst (λ i. Enters v (Entry.TRecv waiter.0 i r.key None) x'.book) id1 gives.entered in
-    let named : names_timer (what_at v.script id) ≡ true = kind-timer (of_declaration v.script id) (ap (kind_by v.script) (sym d.id_is) ∙ (d.watched.kept.rec.agrees.kind ∙ ap Some s.kind)) in
+    let enters : Enters v (Entry.TRecv waiter.0 id r.key left) x'.book = subst (λ i. Enters v (Entry.TRecv waiter.0 i r.key left) x'.book) id1 gives.entered in
+    let named : names_timer (what_at v.script id) ≡ true = channel-timer (of_declaration v.script id) r.kind (ap (kind_by v.script) (sym d.id_is) ∙ d.watched.kept.rec.agrees.kind) s.channel in
     let within : id < length v.script.decls = named-within v.script id names_timer refl named in
     let parked : is_parked_at v.script v.state v.schedule waiter.0 (receives_from id) ≡ true = first-waiting v.script v.state v.schedule waiter.0 id idle.lawful.fits within waiter.1 in
     let at = party-parked v waiter.0 id parked in
-    let rec_is : r' ≡ taken (ended (out_of_heap (begun r now)) seq) None = gives.rec ∙ ap (λ r. taken (ended r seq) None) s.rec_is in
+    let same_heaped : r'.heaped ≡ r1.heaped = ap (λ (r : Rec). r.heaped) gives.rec in
+    let same_key : r'.key ≡ r1.key = ap (λ (r : Rec). r.key) gives.rec in
     let same1 : r'.id ≡ r1.id = ap (λ (r : Rec). r.id) gives.rec in
-    leaves-passing x x' id r r1 r' (Entry.TRecv waiter.0 id r.key None) idle (record {
+    runs-passing x x' id r r1 r' (Entry.TRecv waiter.0 id r.key left) idle (record {
       there = there;
       id_is = d.id_is;
       watched = d.watched;
@@ -430,19 +500,18 @@ sends-passing x x' id seq r r1 r' b1 h1 reply idle d there s records_are spare n
       enters = enters;
       leaves = λ j n. record { timer = λ e. n (sym e); mover = inr (at.1, refl); partner = tt };
       scans = subst (λ h. Scans x.heap h 0 r r1) (sym heap_is) s.scans;
-      out = ap (λ (r : Rec). r.heaped) s.rec_is;
+      stays = sent.stays;
       kept = record {
         rec = lent;
-        placed = subst (λ h. Rattle.gt_rows.specs.Lent.IsPlaced h r') (sym heap_is)
-            (placed-same h1 r1 r' same1 (ap (λ (r : Rec). r.heaped) gives.rec) (ap (λ (r : Rec). r.key) gives.rec) kept1.placed);
+        placed = subst (λ h. Rattle.gt_rows.specs.Lent.IsPlaced h r') (sym heap_is) (placed-same h1 r1 r' same1 same_heaped same_key kept1.placed);
       };
-      same_id = ap (λ (r : Rec). r.id) rec_is;
-      same_kind = ap (λ (r : Rec). r.kind) rec_is;
-      same_blocked = ap (λ (r : Rec). r.blocked) rec_is;
-      none_heaped = ap (λ (r : Rec). r.heaped) rec_is;
-      needs_not = ap needs_heap rec_is;
-      none_ready = ap (λ (r : Rec). r.ready) rec_is;
-      none_sent = ap (λ (r : Rec). r.sending) rec_is;
+      same_id = same1 ∙ sent.id;
+      same_kind = ap (λ (r : Rec). r.kind) gives.rec ∙ sent.kind;
+      same_blocked = ap (λ (r : Rec). r.blocked) gives.rec ∙ sent.blocked;
+      same_heaped = same_heaped;
+      needs = sent-noted r r1 r' now x'.noted s.channel (ap is_some d.heaped) d.at s.rec_is same_heaped same_key (ap (λ (r : Rec). r.when) gives.rec);
+      none_ready = ap (λ (r : Rec). r.ready) gives.rec;
+      none_sent = ap (λ (r : Rec). r.sending) gives.rec;
       served = (parked-goes (status_of v.schedule waiter.0.g) at.0, tt);
       clock = tt;
     })

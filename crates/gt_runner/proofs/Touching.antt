@@ -40,7 +40,22 @@ at-kind x' id r' is watched = record {
   watched = subst (AtKind x'.book x'.heap x'.noted id r') (sym (ap (kind_by x'.book.script) (sym is) ∙ watched.kept.rec.agrees.kind)) watched;
 }
 
--- ---- a section after which the record does not need the heap
+-- ---- a section by an entry that does not let the record join the heap
+
+-- a record that needs the heap is in it, and where it is due before its key, that was noted
+pub record IsNoted (noted : Option ℕ) (r : Rec) : Type 0 where
+  pub heaped : IsSome r.heaped
+  pub early : (w : ℕ) → r.when ≡ Some w → w < r.key → IsSomeAnd noted (λ v. v ≤ w)
+
+no-need : (b : Bool) → b ≡ true → b ≡ false → ⊥
+no-need true e h = cc
+no-need false e h = cc
+
+pub needs-nothing : (noted : Option ℕ) (r : Rec) → needs_heap r ≡ false → needs_heap r ≡ true → IsNoted noted r
+needs-nothing noted r none needs = absurd (no-need (needs_heap r) needs none)
+
+pub note-same : (noted noted' : Option ℕ) → noted' ≡ noted → KeepsNote noted noted'
+note-same noted noted' is w h = subst (λ o. IsSomeAnd o (λ v. v ≤ w)) (sym is) h
 
 pub record Rests (x x' : Runner) (id : ℕ) (r r' : Rec) (e : Entry) : Type 0 where
   pub there : slice_get x.records.items id ≡ Some r
@@ -48,7 +63,7 @@ pub record Rests (x x' : Runner) (id : ℕ) (r r' : Rec) (e : Entry) : Type 0 wh
   pub watched : IsWatched x.book x.heap x.noted r
   pub records_are : x'.records.items ≡ set x.records.items id r'
   pub spare : x'.records.spare ≡ x.records.spare
-  pub noted_is : x'.noted ≡ x.noted
+  pub notes : KeepsNote x.noted x'.noted
   pub enters : Enters x.book e x'.book
   pub leaves : (j : ℕ) → j ≢ id → Leaves x.book (change_of e) j
   pub slots : (j : ℕ) → j ≢ id → slot_with x'.heap.slots j ≡ slot_with x.heap.slots j
@@ -59,13 +74,9 @@ pub record Rests (x x' : Runner) (id : ℕ) (r r' : Rec) (e : Entry) : Type 0 wh
   pub same_kind : r'.kind ≡ r.kind
   pub same_blocked : r'.blocked ≡ r.blocked
   pub inside : IsSome r'.heaped → r'.heaped ≡ Some x'.heap.number
-  pub needs_not : needs_heap r' ≡ false
+  pub needs : needs_heap r' ≡ true → IsNoted x'.noted r'
   pub none_ready : r'.ready ≡ None
   pub none_sent : r'.sending ≡ None
-
-no-need : (b : Bool) → b ≡ true → b ≡ false → ⊥
-no-need true e h = cc
-no-need false e h = cc
 
 pub rests-touches : (x x' : Runner) (id : ℕ) (r r' : Rec) (e : Entry) → IsLawful x.book → Rests x x' id r r' e → Touches x x' id r r'
 rests-touches x x' id r r' e lawful c = record {
@@ -76,12 +87,12 @@ rests-touches x x' id r r' e lawful c = record {
   stays = λ j n. stays-enters x.book e x'.book x.heap x'.heap j lawful c.enters (c.leaves j n) (c.slots j n) c.number_is;
   script_is = enters-script x.book e x'.book c.enters;
   room = c.room;
-  noted_is = λ w h. subst (λ o. IsSomeAnd o (λ v. v ≤ w)) (sym c.noted_is) h;
+  noted_is = c.notes;
   own = at-kind x' id r' (c.same_id ∙ c.id_is) (record {
     kept = c.kept;
     inside = c.inside;
-    heaped = λ n. absurd (no-need (needs_heap r') n c.needs_not);
-    early = λ n w q l. absurd (no-need (needs_heap r') n c.needs_not);
+    heaped = λ n. (c.needs n).heaped;
+    early = λ n. (c.needs n).early;
     blocked = λ channel.
         c.same_blocked ∙ (c.watched.blocked (ap has_channel (sym c.same_kind) ∙ channel)
         ∙ (ap (mark_count x.book.schedule) (sym c.same_id) ∙ sym (enters-mark_count x.book e x'.book c.enters r'.id)));
@@ -131,7 +142,7 @@ noted-below : (noted : Option ℕ) (o : Option ℕ) (w : ℕ) → o ≡ Some w �
 noted-below noted None w e = cc
 noted-below noted (Some v) w e = let same : v ≡ w = cc in let low : least_of noted v ≤ v = least-below noted v in omega arith
 
-notes-keep : (noted : Option ℕ) (o : Option ℕ) → KeepsNote noted (noted_with noted o)
+pub notes-keep : (noted : Option ℕ) (o : Option ℕ) → KeepsNote noted (noted_with noted o)
 notes-keep noted None w h = h
 notes-keep None (Some v) w h = absurd h
 notes-keep (Some u) (Some v) w h = let low : u ≤ w = h in omega arith

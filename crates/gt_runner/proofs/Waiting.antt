@@ -1,6 +1,6 @@
 -- What a whole call does that stops a timer, falls asleep or waits.
-use Rattle.std.proofs.Common.{◌≡◌, ℕ, ◌+◌, ◌-◌, ◌*◌, ◌^◌, ◌<◌, ◌≤◌, nat_le, if◌then◌else◌, List, [], ◌∷◌, ◌++◌, length, length-append, set, slice_get, refl, sym, ap, subst, ◌∙◌, arith, Option, None, Some, IsSome, MatchOption, Bool, true, false, is_some, inl, inr}
-use Rattle.std.specs.Option.{option_and_then, option_map}
+use Rattle.std.proofs.Common.{◌≡◌, ℕ, ◌+◌, ◌-◌, ◌*◌, ◌^◌, ◌<◌, ◌≤◌, List, [], ◌∷◌, ◌++◌, length, length-append, set, slice_get, refl, sym, ap, subst, ◌∙◌, arith, Option, None, Some, IsSome, IsSomeAnd, MatchOption, Bool, true, false, is_some, inl, inr}
+use Rattle.std.specs.Option.{option_map}
 use Rattle.std.proofs.lemmas.Bool.{cases_eq}
 use Rattle.gt_model.specs.declared.script.Decl.{Decl}
 use Rattle.gt_model.specs.declared.script.What.{What}
@@ -12,8 +12,7 @@ use Rattle.gt_model.proofs.Declared.{timer_setting}
 use Rattle.gt_rules.specs.State.{clock}
 use Rattle.gt_rules.specs.Operations.{offers, receives_from}
 use Rattle.gt_rec.specs.declared.RecKind.{RecKind}
-use Rattle.gt_rec.specs.Ticks.{due_left}
-use Rattle.gt_rec.specs.Rec.{Rec, needs_heap, has_channel, shown}
+use Rattle.gt_rec.specs.Rec.{Rec, needs_heap, has_channel}
 use Rattle.gt_rec.specs.Changes.{received, taken}
 use Rattle.gt_lazy.specs.Slots.{LazyHeap}
 use Rattle.gt_rows.specs.declared.answers.SetDone.{SetDone}
@@ -30,14 +29,14 @@ use Rattle.gt_book.specs.declared.answers.TimerOp.{TimerOp}
 use Rattle.gt_book.specs.View.{BookView, Enters, outcome_of, receiver_of, stands_for, with_schedule}
 use Rattle.gt_book.proofs.Going.{in_hand-goes}
 use Rattle.gt_runner.specs.declared.runner.Runner.{Runner}
-use Rattle.gt_runner.specs.Served.{NamesTimers, IsWatched, MarkFitsAt, awaited_by, is_heaped, noted_at}
+use Rattle.gt_runner.specs.Served.{NamesTimers, IsWatched, MarkFitsAt, awaited_by, early_due, is_heaped, noted_at}
 use Rattle.gt_runner.specs.Calls.{HasRecord, After, Ready, IsEnrolled, IsCounted, HasReceived, Enrols}
 use Rattle.gt_runner.proofs.Marks.{count-few}
 use Rattle.gt_runner.proofs.Awaiting.{WaitsAt, awaits-at, few-awaited}
 use Rattle.gt_runner.proofs.Fitting.{fit-receives, fit-others, fit-few, named-enters, named-remarked, named-pushed}
-use Rattle.gt_runner.proofs.Needing.{never-ticker}
-use Rattle.gt_runner.proofs.Tending.{tended-touched}
-use Rattle.gt_runner.proofs.Touching.{rests-touches, counts-touches}
+use Rattle.gt_runner.proofs.Tending.{KeepsNote, tended-touched}
+use Rattle.gt_runner.proofs.Touching.{needs-nothing, note-same, notes-keep, rests-touches, counts-touches}
+use Rattle.gt_runner.proofs.Receiving.{taken-noted}
 use Rattle.gt_runner.proofs.Calling.{record-is, after-enters, after-armed, in_hand-awake, stands-awake, stands-stop, stands-sleep, running-row, setting-record}
 
 -- where the record stays is where it was
@@ -72,7 +71,7 @@ after-stop x x' g t r r' reply ready next h there records_are spare noted_is hea
       watched = own.2;
       records_are = records_are;
       spare = spare;
-      noted_is = noted_is;
+      notes = note-same x.noted x'.noted noted_is;
       enters = s.entered;
       leaves = λ j n. record { timer = λ e. n (sym e); mover = inr (in_hand-awake x.book g ready.lawful ready.alone.in_hand, refl); partner = tt };
       slots = λ j n. ap (λ (h : LazyHeap). Rattle.gt_lazy.specs.Slots.slot_with h.slots j) heap_is;
@@ -83,7 +82,7 @@ after-stop x x' g t r r' reply ready next h there records_are spare noted_is hea
       same_kind = ap (λ (r : Rec). r.kind) s.rec;
       same_blocked = ap (λ (r : Rec). r.blocked) s.rec;
       inside = λ some. same_heaped ∙ (own.2.inside (subst IsSome same_heaped some) ∙ ap Some (sym number_is));
-      needs_not = ap needs_heap s.rec;
+      needs = needs-nothing x'.noted r' (ap needs_heap s.rec);
       none_ready = ap (λ (r : Rec). r.ready) s.rec;
       none_sent = ap (λ (r : Rec). r.sending) s.rec;
     })))
@@ -117,29 +116,6 @@ after-sleep x x' g d id r r' reply ready next its h there records_are spare note
       served = (ready.alone.in_hand, tt);
       clock = tt;
     })
-
--- ---- a receive
-
-left-none : (kind : RecKind) (period due now : ℕ) → (kind ≡ RecKind.Ticker → ⊥) → due_left kind period due now ≡ None
-left-none RecKind.Timer period due now n = refl
-left-none RecKind.Ticker period due now n = absurd (n refl)
-left-none RecKind.Func period due now n = refl
-left-none RecKind.Sleep period due now n = refl
-left-none RecKind.Deadline period due now n = refl
-
--- a timer that ticks once has no due time after a receive
-pub received-none : (r : Rec) (now : ℕ) (got : ℕ × Option ℕ) → (r.kind ≡ RecKind.Ticker → ⊥) → received r now ≡ Some got → got.1 ≡ None
-received-none r now got n e =
-    elim (shown r) as (λ o. option_and_then (λ due. if nat_le due now then Some (due, due_left r.kind r.period due now) else None) o ≡ Some got → got.1 ≡ None) [
-      | None ↦ λ k. cc
-      | Some due ↦ λ k. by (nat_le due now) due k
-    ] e
-  where
-    by : (b : Bool) (due : ℕ) → (if b then Some (due, due_left r.kind r.period due now) else None) ≡ Some got → got.1 ≡ None
-    by true due k =
-        let is : (due, due_left r.kind r.period due now) ≡ got = cc in
-        sym (ap (λ (x : ℕ × Option ℕ). x.1) is) ∙ left-none r.kind r.period due now n
-    by false due k = cc
 
 -- ---- who is enrolled
 
@@ -199,15 +175,13 @@ block-receives x x' ticket t r r' reply got en lent is row =
     let g : ℕ = ticket.g in
     let p : Party = receiver_of x.book.script x.book.state g t in
     let w : WaitsAt x.book.script x.book.state g t = enrolled-waits x ticket t en in
-    let never : r.kind ≡ RecKind.Ticker → ⊥ = never-ticker x.book.script r.id r own.2.kept.rec.agrees.kind in
-    let none : got.1 ≡ None = received-none r (clock x.book.state 0) got never is in
-    let rec_is : r' ≡ taken r None = row.rec ∙ ap (taken r) none in
+    let rec_is : r' ≡ taken r got.1 = row.rec in
     let same_heaped : r'.heaped ≡ r.heaped = ap (λ (r : Rec). r.heaped) rec_is in
     let same_id : r'.id ≡ r.id = ap (λ (r : Rec). r.id) rec_is in
     let number_is : x'.heap.number ≡ x.heap.number = ap (λ (h : LazyHeap). h.number) row.heap in
     let enters : Enters x.book (Entry.TRecv p t got.0 got.1) x'.book =
     subst (λ i. Enters x.book (Entry.TRecv (receiver_of x.book.script x.book.state g i) i got.0 got.1) x'.book) own.1 row.entered in
-    let unnoted : x'.noted ≡ x.noted = lent.noted_is ∙ ap (noted_at x.noted) rec_is in
+    let notes : KeepsNote x.noted x'.noted = λ w h. subst (λ o. IsSomeAnd o (λ v. v ≤ w)) (sym lent.noted_is) (notes-keep x.noted (early_due r') w h) in
     record {
       due = got.0;
       next = got.1;
@@ -219,7 +193,7 @@ block-receives x x' ticket t r r' reply got en lent is row =
           watched = own.2;
           records_are = lent.records_are;
           spare = lent.spare;
-          noted_is = unnoted;
+          notes = notes;
           enters = enters;
           leaves = λ j n. record { timer = λ e. n (sym e); mover = inr (stands-awake x.book g w.instr w.stands, refl); partner = tt };
           slots = λ j n. ap (λ (h : LazyHeap). Rattle.gt_lazy.specs.Slots.slot_with h.slots j) row.heap;
@@ -230,7 +204,7 @@ block-receives x x' ticket t r r' reply got en lent is row =
           same_kind = ap (λ (r : Rec). r.kind) rec_is;
           same_blocked = ap (λ (r : Rec). r.blocked) rec_is;
           inside = λ some. same_heaped ∙ (own.2.inside (subst IsSome same_heaped some) ∙ ap Some (sym number_is));
-          needs_not = ap needs_heap rec_is;
+          needs = taken-noted x.book x.heap x.noted x'.noted r r' got en.counting.lawful own.2 is rec_is notes;
           none_ready = ap (λ (r : Rec). r.ready) rec_is;
           none_sent = ap (λ (r : Rec). r.sending) rec_is;
         }));
@@ -306,6 +280,7 @@ timer-channel (Some decl) kind h e = of_what decl.what kind h e
   where
     of_what : (w : What) (kind : RecKind) → names_timer (Some w) ≡ true → kind_of_what w ≡ Some kind → has_channel kind ≡ true
     of_what What.Timer kind h e = let is : RecKind.Timer ≡ kind = cc in ap has_channel (sym is)
+    of_what What.Ticker kind h e = let is : RecKind.Ticker ≡ kind = cc in ap has_channel (sym is)
     of_what (What.AfterFunc f) kind h e = cc
     of_what (What.Chan cap) kind h e = cc
     of_what What.Function kind h e = cc

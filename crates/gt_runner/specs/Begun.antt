@@ -12,6 +12,7 @@ use Rattle.gt_room.specs.Contents.{Contents}
 -- the records of a function and of a channel are never set; their kind is none of their numbers'
 abbrev pub kind_at : What → RecKind
 kind_at What.Timer = RecKind.Timer
+kind_at What.Ticker = RecKind.Ticker
 kind_at (What.AfterFunc f) = RecKind.Func
 kind_at (What.Chan cap) = RecKind.Func
 kind_at What.Function = RecKind.Func

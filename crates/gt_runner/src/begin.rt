@@ -23,6 +23,7 @@ fn kind_of(what: &What) -> RecKind
 {
     match what {
         What::Timer => RecKind::Timer,
+        What::Ticker => RecKind::Ticker,
         What::AfterFunc { .. } | What::Chan { .. } | What::Function => RecKind::Func,
     }
 }

@@ -28,7 +28,7 @@ use Rattle.gt_grammar.specs.Statements.{Command, awaits_timer, command_of, state
 use Rattle.gt_grammar.specs.Deeds.{Deed, declares, opens, does, loops, selects, chooses, defaults, closes, deed_of, deed_with, deeds_of, decl_of, func_of, decls_in, case_at, code_in, funcs_in, func_place, script_of, script_with}
 use Rattle.gt_grammar.specs.Faults.{causes, first_cause, role_of, stands, are_none_open, inside_after, ends_wrongly, nests_wrongly, selects_wrongly, in_choice, loop_count, holding, ended_in, block_ended, case_added, default_added, count_of, progress_with, progress_after, cause_at, fault_or, fault_from, fault_in_lines, head_cause, no_progress}
 use Rattle.gt_grammar.proofs.Fits.{FitsRole}
-use Rattle.gt_grammar.proofs.Rightly.{kind_in, Starts}
+use Rattle.gt_grammar.proofs.KindTests.{started}
 use Rattle.gt_grammar.proofs.OpenLoops.{depth-holding, depth-ended}
 use Rattle.gt_grammar.proofs.RightLines.{IsRight, is_right, Doing, doing}
 use Rattle.gt_script.specs.Unread.{fault_of, IfRefused}
@@ -54,12 +54,6 @@ Moves closes (b ∷ blocks) inside inside' = (inside ≡ true) × (inside' ≡ t
 not-true : (b : Bool) → not b ≡ true → b ≡ false
 not-true true h = cc
 not-true false h = refl
-
-started : (names : Names) (what : What) → Starts names what → is_kind_function (kind_in what) ≡ false
-started names What.Timer s = refl
-started names (What.AfterFunc f) s = refl
-started names (What.Chan cap) s = refl
-started names What.Function s = absurd s
 
 moves-closes : (inside : Bool) (blocks : List Block) (open_blocks : List OpenBlock) → AreAlike blocks open_blocks → (inside ≡ false → blocks ≡ []) → ends_wrongly inside open_blocks ≡ false → Moves closes blocks inside (not (are_none_open open_blocks))
 moves-closes true [] [] e out h = (refl, refl)

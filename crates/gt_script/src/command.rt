@@ -71,13 +71,13 @@ pub(crate) fn read_command<'a>(word: &[u8], rest: &'a [u8]) -> Option<Command<'a
     read_behind(read_keyword(word)?, rest)
 }
 
-// Whether a name is declared as a channel timer.
+// Whether a name is declared as a timer with a channel, one-shot or a ticker.
 fn is_ticking(declared: Option<Declared>) -> bool
     ensures { result ≡ is_ticking declared }
 {
     match declared {
         None => false,
-        Some(d) => matches!(d.kind, Kind::Timer),
+        Some(d) => matches!(d.kind, Kind::Timer | Kind::Ticker),
     }
 }
 

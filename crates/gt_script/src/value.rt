@@ -48,7 +48,7 @@ fn setting_place(d: Declared) -> Option<u32>
     ensures { result ≡ setting_place d }
 {
     match d.kind {
-        Kind::Timer | Kind::AfterFunc => Some(d.place),
+        Kind::Timer | Kind::Ticker | Kind::AfterFunc => Some(d.place),
         Kind::Chan | Kind::Function => None,
     }
 }
@@ -58,7 +58,7 @@ fn channel_place(d: Declared) -> Option<u32>
 {
     match d.kind {
         Kind::Chan => Some(d.place),
-        Kind::Timer | Kind::AfterFunc | Kind::Function => None,
+        Kind::Timer | Kind::Ticker | Kind::AfterFunc | Kind::Function => None,
     }
 }
 
@@ -66,7 +66,7 @@ fn source_place(d: Declared) -> Option<u32>
     ensures { result ≡ source_place d }
 {
     match d.kind {
-        Kind::Timer | Kind::Chan => Some(d.place),
+        Kind::Timer | Kind::Ticker | Kind::Chan => Some(d.place),
         Kind::AfterFunc | Kind::Function => None,
     }
 }
@@ -76,7 +76,7 @@ fn function_place(d: Declared) -> Option<u32>
 {
     match d.kind {
         Kind::Function => Some(d.func),
-        Kind::Timer | Kind::AfterFunc | Kind::Chan => None,
+        Kind::Timer | Kind::Ticker | Kind::AfterFunc | Kind::Chan => None,
     }
 }
 

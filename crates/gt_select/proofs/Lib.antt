@@ -5,5 +5,6 @@ pub mod Others
 pub mod Parties
 pub mod Tickets
 pub mod Places
+pub mod Noted
 pub mod Shown
 pub mod Callers

@@ -10,7 +10,7 @@ use Rattle.slab.proofs.SlabLemmas.{Contains-cons, Contains-cons_cases}
 use Rattle.gt_model.specs.declared.entry.Party.{Party}
 use Rattle.gt_queue.specs.Contents.{waiting_in, without}
 use Rattle.gt_queue.proofs.Members.{Contains-nil, Contains-here, Contains-there}
-use Rattle.gt_select.specs.declared.nodes.Ticket.{Ticket}
+use Rattle.gt_select.specs.declared.nodes.Waiter.{Waiter}
 use Rattle.gt_select.specs.Kept.{party_at, goroutine_of, lists_of, turn_at, turns_of, without_key, AreTickets}
 use Rattle.gt_select.specs.Waiting.{parties_in, is_party, without_party, without_goroutine}
 
@@ -18,10 +18,10 @@ pub some_value : {X : Type 0} (o : Option X) → IsSome o → (x : X) × (o ≡ 
 some_value None h = absurd (false≢true h)
 some_value (Some x) h = (x, refl)
 
-pub parties_in-lists : (tickets : Slab Ticket) (queues : List (List ℕ)) (q : ℕ) → parties_in (lists_of tickets queues) q ≡ map (party_at tickets) (waiting_in queues q)
+pub parties_in-lists : (tickets : Slab Waiter) (queues : List (List ℕ)) (q : ℕ) → parties_in (lists_of tickets queues) q ≡ map (party_at tickets) (waiting_in queues q)
 parties_in-lists tickets queues q = get_or-map (map (party_at tickets)) queues q []
 
-pub turn_at-turns : (tickets : Slab Ticket) (keys : List (Option ℕ)) (g : ℕ) → get_or (turns_of tickets keys) g None ≡ turn_at tickets (get_or keys g None)
+pub turn_at-turns : (tickets : Slab Waiter) (keys : List (Option ℕ)) (g : ℕ) → get_or (turns_of tickets keys) g None ≡ turn_at tickets (get_or keys g None)
 turn_at-turns tickets keys g = get_or-map (turn_at tickets) keys g None
 
 -- whoever is on a list of f's values
@@ -99,7 +99,7 @@ map-map_agree f f' k k' [] same = refl
 map-map_agree f f' k k' (x ∷ queues) same =
     ap (λ y. y ∷ map f' (map k queues)) (same 0) ∙ ap (λ ys. k' (f x) ∷ ys) (map-map_agree f f' k k' queues (λ q. same (suc q)))
 
-module _ (goroutines turns : ℕ) (keys : List (Option ℕ)) (tickets : Slab Ticket) (a : AreTickets goroutines turns keys tickets) where
+module _ (goroutines turns : ℕ) (keys : List (Option ℕ)) (tickets : Slab Waiter) (a : AreTickets goroutines turns keys tickets) where
   abbrev at : ℕ → Party
   at = party_at tickets
 
@@ -157,7 +157,7 @@ module _ (goroutines turns : ℕ) (keys : List (Option ℕ)) (tickets : Slab Tic
         (λ x h k. refl)
 
     -- and without all of a goroutine, whose ticket may be gone then
-    pub map-without_key : (tickets' : Slab Ticket) (g key : ℕ) → get_or keys g None ≡ Some key → ((x : ℕ) → Contains xs x → x / 17 ≢ key → party_at tickets' x ≡ at x) → map (party_at tickets') (without_key xs key) ≡ without_goroutine (map at xs) g
+    pub map-without_key : (tickets' : Slab Waiter) (g key : ℕ) → get_or keys g None ≡ Some key → ((x : ℕ) → Contains xs x → x / 17 ≢ key → party_at tickets' x ≡ at x) → map (party_at tickets') (without_key xs key) ≡ without_goroutine (map at xs) g
     map-without_key tickets' g key known same =
         map-filter at (party_at tickets') (λ x. not (eqb (x / 17) key)) (λ q. not (eqb q.g g)) xs
         (λ x h. ap not (elim (cases_eq (x / 17) key) [

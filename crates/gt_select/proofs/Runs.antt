@@ -1,11 +1,12 @@
 -- The nodes of one key, taken out one after the other.
-use Rattle.std.proofs.Common.{◌≡◌, ◌≢◌, ℕ, zero, suc, ◌+◌, ◌*◌, ◌/◌, ◌<◌, ◌≤◌, ◌⊎◌, List, [], ◌∷◌, length, map, set, get_or-set_same, get_or-set_other, refl, sym, ap, ◌∙◌, inl, inr, arith}
+use Rattle.std.proofs.Common.{◌≡◌, ◌≢◌, ℕ, zero, suc, ◌+◌, ◌*◌, ◌/◌, ◌%◌, ◌<◌, ◌≤◌, ◌⊎◌, List, [], ◌∷◌, length, map, set, get_or-set_same, get_or-set_other, refl, sym, ap, ◌∙◌, inl, inr, arith}
 use Rattle.std.specs.List.{Contains}
 use Rattle.std.proofs.lemmas.Bool.{cases_eq, cases_lt, eq-eqb, ne_eqb}
 use Rattle.std.proofs.lemmas.List.{set-set}
+use Rattle.std.proofs.lemmas.Nat.{div-add-mod'}
 use Rattle.gt_queue.specs.Contents.{waiting_in, without}
-use Rattle.gt_queue.proofs.Members.{without-same, without-other, Contains-without}
-use Rattle.gt_select.specs.Kept.{without_run, without_key}
+use Rattle.gt_queue.proofs.Members.{without-same, without-other, Contains-here, Contains-there, Contains-without}
+use Rattle.gt_select.specs.Kept.{without_run, without_key, IsReached}
 
 -- a node of the run is gone, and another one stays
 without_run-outside : (x first n : ℕ) (xs : List ℕ) → (x < first) ⊎ (first + n ≤ x) → without_run (x ∷ xs) first n ≡ x ∷ without_run xs first n
@@ -36,27 +37,32 @@ without_key-same x key xs e = rw (eq-eqb (x / 17) key e) refl
 pub without_key-other : (x key : ℕ) (xs : List ℕ) → x / 17 ≢ key → without_key (x ∷ xs) key ≡ x ∷ without_key xs key
 without_key-other x key xs n = rw (ne_eqb (x / 17) key n) refl
 
--- the run of a key
-pub without_run-key : (key : ℕ) (xs : List ℕ) → without_run xs (key * 17) 17 ≡ without_key xs key
-without_run-key key [] = without_run-empty (key * 17) 17
-without_run-key key (x ∷ xs) =
+-- the run of a key, as far as one of it stands there
+pub without_run-key : (key most : ℕ) (xs : List ℕ) → most ≤ 16 → IsReached xs key most → without_run xs (key * 17) (most + 1) ≡ without_key xs key
+without_run-key key most [] small reached = without_run-empty (key * 17) (most + 1)
+without_run-key key most (x ∷ xs) small reached =
+    let rest = without_run-key key most xs small (λ y h. reached y (Contains-there x y xs h)) in
     elim (cases_eq (x / 17) key) [
       | inl e ↦
-          without_run-inside x (key * 17) 17 xs (omega arith) (omega arith)
-          ∙ without_run-key key xs
+          let below = within (reached x (Contains-here x xs) e) e in
+          without_run-inside x (key * 17) (most + 1) xs (omega arith) below
+          ∙ rest
           ∙ sym (without_key-same x key xs e)
       | inr n ↦
-          without_run-outside x (key * 17) 17 xs
+          without_run-outside x (key * 17) (most + 1) xs
           (elim (cases_lt x (key * 17)) [ inl low ↦ inl low | inr high ↦ inr (past high n) ])
-          ∙ ap (λ ys. x ∷ ys) (without_run-key key xs)
+          ∙ ap (λ ys. x ∷ ys) rest
           ∙ sym (without_key-other x key xs n)
     ]
   where
-    past : key * 17 ≤ x → x / 17 ≢ key → key * 17 + 17 ≤ x
+    within : x % 17 ≤ most → x / 17 ≡ key → x < key * 17 + (most + 1)
+    within low e = let whole = div-add-mod' x 17 in omega arith
+
+    past : key * 17 ≤ x → x / 17 ≢ key → key * 17 + (most + 1) ≤ x
     past high n =
         elim (cases_lt x (key * 17 + 17)) [
           | inl low ↦ absurd (n (omega arith))
-          | inr ok ↦ ok
+          | inr ok ↦ omega arith
         ]
 
 -- one more node is taken out, of all lists and of one
@@ -68,10 +74,11 @@ pub map-without_none : (queues : List (List ℕ)) (first : ℕ) → map (λ wait
 map-without_none [] first = refl
 map-without_none (x ∷ queues) first = ap (λ ys. x ∷ ys) (map-without_none queues first)
 
-pub map-without_key : (queues : List (List ℕ)) (key : ℕ) → map (λ waiting. without_run waiting (key * 17) 17) queues ≡ map (λ waiting. without_key waiting key) queues
-map-without_key [] key = refl
-map-without_key (x ∷ queues) key =
-    ap (λ y. y ∷ map (λ waiting. without_run waiting (key * 17) 17) queues) (without_run-key key x) ∙ ap (λ ys. without_key x key ∷ ys) (map-without_key queues key)
+pub map-without_key : (queues : List (List ℕ)) (key most : ℕ) → most ≤ 16 → ((q : ℕ) → IsReached (waiting_in queues q) key most) → map (λ waiting. without_run waiting (key * 17) (most + 1)) queues ≡ map (λ waiting. without_key waiting key) queues
+map-without_key [] key most small reached = refl
+map-without_key (x ∷ queues) key most small reached =
+    ap (λ y. y ∷ map (λ waiting. without_run waiting (key * 17) (most + 1)) queues) (without_run-key key most x small (reached 0))
+    ∙ ap (λ ys. without_key x key ∷ ys) (map-without_key queues key most small (λ q. reached (suc q)))
 
 -- one more node is taken out of one list
 pub set-without_run : (queues : List (List ℕ)) (queue first n : ℕ) → queue < length queues

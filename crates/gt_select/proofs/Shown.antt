@@ -12,12 +12,12 @@ use Rattle.gt_model.specs.declared.entry.Party.{Party}
 use Rattle.gt_queue.specs.Contents.{Contents, IsWaiting, waiting_in, without}
 use Rattle.gt_queue.specs.Contents as queue
 use Rattle.gt_queue.proofs.Waiting.{pushed}
-use Rattle.gt_select.specs.declared.nodes.Ticket.{Ticket}
+use Rattle.gt_select.specs.declared.nodes.Waiter.{Waiter}
 use Rattle.gt_select.specs.Kept.{goroutine_of, party_at, lists_of, turn_at, turn_of, turns_of, without_key, AreTickets, ArePlaced}
 use Rattle.gt_select.specs.Waiting.{Waiting, IsLawful, parties_in, is_party, without_party, without_goroutine}
 use Rattle.gt_select.proofs.Parties.{some_value, parties_in-lists, turn_at-turns, Contains-map, map-Contains, is_party-other, map-agree, map-agree_on, map-map_agree, filter-all, none_of, map-without, map-without_key, same_node, key_known}
 
-module _ (goroutines turns : ℕ) (keys places : List (Option ℕ)) (tickets : Slab Ticket) (c : Contents) (a : AreTickets goroutines turns keys tickets) (b : ArePlaced places tickets c) where
+module _ (goroutines turns : ℕ) (keys places : List (Option ℕ)) (tickets : Slab Waiter) (c : Contents) (a : AreTickets goroutines turns keys tickets) (b : ArePlaced places tickets c) where
   abbrev at : ℕ → Party
   at = party_at tickets
 
@@ -71,19 +71,19 @@ module _ (goroutines turns : ℕ) (keys places : List (Option ℕ)) (tickets : S
       ∙ sym same)
       ∙ set-get_or (lists_of tickets c.queues) q [])
 
-  pub lists_of-gone : (queues' : List (List ℕ)) (tickets' : Slab Ticket) (g key : ℕ) → get_or keys g None ≡ Some key → queues' ≡ map (λ waiting. without_key waiting key) c.queues → Updates tickets tickets' key None → lists_of tickets' queues' ≡ map (λ waiting. without_goroutine waiting g) (lists_of tickets c.queues)
+  pub lists_of-gone : (queues' : List (List ℕ)) (tickets' : Slab Waiter) (g key : ℕ) → get_or keys g None ≡ Some key → queues' ≡ map (λ waiting. without_key waiting key) c.queues → Updates tickets tickets' key None → lists_of tickets' queues' ≡ map (λ waiting. without_goroutine waiting g) (lists_of tickets c.queues)
   lists_of-gone queues' tickets' g key known e u =
       ap (lists_of tickets') e
       ∙ map-map_agree (map at) (map (party_at tickets')) (λ waiting. without_key waiting key) (λ waiting. without_goroutine waiting g) c.queues
       (λ q. map-without_key goroutines turns keys tickets a (waiting_in c.queues q) (b.ticketed q) tickets' g key known
-      (λ x h n. let mk : Option Ticket → Party = λ o. record { g = goroutine_of o; case_no = x % 17 } in ap mk (u.others (x / 17) n)))
+      (λ x h n. let mk : Option Waiter → Party = λ o. record { g = goroutine_of o; case_no = x % 17 } in ap mk (u.others (x / 17) n)))
 
-  pub lists_of-given : (tickets' : Slab Ticket) (key : ℕ) (t : Ticket) → get tickets key ≡ None → Updates tickets tickets' key (Some t) → lists_of tickets' c.queues ≡ lists_of tickets c.queues
+  pub lists_of-given : (tickets' : Slab Waiter) (key : ℕ) (t : Waiter) → get tickets key ≡ None → Updates tickets tickets' key (Some t) → lists_of tickets' c.queues ≡ lists_of tickets c.queues
   lists_of-given tickets' key t vacant u =
       map-agree (map at) (map (party_at tickets')) c.queues []
       (λ q. map-agree_on at (party_at tickets') (waiting_in c.queues q)
       (λ x h.
-      let mk : Option Ticket → Party = λ o. record { g = goroutine_of o; case_no = x % 17 } in
+      let mk : Option Waiter → Party = λ o. record { g = goroutine_of o; case_no = x % 17 } in
       let some = some_value (get tickets (x / 17)) (b.ticketed q x h) in
       ap mk (u.others (x / 17) (λ same. let no = sym some.1 ∙ ap (get tickets) same ∙ vacant in cc))))
 
@@ -136,11 +136,11 @@ module _ (goroutines turns : ℕ) (keys places : List (Option ℕ)) (tickets : S
           rw one (a.earlier key t.0 t.1)
 
 -- nobody waits at first
-pub lists_of-empty : (tickets : Slab Ticket) (n : ℕ) → lists_of tickets (replicate n []) ≡ replicate n []
+pub lists_of-empty : (tickets : Slab Waiter) (n : ℕ) → lists_of tickets (replicate n []) ≡ replicate n []
 lists_of-empty tickets zero = refl
 lists_of-empty tickets (suc n) = ap (λ xs. [] ∷ xs) (lists_of-empty tickets n)
 
-pub turns_of-empty : (tickets : Slab Ticket) (n : ℕ) → turns_of tickets (replicate n None) ≡ replicate n None
+pub turns_of-empty : (tickets : Slab Waiter) (n : ℕ) → turns_of tickets (replicate n None) ≡ replicate n None
 turns_of-empty tickets zero = refl
 turns_of-empty tickets (suc n) = ap (λ xs. None ∷ xs) (turns_of-empty tickets n)
 

@@ -4,7 +4,7 @@ use Rattle.std.proofs.lemmas.Bool.{cases_eq, cases_lt}
 use Rattle.std.proofs.lemmas.List.{get_or_past, get_or-replicate, length-replicate, map-set}
 use Rattle.std.proofs.lemmas.List.Sums.{sum_by-set, count_by-le-length}
 use Rattle.slab.specs.Slab.{Slab, get, slab_len, HasRoomFor, Updates}
-use Rattle.gt_select.specs.declared.nodes.Ticket.{Ticket}
+use Rattle.gt_select.specs.declared.nodes.Waiter.{Waiter}
 use Rattle.gt_select.specs.Kept.{turn_at, turn_of, turns_of, AreTickets}
 use Rattle.gt_select.specs.Waiting.{next_turn}
 use Rattle.gt_select.proofs.Parties.{some_value, turn_at-turns, set-agree}
@@ -47,7 +47,7 @@ key_inside keys g key some =
       | inr past ↦ let none = get_or_past keys g None past in absurd (cc)
     ]
 
-module _ (goroutines turns : ℕ) (keys : List (Option ℕ)) (tickets : Slab Ticket) (a : AreTickets goroutines turns keys tickets) where
+module _ (goroutines turns : ℕ) (keys : List (Option ℕ)) (tickets : Slab Waiter) (a : AreTickets goroutines turns keys tickets) where
   -- a goroutine without a ticket has no key
   pub no_key : (g : ℕ) → get_or (turns_of tickets keys) g None ≡ None → get_or keys g None ≡ None
   no_key g none = go (get_or keys g None) refl
@@ -81,9 +81,9 @@ module _ (goroutines turns : ℕ) (keys : List (Option ℕ)) (tickets : Slab Tic
       let same = length-set keys g (Some 0) in
       omega arith
 
-  module _ (g key : ℕ) (t : Ticket) (tickets' : Slab Ticket) (none : get_or keys g None ≡ None) (gl : g ≤ goroutines) (vacant : get tickets key ≡ None) (u : Updates tickets tickets' key (Some t)) where
+  module _ (g key : ℕ) (t : Waiter) (tickets' : Slab Waiter) (none : get_or keys g None ≡ None) (gl : g ≤ goroutines) (vacant : get tickets key ≡ None) (u : Updates tickets tickets' key (Some t)) where
     -- each other ticket stands as it stood
-    stood : (k : ℕ) (v : Ticket) → get tickets' k ≡ Some v → ((k ≡ key) × (v ≡ t)) ⊎ ((k ≢ key) × (get tickets k ≡ Some v))
+    stood : (k : ℕ) (v : Waiter) → get tickets' k ≡ Some v → ((k ≡ key) × (v ≡ t)) ⊎ ((k ≢ key) × (get tickets k ≡ Some v))
     stood k v e =
         elim (cases_eq k key) [
           | inl same ↦
@@ -152,8 +152,8 @@ module _ (goroutines turns : ℕ) (keys : List (Option ℕ)) (tickets : Slab Tic
             let old = a.keyed i k e in
             ap turn_of (u.others k (not_vacant k (rw old.1 refl)))
 
-  module _ (g key : ℕ) (tickets' : Slab Ticket) (known : get_or keys g None ≡ Some key) (u : Updates tickets tickets' key None) where
-    remains : (k : ℕ) (v : Ticket) → get tickets' k ≡ Some v → (k ≢ key) × (get tickets k ≡ Some v)
+  module _ (g key : ℕ) (tickets' : Slab Waiter) (known : get_or keys g None ≡ Some key) (u : Updates tickets tickets' key None) where
+    remains : (k : ℕ) (v : Waiter) → get tickets' k ≡ Some v → (k ≢ key) × (get tickets k ≡ Some v)
     remains k v e =
         let other : k ≢ key = λ same. let no = sym u.changed ∙ ap (get tickets') (sym same) ∙ e in cc in
         (other, sym (u.others k other) ∙ e)
@@ -206,7 +206,7 @@ module _ (goroutines turns : ℕ) (keys : List (Option ℕ)) (tickets : Slab Tic
         same None i other e = refl
         same (Some k) i other e = ap turn_of (u.others k (apart i k other e))
 
-pub AreTickets-first : (goroutines : ℕ) (tickets : Slab Ticket) → tickets.slots ≡ [] → goroutines + 1 ≤ tickets.capacity → AreTickets goroutines 0 (replicate (goroutines + 1) None) tickets
+pub AreTickets-first : (goroutines : ℕ) (tickets : Slab Waiter) → tickets.slots ≡ [] → goroutines + 1 ≤ tickets.capacity → AreTickets goroutines 0 (replicate (goroutines + 1) None) tickets
 AreTickets-first goroutines tickets empty room =
     let nothing : (k : ℕ) → get tickets k ≡ None = λ k. ap (λ xs. get_or xs k None) empty in
     record {

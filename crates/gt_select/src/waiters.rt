@@ -2,7 +2,7 @@
 ghost use Rattle.std.specs.Prelude.{◌≡◌, ◌↔◌, ◌≤◌, ◌<◌, [], length, slice_get, IsTrue, IsNone, IfOk, if◌then◌else◌};
 ghost use Rattle.gt_select.specs.Waiting.{IsLawful, IsLive, MayEnrol, MayWait, ticket_of, parties_in, without_goroutine, nobody_waits, enrolled, joined, left, forgotten, gone};
 
-use crate::nodes::{NODES, Ticket, first_other, leave_all, leave_one, party_at};
+use crate::nodes::{NODES, Ticket, Waiter, first_other, leave_all, leave_one, note, party_at};
 use crate::table::Table;
 use gt_model::Party;
 use gt_queue::Queues;
@@ -24,7 +24,7 @@ pub struct Waiters {
     turns: u64,
     /// By goroutine: the key of its live ticket.
     keys: Table,
-    tickets: Slab<Ticket>,
+    tickets: Slab<Waiter>,
     queues: Queues,
     /// By node: the list in which it stands, or stood last.
     places: Table,
@@ -89,7 +89,7 @@ impl Waiters {
     {
         let key = self.keys.at(g)?;
         match self.tickets.get(key as usize) {
-            Some(ticket) => Some(ticket.turn),
+            Some(waiter) => Some(waiter.turn),
             None => None,
         }
     }
@@ -112,7 +112,11 @@ impl Waiters {
             g,
             turn: self.turns,
         };
-        let key = self.tickets.insert_reserved(ticket);
+        let key = self.tickets.insert_reserved(Waiter {
+            g,
+            most: 0,
+            turn: self.turns,
+        });
         self.keys.set(g, Some(key as u32));
         self.turns = self.turns.saturating_add(1);
         ticket
@@ -126,6 +130,7 @@ impl Waiters {
     {
         let key = self.keys.at(p.g).unwrap();
         let node = key * NODES + p.case_no;
+        note(&mut self.tickets, key, p.case_no);
         self.queues.enqueue(list, node);
         self.places.set(node, Some(list));
     }
@@ -165,7 +170,8 @@ impl Waiters {
         ensures { self.new ≡ forgotten self.old list g }
     {
         if let Some(key) = self.keys.at(g) {
-            leave_one(&mut self.queues, &self.places, key, list);
+            let most = self.tickets[key as usize].most;
+            leave_one(&mut self.queues, &self.places, key, most, list);
         }
     }
 
@@ -179,9 +185,9 @@ impl Waiters {
             return false;
         }
         let key = self.keys.at(t.g).unwrap();
-        leave_all(&mut self.queues, key);
+        let waiter = self.tickets.remove(key as usize);
+        leave_all(&mut self.queues, key, waiter.most);
         self.keys.set(t.g, None);
-        self.tickets.remove(key as usize);
         true
     }
 

@@ -29,6 +29,7 @@ is_declaration Role.Defaults = false
 
 abbrev pub is_kind_function : Kind → Bool
 is_kind_function Kind.Timer = false
+is_kind_function Kind.Ticker = false
 is_kind_function Kind.AfterFunc = false
 is_kind_function Kind.Chan = false
 is_kind_function Kind.Function = true
@@ -36,6 +37,7 @@ is_kind_function Kind.Function = true
 -- a timer that is set and stopped
 abbrev pub is_kind_setting : Kind → Bool
 is_kind_setting Kind.Timer = true
+is_kind_setting Kind.Ticker = true
 is_kind_setting Kind.AfterFunc = true
 is_kind_setting Kind.Chan = false
 is_kind_setting Kind.Function = false
@@ -43,12 +45,14 @@ is_kind_setting Kind.Function = false
 -- a timer that is received from
 abbrev pub is_kind_timer : Kind → Bool
 is_kind_timer Kind.Timer = true
+is_kind_timer Kind.Ticker = true
 is_kind_timer Kind.AfterFunc = false
 is_kind_timer Kind.Chan = false
 is_kind_timer Kind.Function = false
 
 abbrev pub is_kind_chan : Kind → Bool
 is_kind_chan Kind.Timer = false
+is_kind_chan Kind.Ticker = false
 is_kind_chan Kind.AfterFunc = false
 is_kind_chan Kind.Chan = true
 is_kind_chan Kind.Function = false
@@ -56,6 +60,7 @@ is_kind_chan Kind.Function = false
 -- what is received from
 abbrev pub is_kind_source : Kind → Bool
 is_kind_source Kind.Timer = true
+is_kind_source Kind.Ticker = true
 is_kind_source Kind.AfterFunc = false
 is_kind_source Kind.Chan = true
 is_kind_source Kind.Function = false

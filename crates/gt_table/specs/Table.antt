@@ -25,6 +25,7 @@ row word role first second step = record { word = word; form = record { role = r
 -- An object's value is its place among the names, and a function's its place among the functions. A new name's is its own place
 abbrev pub row_of : Keyword → Row
 row_of Keyword.Timer = row (codes "timer") (Role.Declares Kind.Timer) Arg.NewName Arg.Nothing (λ a b. Step.Declare What.Timer)
+row_of Keyword.Ticker = row (codes "ticker") (Role.Declares Kind.Ticker) Arg.NewName Arg.Nothing (λ a b. Step.Declare What.Ticker)
 row_of Keyword.AfterFunc = row (codes "afterfunc") (Role.Declares Kind.AfterFunc) Arg.NewName Arg.Function (λ a f. Step.Declare (What.AfterFunc f))
 row_of Keyword.Chan = row (codes "chan") (Role.Declares Kind.Chan) Arg.NewName Arg.Capacity (λ a cap. Step.Declare (What.Chan cap))
 row_of Keyword.Func = row (codes "func") (Role.Declares Kind.Function) Arg.NewName Arg.Nothing (λ decl b. Step.Open decl)
@@ -48,7 +49,7 @@ row_of Keyword.Close = row (codes "close") Role.Acts Arg.Channel Arg.Nothing (λ
 
 abbrev pub keywords : List Keyword
 keywords =
-    Keyword.Timer ∷ Keyword.AfterFunc ∷ Keyword.Chan ∷ Keyword.Func ∷ Keyword.End ∷ Keyword.Loop ∷ Keyword.Select ∷ Keyword.Default ∷ Keyword.Say ∷ Keyword.Now ∷ Keyword.Sleep ∷ Keyword.Go ∷ Keyword.New
+    Keyword.Timer ∷ Keyword.Ticker ∷ Keyword.AfterFunc ∷ Keyword.Chan ∷ Keyword.Func ∷ Keyword.End ∷ Keyword.Loop ∷ Keyword.Select ∷ Keyword.Default ∷ Keyword.Say ∷ Keyword.Now ∷ Keyword.Sleep ∷ Keyword.Go ∷ Keyword.New
     ∷ Keyword.Stop ∷ Keyword.Reset ∷ Keyword.Recv ∷ Keyword.Make ∷ Keyword.Send ∷ Keyword.Close ∷ []
 
 abbrev pub keyword_in : List Keyword → List ℕ → Option Keyword

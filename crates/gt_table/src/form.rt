@@ -8,6 +8,7 @@ use gt_model::{CaseKind, Instr, What};
 #[derive(Clone, Copy, Debug, PartialEq, Eq)]
 pub enum Kind {
     Timer,
+    Ticker,
     AfterFunc,
     Chan,
     Function,

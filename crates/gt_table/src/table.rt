@@ -10,6 +10,7 @@ use gt_model::{CaseKind, Instr, What};
 #[derive(Clone, Copy, Debug, PartialEq, Eq)]
 pub enum Keyword {
     Timer,
+    Ticker,
     AfterFunc,
     Chan,
     Func,
@@ -40,6 +41,7 @@ pub fn read_keyword(word: &[u8]) -> Option<Keyword>
 {
     match word {
         b"timer" => Some(Keyword::Timer),
+        b"ticker" => Some(Keyword::Ticker),
         b"afterfunc" => Some(Keyword::AfterFunc),
         b"chan" => Some(Keyword::Chan),
         b"func" => Some(Keyword::Func),
@@ -82,8 +84,9 @@ impl Keyword {
     pub fn form(self) -> Form
         ensures { result ≡ form_of self }
     {
-        let object = Role::Declares { kind: Kind::Timer };
-        let timer = Role::Declares {
+        let timer = Role::Declares { kind: Kind::Timer };
+        let ticker = Role::Declares { kind: Kind::Ticker };
+        let after_func = Role::Declares {
             kind: Kind::AfterFunc,
         };
         let channel = Role::Declares { kind: Kind::Chan };
@@ -91,8 +94,9 @@ impl Keyword {
             kind: Kind::Function,
         };
         match self {
-            Keyword::Timer => Form::new(object, Arg::NewName, Arg::Nothing),
-            Keyword::AfterFunc => Form::new(timer, Arg::NewName, Arg::Function),
+            Keyword::Timer => Form::new(timer, Arg::NewName, Arg::Nothing),
+            Keyword::Ticker => Form::new(ticker, Arg::NewName, Arg::Nothing),
+            Keyword::AfterFunc => Form::new(after_func, Arg::NewName, Arg::Function),
             Keyword::Chan => Form::new(channel, Arg::NewName, Arg::Capacity),
             Keyword::Func => Form::new(function, Arg::NewName, Arg::Nothing),
             Keyword::End => Form::new(Role::Closes, Arg::Nothing, Arg::Nothing),
@@ -121,6 +125,7 @@ impl Keyword {
     {
         match self {
             Keyword::Timer => Step::Declare { what: What::Timer },
+            Keyword::Ticker => Step::Declare { what: What::Ticker },
             Keyword::AfterFunc => Step::Declare {
                 what: What::AfterFunc {
                     func: second as u32,

@@ -134,7 +134,6 @@ fn refuses_uses_of_channels(rt: HostRuntime) -> Result<(), Fail> {
         ("stop c", Why::Name),
         ("reset c 1ns", Why::Name),
         ("go c", Why::Name),
-        ("ticker", Why::Word),
     ] {
         let text = format!(in rt.alloc();
             "gotime script 1\ntimer t\nafterfunc a main\nchan c 1\nfunc main\n{line}\nend\n"

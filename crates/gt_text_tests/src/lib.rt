@@ -9,3 +9,5 @@ mod durations;
 mod scripts;
 #[cfg(test)]
 mod selects;
+#[cfg(test)]
+mod tickers;

@@ -42,7 +42,7 @@ fn refuses_heads_and_ends(rt: HostRuntime) {
 fn refuses_words_names_and_numbers(rt: HostRuntime) {
     let cases: [(&[u8], u32, Why); 19] = [
         (b"gotime script 1\nnow\n", 2, Why::Word),
-        (b"gotime script 1\nticker k\n", 2, Why::Word),
+        (b"gotime script 1\ntickers k\n", 2, Why::Word),
         (b"gotime script 1\nloop 2\nfunc main\nend\n", 2, Why::Word),
         (b"gotime script 1\nfunc main\nend\n---\n", 4, Why::Word),
         (

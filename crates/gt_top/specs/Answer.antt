@@ -33,7 +33,7 @@ pub record IsRun (script : Script) (limits : Limits) (h : List Entry) (outcome :
   pub in_turn : AtEach (InTurn script) h
   pub jumps_to_least : AtEach (JumpsToLeast script 0) h
   pub in_time : AtEach (InTime script) h
-  pub fresh : AtEach IsFresh h
+  pub fresh : AtEach (IsFresh script) h
   pub uses : AtEach (UsesRightly script) h
   pub passes : AtEach (PassesOn script) h
   pub chooses : AtEach (ChoosesRightly script) h

@@ -42,6 +42,13 @@ pub(crate) const SELECTS: &[(&str, &str, Outcome)] = &[
         "new g1 a 2000000\nnew g1 b 1000000\nclock 0 1000000\ntrecv g1/2 b 1000000 -\nsay g1 2\nstop g1 a true\nend g1\nexit\n",
         Outcome::Exit,
     ),
+    // a ticker beside a timer
+    (
+        "ticker k\ntimer t\nfunc main\nnew k 2ms\nnew t 5ms\nloop 3\nselect\ncase recv t\nsay 1\ncase recv k\nsay 2\nend\nend\nend\n",
+        "new g1 k 2000000\nnew g1 t 5000000\nclock 0 2000000\ntrecv g1/2 k 2000000 4000000\nsay g1 2\nclock 0 4000000\n\
+         trecv g1/2 k 4000000 6000000\nsay g1 2\nclock 0 5000000\ntrecv g1/1 t 5000000 -\nsay g1 1\nend g1\nexit\n",
+        Outcome::Exit,
+    ),
     // a goroutine that waits is a partner, and no default passes over it
     (
         "chan c 0\nfunc main\nmake c\ngo b\nsleep 1ms\nselect\ncase recv c\nsay 1\ndefault\nsay 2\nend\nend\nfunc b\nsend c 7\nend\n",

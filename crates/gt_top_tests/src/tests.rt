@@ -92,6 +92,29 @@ const RUNS: &[(&str, &str, Outcome)] = &[
          sleep g3 1000000\nclock 0 1000000\nwake g1\nend g1\nexit\n",
         Outcome::Exit,
     ),
+    // a ticker: who comes late finds one tick, and the next one keeps to the beat
+    (
+        "ticker k\nfunc main\nnew k 10ms\nsleep 35ms\nrecv k\nrecv k\nend\n",
+        "new g1 k 10000000\nsleep g1 35000000\nclock 0 35000000\nwake g1\ntrecv g1 k 10000000 40000000\n\
+         clock 0 40000000\ntrecv g1 k 40000000 50000000\nend g1\nexit\n",
+        Outcome::Exit,
+    ),
+    (
+        "ticker k\nfunc main\nnew k 10ms\ngo b\nrecv k\nstop k\nrecv k\nend\nfunc b\nreset k 5ms\nend\n",
+        "new g1 k 10000000\ngo g1 g2 b\nreset g2 k - 5000000\nend g2\nclock 0 5000000\ntrecv g1 k 5000000 10000000\n\
+         stop g1 k -\ndeadlock\n",
+        Outcome::Deadlock,
+    ),
+    (
+        "ticker k\nfunc main\nnew k 0\nend\n",
+        "panic g1 ticker\npanic\n",
+        Outcome::Panic,
+    ),
+    (
+        "ticker k\nfunc main\nnew k 1ms\nreset k 0\nend\n",
+        "new g1 k 1000000\npanic g1 ticker\npanic\n",
+        Outcome::Panic,
+    ),
     (
         "timer t\nfunc main\nstop t\nend\n",
         "panic g1 unmade\npanic\n",

@@ -50,6 +50,7 @@ abbrev pub reason_word : Reason → List ℕ
 reason_word Reason.Unmade = codes "unmade"
 reason_word Reason.Twice = codes "twice"
 reason_word Reason.Closed = codes "closed"
+reason_word Reason.Ticker = codes "ticker"
 
 -- how a run ended
 abbrev pub outcome_word : Outcome → List ℕ

@@ -171,6 +171,7 @@ fn fill_panic(line: &mut Line, p: Party, reason: Reason)
         Reason::Unmade => push_word(line, b"unmade"),
         Reason::Twice => push_word(line, b"twice"),
         Reason::Closed => push_word(line, b"closed"),
+        Reason::Ticker => push_word(line, b"ticker"),
     }
 }
 

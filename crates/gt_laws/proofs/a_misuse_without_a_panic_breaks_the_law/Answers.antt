@@ -9,12 +9,19 @@ use Rattle.gt_laws.specs.Broken.{two_calls, one_stop, one_unmade, two_polls}
 use Rattle.gt_laws.proofs.a_misuse_without_a_panic_breaks_the_law.Goals as goal
 
 pub returns-clause-made_twice : goal.returns-clause-made_twice
-returns-clause-made_twice c = λ h. cc (h (Entry.New 1 0 5 ∷ []) (Entry.New 1 0 5) [] refl)
+returns-clause-made_twice c = λ h.
+    let was : true ≡ false = (h (Entry.New 1 0 5 ∷ []) (Entry.New 1 0 5) [] refl).0 in
+    cc was
 
 pub returns-clause-unmade : goal.returns-clause-unmade
 returns-clause-unmade c = λ h.
     let was : false ≡ true = h [] (Entry.Stop 1 1 (Some false)) [] refl in
     cc was
+
+pub returns-clause-without_a_period : goal.returns-clause-without_a_period
+returns-clause-without_a_period c = λ h.
+    let misuse : Some Reason.Ticker ≡ None = (h [] (Entry.New 1 0 0) [] refl).1 in
+    cc misuse
 
 pub returns-clause-for_nothing : goal.returns-clause-for_nothing
 returns-clause-for_nothing c = λ h.
@@ -22,7 +29,7 @@ returns-clause-for_nothing c = λ h.
     h [] (Entry.Panic (record { g = 1; case_no = 0 }) Reason.Unmade) [] refl in
     let stands : Some (Instr.Say 1) ≡ Some panic.0 = panic.1 in
     let at : Instr.Say 1 ≡ panic.0 = cc in
-    subst (λ (i : Instr). IsMisuse [] i 0 Reason.Unmade (misuse_told [] i)) (sym at) panic.2
+    subst (λ (i : Instr). IsMisuse [] i 0 Reason.Unmade (misuse_told two_calls [] i)) (sym at) panic.2
 
 pub returns-clause-for_another_reason : goal.returns-clause-for_another_reason
 returns-clause-for_another_reason c = λ h.
@@ -30,7 +37,7 @@ returns-clause-for_another_reason c = λ h.
     h [] (Entry.Panic (record { g = 1; case_no = 0 }) Reason.Twice) [] refl in
     let stands : Some (Instr.Stop 1) ≡ Some panic.0 = panic.1 in
     let at : Instr.Stop 1 ≡ panic.0 = cc in
-    let misuse : IsMisuse [] (Instr.Stop 1) 0 Reason.Twice (Some Reason.Unmade) = subst (λ (i : Instr). IsMisuse [] i 0 Reason.Twice (misuse_told [] i)) (sym at) panic.2 in
+    let misuse : IsMisuse [] (Instr.Stop 1) 0 Reason.Twice (Some Reason.Unmade) = subst (λ (i : Instr). IsMisuse [] i 0 Reason.Twice (misuse_told one_stop [] i)) (sym at) panic.2 in
     cc misuse.0
 
 pub returns-clause-beside_a_misuse : goal.returns-clause-beside_a_misuse
@@ -46,7 +53,7 @@ returns-clause-for_another_case c = λ h.
     let choice : Instr = Instr.Select ((record { kind = CaseKind.Send 1 7; to = 2 }) ∷ (record { kind = CaseKind.Recv 2; to = 3 }) ∷ []) None in
     let same : Some choice ≡ Some panic.0 = panic.1 in
     let at : choice ≡ panic.0 = cc in
-    let other : ◌≡◌ {A = ℕ} 1 2 = (subst (λ (i : Instr). IsMisuse front i 1 Reason.Unmade (misuse_told front i)) (sym at) panic.2).1 in
+    let other : ◌≡◌ {A = ℕ} 1 2 = (subst (λ (i : Instr). IsMisuse front i 1 Reason.Unmade (misuse_told one_unmade front i)) (sym at) panic.2).1 in
     omega arith
 
 pub returns-clause-for_no_close : goal.returns-clause-for_no_close
@@ -57,5 +64,5 @@ returns-clause-for_no_close c = λ h.
     let choice : Instr = Instr.Select ((record { kind = CaseKind.Send 1 1; to = 1 }) ∷ []) (Some 2) in
     let same : Some choice ≡ Some panic.0 = panic.1 in
     let at : choice ≡ panic.0 = cc in
-    let closed : false ≡ true = (subst (λ (i : Instr). IsMisuse front i 1 Reason.Closed (misuse_told front i)) (sym at) panic.2).0 in
+    let closed : false ≡ true = (subst (λ (i : Instr). IsMisuse front i 1 Reason.Closed (misuse_told two_polls front i)) (sym at) panic.2).0 in
     cc closed

@@ -13,7 +13,7 @@ returns-in-Some c =
     let s = state_of c.args.machine.now in
     let stands : at.stands_at script s c.args.g ≡ Some c.in_ok-instr.instr.now = search rules in
     let found : IsFault script s c.in_ok-instr.instr.now c.in-Some.case_no c.in-Some.reason =
-    fault-is script s c.in_ok-instr.instr.now c.in-Some.case_no c.in-Some.reason (sym (c.fault_at.ensures script) ∙ c.in-Some.is) in
+    fault-is script s c.in_ok-instr.instr.now c.in-Some.case_no c.in-Some.reason (sym c.fault_at.ensures ∙ c.in-Some.is) in
     rw (stands, found.why, found.number) refl
 
 pub returns-in-None : goal.returns-in-None
@@ -21,7 +21,7 @@ returns-in-None c =
     let script = c.args.script.now in
     let s = state_of c.args.machine.now in
     let stands : at.stands_at script s c.args.g ≡ Some c.in_ok-instr.instr.now = search rules in
-    let faultless : fault script s c.in_ok-instr.instr.now ≡ None = fault-none script s c.in_ok-instr.instr.now (sym (c.fault_at.ensures script) ∙ c.in-None.is) in
+    let faultless : fault script s c.in_ok-instr.instr.now ≡ None = fault-none script s c.in_ok-instr.instr.now (sym c.fault_at.ensures ∙ c.in-None.is) in
     rw (stands, faultless, c.step_of_instr.ensures) refl
 
 pub step_of_instr-requires-clause-names : goal.step_of_instr-requires-clause-names

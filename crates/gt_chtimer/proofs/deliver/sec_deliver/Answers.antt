@@ -1,4 +1,5 @@
 use Rattle.std.proofs.Common.{◌≡◌, IsNone, IsSome, ℕ, None, Some, sym, ap, ◌∙◌, rules, true, refl, slice_get, subst}
+use Rattle.gt_model.specs.Script.{is_timer}
 use Rattle.gt_rules.specs.Operations.{receives_from}
 use Rattle.gt_rec.specs.Rec.{Rec, in_flight, is_awaited}
 use Rattle.gt_schedule.specs.Schedule.{parties_at}
@@ -6,20 +7,20 @@ use Rattle.gt_book.specs.View.{is_parked_at, outcome_of}
 use Rattle.gt_book.proofs.Committing.{parked-first}
 use Rattle.gt_rows.specs.declared.answers.Delivered.{Delivered}
 use Rattle.gt_chtimer.proofs.Committing.{tells-over, tells-fine}
-use Rattle.gt_chtimer.proofs.Receiving.{IsChannel, channel-timer}
+use Rattle.gt_chtimer.proofs.Receiving.{channel-timer}
 use Rattle.gt_chtimer.proofs.Delivering.{TellsGiven, awaited-kept, deliver-row}
 use Rattle.gt_chtimer.proofs.deliver.sec_deliver.Goals as goal
 
 pub receive-requires-clause-waits : goal.receive-requires-clause-waits
 receive-requires-clause-waits c =
     let here : slice_get (parties_at c.args.book.now.schedule.receivers c.rec.inside.id) 0 ≡ Some c.in-Some-timer_waiter.p = sym c.timer_waiter.ensures ∙ c.in-Some-timer_waiter.is in
-    let timer : IsChannel c.args.book.now.script c.args.rec.now.id c.args.rec.now.kind = channel-timer c.args.book.now.script c.args.rec.now.id c.args.rec.now.kind c.requires.channel c.requires.lent.agrees.kind in
+    let timer : is_timer c.args.book.now.script c.args.rec.now.id ≡ true = channel-timer c.args.book.now.script c.args.rec.now.id c.args.rec.now.kind c.requires.channel c.requires.lent.agrees.kind in
     let its : c.end_send.new.self.id ≡ c.args.rec.now.id = ap (λ (r : Rec). r.id) c.end_send.ensures.after in
     let running : outcome_of c.args.book.now ≡ None = search rules in
     let first : slice_get (parties_at c.args.book.now.schedule.receivers c.args.rec.now.id) 0 ≡ Some c.in-Some-timer_waiter.p =
     subst (λ (id : ℕ). slice_get (parties_at c.args.book.now.schedule.receivers id) 0 ≡ Some c.in-Some-timer_waiter.p) (ap (λ (r : Rec). r.id) c.rec.view_is ∙ its) here in
     subst (λ (id : ℕ). is_parked_at c.args.book.now.script c.args.book.now.state c.args.book.now.schedule c.in-Some-timer_waiter.p (receives_from id) ≡ true) (sym its)
-    (parked-first c.args.book.now c.args.rec.now.id c.in-Some-timer_waiter.p c.lawful.ensures.lawful timer.timer first)
+    (parked-first c.args.book.now c.args.rec.now.id c.in-Some-timer_waiter.p c.lawful.ensures.lawful timer first)
 
 pub returns-in-Over-clause-row : goal.returns-in-Over-clause-row
 returns-in-Over-clause-row c =

@@ -1,4 +1,4 @@
-use Rattle.std.proofs.Common.{◌≡◌, ℕ, suc, ◌+◌, ◌-◌, ◌<◌, slice_get, sym, ap, subst, ◌∙◌, arith, None, Some}
+use Rattle.std.proofs.Common.{◌≡◌, ℕ, suc, ◌+◌, ◌<◌, slice_get, sym, ap, subst, ◌∙◌, arith, None, Some}
 use Rattle.gt_model.specs.Good.{OperatesRightly}
 use Rattle.gt_book.specs.Steps.{timer_of}
 use Rattle.gt_runner.specs.Served.{operations_of}

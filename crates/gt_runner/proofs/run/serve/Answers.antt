@@ -2,7 +2,7 @@ use Rattle.std.proofs.Common.{◌≡◌, set, slice_get, Some, refl, ap, subst, 
 use Rattle.gt_rec.specs.Rec.{Rec, has_channel}
 use Rattle.gt_rows.specs.Rows.{DeliverRow}
 use Rattle.gt_runner.proofs.Tending.{get-set_same}
-use Rattle.gt_runner.proofs.Serving.{Due, due-item, head-sends, heads-passing, sends-passing, set-twice}
+use Rattle.gt_runner.proofs.Serving.{Due, due-item, head-sends, is-sent, heads-passing, sends-passing, set-twice}
 use Rattle.gt_runner.proofs.run.serve.Goals as goal
 
 pub returns-in_default : goal.returns-in_default
@@ -19,7 +19,8 @@ sec_deliver-done-requires-clause-channel c =
     let now : slice_get (set x.records.items c.args.id c.sec_run_head-done.new.rec) c.args.id ≡ Some c.at_mut-in-Send.result.now = c.at_mut-in-Send.ensures.value in
     let own : slice_get (set x.records.items c.args.id c.sec_run_head-done.new.rec) c.args.id ≡ Some c.sec_run_head-done.new.rec = get-set_same x.records.items c.args.id c.at_mut.result.now c.sec_run_head-done.new.rec c.at_mut.ensures.value in
     let is : c.at_mut-in-Send.result.now ≡ c.sec_run_head-done.new.rec = cc in
-    ap (λ (r : Rec). has_channel r.kind) is ∙ (ap (λ (r : Rec). has_channel r.kind) s.rec_is ∙ ap has_channel s.kind)
+    let sent = is-sent x c.sec_run_head-done.new.book c.sec_run_head-done.new.heap c.at_mut.result.now c.sec_run_head-done.new.rec c.in-Send.seq s in
+    ap (λ (r : Rec). has_channel r.kind) is ∙ (ap has_channel sent.kind ∙ s.channel)
 
 pub returns-in-Send : goal.returns-in-Send
 returns-in-Send c =

@@ -27,8 +27,8 @@ loop-case_no-preserved c =
 pub returns-clause-queues : goal.returns-clause-queues
 returns-clause-queues c =
     let n = c.loop-case_no.case_no in
-    let last : n ≡ 17 = omega arith in
+    let last : n ≡ c.args.most + 1 = omega arith in
     let qs = c.args.queues.now.queues in
     c.loop-case_no.invariant.queues
     ∙ ap (λ k. map (λ waiting. without_run waiting (c.args.key * 17) k) qs) last
-    ∙ map-without_key qs c.args.key
+    ∙ map-without_key qs c.args.key c.args.most c.requires.most c.requires.reached

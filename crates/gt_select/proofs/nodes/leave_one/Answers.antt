@@ -37,9 +37,9 @@ loop-case_no-preserved c =
 pub returns-clause-queues : goal.returns-clause-queues
 returns-clause-queues c =
     let n = c.loop-case_no.case_no in
-    let last : n ≡ 17 = omega arith in
+    let last : n ≡ c.args.most + 1 = omega arith in
     let qs = c.args.queues.now.queues in
     let q = c.args.queue in
     c.loop-case_no.invariant.queues
     ∙ ap (λ k. set qs q (without_run (waiting_in qs q) (c.args.key * 17) k)) last
-    ∙ ap (set qs q) (without_run-key c.args.key (waiting_in qs q))
+    ∙ ap (set qs q) (without_run-key c.args.key c.args.most (waiting_in qs q) c.requires.most c.requires.reached)

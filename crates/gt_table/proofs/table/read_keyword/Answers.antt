@@ -8,6 +8,12 @@ returns-in-afterfunc c =
     let is : word ≡ codes "afterfunc" = text_from_reads word (codes "afterfunc") (omega arith) (search rules) in
     rw is
 
+pub returns-in-ticker : goal.returns-in-ticker
+returns-in-ticker c =
+    let word : List ℕ = c.args.word.now in
+    let is : word ≡ codes "ticker" = text_from_reads word (codes "ticker") (omega arith) (search rules) in
+    rw is
+
 pub returns-in-reset : goal.returns-in-reset
 returns-in-reset c =
     let word : List ℕ = c.args.word.now in

@@ -27,23 +27,27 @@ pub overflow_add-result : goal.overflow_add-result
 overflow_add-result c = let small : c.in-Some.k < 16 = few c in omega arith
 
 pub returns-in-Some : goal.returns-in-Some
-returns-in-Some c script =
+returns-in-Some c =
+    let script = c.args.script.now in
     let s = state_of c.args.self.now in
     subst (λ (i : Instr). Some (c.in-Some.k + 1, c.in-Some.reason) ≡ fault_at script s i) (sym c.in-Select.is)
     (choice-found script s c.in-Select.cases c.in-Select.default_to c.in-Some.k c.in-Some.reason (found c))
 
 pub returns-in-None : goal.returns-in-None
-returns-in-None c script =
+returns-in-None c =
+    let script = c.args.script.now in
     let s = state_of c.args.self.now in
     let none : first_fault s 0 c.in-Select.cases ≡ None = ap (first_fault s 0) (sym c.as_slice.ensures) ∙ (sym c.faulty_case.ensures ∙ c.in-None.is) in
     subst (λ (i : Instr). None ≡ fault_at script s i) (sym c.in-Select.is) (choice-none script s c.in-Select.cases c.in-Select.default_to none)
 
 pub returns-in-Some-fault : goal.returns-in-Some-fault
-returns-in-Some-fault c script =
+returns-in-Some-fault c =
+    let script = c.args.script.now in
     sym (plain-fault script (state_of c.args.self.now) c.args.i.now c.in_default.not-Select
-    ∙ ap (λ (o : Option Reason). elim o as (λ o. Option (ℕ × Reason)) [ None ↦ None | Some reason ↦ Some (0, reason) ]) (sym (c.fault.ensures script) ∙ c.in-Some-fault.is))
+    ∙ ap (λ (o : Option Reason). elim o as (λ o. Option (ℕ × Reason)) [ None ↦ None | Some reason ↦ Some (0, reason) ]) (sym c.fault.ensures ∙ c.in-Some-fault.is))
 
 pub returns-in-None-fault : goal.returns-in-None-fault
-returns-in-None-fault c script =
+returns-in-None-fault c =
+    let script = c.args.script.now in
     sym (plain-fault script (state_of c.args.self.now) c.args.i.now c.in_default.not-Select
-    ∙ ap (λ (o : Option Reason). elim o as (λ o. Option (ℕ × Reason)) [ None ↦ None | Some reason ↦ Some (0, reason) ]) (sym (c.fault.ensures script) ∙ c.in-None-fault.is))
+    ∙ ap (λ (o : Option Reason). elim o as (λ o. Option (ℕ × Reason)) [ None ↦ None | Some reason ↦ Some (0, reason) ]) (sym c.fault.ensures ∙ c.in-None-fault.is))

@@ -5,6 +5,9 @@ use Rattle.gt_select.proofs.Places.{ArePlaced-forgotten}
 use Rattle.gt_select.proofs.Shown.{shown, lists_of-forgotten, lists_of-unknown}
 use Rattle.gt_select.proofs.waiters.Waiters.forget.Goals as goal
 
+pub leave_one-requires-clause-reached : goal.leave_one-requires-clause-reached
+leave_one-requires-clause-reached c = c.self.invariant.1.reached c.in-Some.key c.index.result.now c.index.ensures c.args.list
+
 pub invariant_of-self : goal.invariant_of-self
 invariant_of-self c =
     let f = c.self.inside in

@@ -13,7 +13,7 @@ invariant_of-result c =
     let room : c.args.goroutines + 1 ≤ t.capacity = c.in_ok-tickets.ensures.capacity in
     let few : c.capacity-most.result * 17 < 2 ^ 32 = omega arith in (
       rw c.in_ok-keys.ensures (AreTickets-first c.args.goroutines t c.in_ok-tickets.ensures.empty room),
-      rw c.in_ok-places.ensures (ArePlaced-first (c.capacity-most.result * 17) c.args.lists t c.in_ok-queues.queues c.in_ok-queues.ensures.queues c.in_ok-queues.ensures.members nodes few),
+      rw c.in_ok-places.ensures (ArePlaced-first (c.capacity-most.result * 17) c.args.lists t c.in_ok-queues.queues c.in_ok-queues.ensures.queues c.in_ok-queues.ensures.members nodes few c.in_ok-tickets.ensures.empty),
     )
 
 pub returns : goal.returns

@@ -1,0 +1,11 @@
+use Rattle.std.proofs.Common.{refl, lit<}
+use Rattle.gt_examples.proofs.stops_a_ticker.Goals as goal
+
+pub returns-clause-history : goal.returns-clause-history
+returns-clause-history c = record {
+  legal = ((record { ending = refl; room = lit< tt }, (10000000, record { stands = refl; calm = refl }, refl)), ((record { ending = refl; room = lit< tt }, (20000000, record { stands = refl; calm = refl }, refl, refl)), ((record { ending = refl; room = lit< tt }, (record { stands = refl; calm = refl }, refl)), ((record { ending = refl; room = lit< tt }, record { stands = refl; calm = refl }), (refl, tt)))));
+  over = refl;
+}
+
+pub returns-clause-jumps : goal.returns-clause-jumps
+returns-clause-jumps c = (tt, (tt, (tt, (tt, (tt, tt)))))
