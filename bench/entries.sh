@@ -44,6 +44,7 @@ script() {
         printf 'chan c 0\nfunc main\nmake c\n' && repeated "go a" "$(($2 / 3))"
         printf 'sleep 1ms\nclose c\nsleep 1ms\nend\nfunc a\nrecv c\nend\n'
         ;;
+    ticks) printf 'ticker k\nfunc main\nnew k 1ms\nloop %s\nsleep 3ms\nrecv k\nend\nend\n' "$(($2 / 4))" ;;
     cases)
         seq -f 'chan c%g 0' 16
         printf 'func main\n' && seq -f 'make c%g' 16 && seq -f 'go f%g' 16
@@ -62,7 +63,7 @@ instructions() {
 }
 
 # A chain of goroutines goes on until its limit, the others to their end. A script has fewer than 4,096 timers.
-for kind in say loop sleep reset receive go sleepers timers buffered pairs senders closed cases; do
+for kind in say loop sleep reset receive go sleepers timers buffered pairs senders closed cases ticks; do
     for count in 1000 99000; do
         limit=200000
         if [ "$kind" = timers ] && [ "$count" -gt 12000 ]; then count=12000; fi
