@@ -44,6 +44,16 @@ script() {
         printf 'chan c 0\nfunc main\nmake c\n' && repeated "go a" "$(($2 / 3))"
         printf 'sleep 1ms\nclose c\nsleep 1ms\nend\nfunc a\nrecv c\nend\n'
         ;;
+    wg)
+        local waiting=$(($2 / 3))
+        printf 'wg w\nfunc main\nadd w 1\n' && repeated "go a" "$waiting"
+        printf 'sleep 1ms\ndone w\nsleep 1ms\nend\nfunc a\nwait w\nend\n'
+        ;;
+    mutex)
+        local waiting=$(($2 / 4))
+        printf 'mutex m\nfunc main\nlock m\n' && repeated "go a" "$waiting"
+        printf 'sleep 1ms\nunlock m\nsleep 1ms\nend\nfunc a\nlock m\nunlock m\nend\n'
+        ;;
     ticks) printf 'ticker k\nfunc main\nnew k 1ms\nloop %s\nsleep 3ms\nrecv k\nend\nend\n' "$(($2 / 4))" ;;
     cases)
         seq -f 'chan c%g 0' 16
@@ -63,7 +73,7 @@ instructions() {
 }
 
 # A chain of goroutines goes on until its limit, the others to their end. A script has fewer than 4,096 timers.
-for kind in say loop sleep reset receive go sleepers timers buffered pairs senders closed cases ticks; do
+for kind in say loop sleep reset receive go sleepers timers buffered pairs senders closed cases ticks wg mutex; do
     for count in 1000 99000; do
         limit=200000
         if [ "$kind" = timers ] && [ "$count" -gt 12000 ]; then count=12000; fi

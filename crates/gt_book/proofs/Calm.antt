@@ -1,5 +1,5 @@
--- A change by an entry leaves nobody parked who is firmly ready, but at the channel that it changes.
-use Rattle.std.proofs.Common.{◌≡◌, ◌≢◌, ℕ, suc, ◌+◌, List, [], ◌∷◌, ◌++◌, length, slice_get, eqb, ◌==◌, refl, sym, ap, subst, ◌∙◌, arith, Option, None, Some, Bool, true, false, not, ◌&&◌, is_some, IsTrue, inl, inr}
+-- A change by an entry leaves nobody parked who is firmly ready, but at the object that it changes.
+use Rattle.std.proofs.Common.{◌≡◌, ◌≢◌, ℕ, suc, ◌+◌, ◌<◌, List, [], ◌∷◌, ◌++◌, length, slice_get, eqb, ◌==◌, refl, sym, ap, subst, ◌∙◌, arith, Option, None, Some, Bool, true, false, not, ◌&&◌, is_some, IsTrue, inl, inr}
 use Rattle.std.specs.List.{list_all, enumerate_from}
 use Rattle.std.proofs.lemmas.Bool.{cases_eq, eq-eqb, eqb-true, and_parts, and_from}
 use Rattle.std.proofs.Math.ListN.{length-append}
@@ -14,7 +14,7 @@ use Rattle.gt_model.specs.Good.{IsGood}
 use Rattle.gt_model.specs.Script.{is_chan, capacity_of}
 use Rattle.gt_model.specs.Tables.{numbered, change_numbered}
 use Rattle.gt_model.proofs.Items.{numbered-change_same, numbered-change_other, numbered-push_same, numbered-push_other, HasNumber}
-use Rattle.gt_rules.specs.State.{State, goroutine_at, channel_at, stands_at}
+use Rattle.gt_rules.specs.State.{State, goroutine_at, stands_at}
 use Rattle.gt_rules.specs.Operations.{operation, offers, receives_from, sends_to}
 use Rattle.gt_rules.specs.After.{after, changed, moved, in_mode, with_mover, with_starts, started_by}
 use Rattle.gt_rules.specs.Change.{Change, change_of}
@@ -23,8 +23,6 @@ use Rattle.gt_rules.specs.Panics.{fault, choice_fault}
 use Rattle.gt_rules.specs.Ready.{is_firm, is_ready_case, is_ready_alone, has_partner, partner_waits, no_timer, everyone}
 use Rattle.gt_rules.specs.declared.change.Move.{Move}
 use Rattle.gt_rules.specs.declared.change.Start.{Start}
-use Rattle.gt_rules.specs.declared.change.Trade.{Trade}
-use Rattle.gt_facts.specs.Formed.{IsFormed}
 use Rattle.gt_facts.specs.Quiet.{none_firm}
 use Rattle.gt_facts.proofs.Lookups.{Standing, standing, AtOperation, at_operation, SendsTo, sends-send, ReceivesFrom, receives-recv, offers-operation, names-Does, names-operation}
 use Rattle.gt_facts.proofs.Partners.{Partner, partner, partner-waits}
@@ -34,9 +32,10 @@ use Rattle.gt_schedule.proofs.Counting.{Parking, status-parked}
 use Rattle.gt_schedule.proofs.Parties.{parked_at-status_other}
 use Rattle.gt_book.specs.View.{Agrees, is_waiting, is_firm_at, Fits}
 use Rattle.gt_book.specs.Calm.{IsCalm, IsCalmBut}
+use Rattle.gt_book.specs.Woken.{changed_object}
 use Rattle.gt_book.proofs.Fitting.{Known, known, has_status, unchanged, fits-moved, fits-both, Waiter, cases-statuses}
-use Rattle.gt_book.proofs.Firm.{WasThere, waited, sleeps, AllWere, Stays, firm_of, firm_on, stood, firm-stood, firm-fault, IsQuiet, firm-each, firm-waits, quiet-firm, waits-polls, any-none, never-both, both-false, unless-true, no-reason, calm-standing, nowhere, calm-nowhere, calm_but-next, calm-next}
-use Rattle.gt_book.proofs.Stays.{trades_at, stays-May, stays-wider, stays-same, traded-made-May}
+use Rattle.gt_book.proofs.Firm.{WasThere, waited, sleeps, AllWere, firm_of, firm_on, stood, firm-stood, firm-fault, IsQuiet, firm-each, firm-waits, firm-made, quiet-firm, waits-polls, any-none, never-both, both-false, unless-true, no-reason, calm-standing, nowhere, calm-nowhere, calm_but-next, calm-next}
+use Rattle.gt_book.proofs.Stays.{alters, alters-one, alters-none, altered-declared, stays-May, stays-wider, stays-same}
 
 -- ---- who is parked after a move
 
@@ -127,35 +126,30 @@ were-changed script s m c fits served =
     (each-moved (WasThere s m) script (record s { goroutines = movers }) (moved_by m c.mover) c.partner (fits-moved script s m c.mover fits served.0) served.1 (λ h until r. sleeps until r)
     (each-moved (WasThere s m) script s m c.mover fits served.0 (λ h until r. sleeps until r) (λ g waiting. waited waiting (goroutine_at s g) refl)))
 
--- an entry that changes no channel leaves nobody firmly ready
-calm-unchanged : (script : Script) (s : State) (m : Schedule) (e : Entry) → IsGood script → May script s e → Fits script s m → Served m e → (change_of e).channel ≡ None
+-- an entry that changes no object leaves nobody firmly ready
+pub calm-entered : (script : Script) (s : State) (m : Schedule) (e : Entry) → IsGood script → May script s e → Fits script s m → Served m e → changed_object (change_of e) ≡ None
     → IsCalm script s m → IsCalm script (after script s e) (scheduled m e)
-calm-unchanged script s m e good may fits served none calm =
+calm-entered script s m e good may fits served none calm =
     calm-next script s (after script s e) m (scheduled m e)
-    (stays-wider s (after script s e) (trades_at (change_of e).channel) nowhere (λ o h. ap (λ x. trades_at x o) none) (stays-May script s e good may))
+    (stays-wider s (after script s e) (alters (change_of e)) nowhere (λ o h. alters-none e none o) (stays-May script s e good may))
     (were-changed script s m (change_of e) fits served) calm
 
--- one that changes a channel leaves none but there
-pub calm-but : (script : Script) (s : State) (m : Schedule) (e : Entry) (c : ℕ) (x : Trade) → IsGood script → IsFormed script s → May script s e → Fits script s m → Served m e
-    → (change_of e).channel ≡ Some (c, x) → IsCalm script s m → IsCalmBut script (after script s e) (scheduled m e) (λ o. eqb o c)
-calm-but script s m e c x good formed may fits served is calm =
+-- one that changes an object leaves none but there
+pub calm-but : (script : Script) (s : State) (m : Schedule) (e : Entry) (c : ℕ) → IsGood script → May script s e → Fits script s m → Served m e
+    → changed_object (change_of e) ≡ Some c → IsCalm script s m → IsCalmBut script (after script s e) (scheduled m e) (λ o. eqb o c)
+calm-but script s m e c good may fits served is calm =
     calm_but-next script s (after script s e) m (scheduled m e) nowhere (λ o. eqb o c)
-    (stays-wider s (after script s e) (trades_at (change_of e).channel) (λ o. eqb o c) (λ o h. ap (λ x. trades_at x o) is ∙ h) (stays-May script s e good may))
+    (stays-wider s (after script s e) (alters (change_of e)) (λ o. eqb o c) (alters-one e c is) (stays-May script s e good may))
     (were-changed script s m (change_of e) fits served) (λ o h. refl) (calm-nowhere script s m calm)
-    (λ d h. subst (λ d. is_some (channel_at (after script s e) d) ≡ true) (sym (eqb-true d c h)) (traded-made-May script s e c x good formed may is))
+    (λ d h. subst (λ d. d < length script.decls) (sym (eqb-true d c h)) (altered-declared script s e c good may is))
 
-pub calm-entered : (script : Script) (s : State) (m : Schedule) (e : Entry) → IsGood script → May script s e → Fits script s m → Served m e → (change_of e).channel ≡ None
-    → IsCalm script s m → IsCalm script (after script s e) (scheduled m e)
-calm-entered = calm-unchanged
-
--- one that changes that channel, or none, leaves none but there
+-- one that changes that object, or none, leaves none but there
 pub calm_but-again : (script : Script) (s : State) (m : Schedule) (e : Entry) (c : ℕ) → IsGood script → May script s e → Fits script s m → Served m e
-    → ((o : ℕ) → eqb o c ≡ false → trades_at (change_of e).channel o ≡ false) → IsCalmBut script s m (λ o. eqb o c) → IsCalmBut script (after script s e) (scheduled m e) (λ o. eqb o c)
+    → ((o : ℕ) → eqb o c ≡ false → alters (change_of e) o ≡ false) → IsCalmBut script s m (λ o. eqb o c) → IsCalmBut script (after script s e) (scheduled m e) (λ o. eqb o c)
 calm_but-again script s m e c good may fits served here but =
-    let stays : Stays s (after script s e) (λ o. eqb o c) =
-    stays-wider s (after script s e) (trades_at (change_of e).channel) (λ o. eqb o c) here (stays-May script s e good may) in
-    calm_but-next script s (after script s e) m (scheduled m e) (λ o. eqb o c) (λ o. eqb o c) stays (were-changed script s m (change_of e) fits served) (λ o h. h) but
-    (λ d h. stays.made d (but.made d h))
+    calm_but-next script s (after script s e) m (scheduled m e) (λ o. eqb o c) (λ o. eqb o c)
+    (stays-wider s (after script s e) (alters (change_of e)) (λ o. eqb o c) here (stays-May script s e good may))
+    (were-changed script s m (change_of e) fits served) (λ o h. h) but but.declared
 
 -- ---- changes of the schedule alone
 
@@ -188,6 +182,14 @@ plain-firm script s counts g (Instr.Recv o) kind has none alone partner =
 plain-firm script s counts g (Instr.Send c v) kind has none alone partner =
     let is : CaseKind.Send c v ≡ kind = cc in
     both-false (is_some (fault script s (Instr.Send c v))) _ (ap is_some none)
+    (subst (λ k. is_ready_case script s no_timer counts g k ≡ false) (sym is) (both-false (is_ready_alone script s no_timer kind) _ alone partner))
+plain-firm script s counts g (Instr.Lock m) kind has none alone partner =
+    let is : CaseKind.Recv m ≡ kind = cc in
+    both-false (is_some (fault script s (Instr.Lock m))) _ (ap is_some none)
+    (subst (λ k. is_ready_case script s no_timer counts g k ≡ false) (sym is) (both-false (is_ready_alone script s no_timer kind) _ alone partner))
+plain-firm script s counts g (Instr.Wait w) kind has none alone partner =
+    let is : CaseKind.Recv w ≡ kind = cc in
+    both-false (is_some (fault script s (Instr.Wait w))) _ (ap is_some none)
     (subst (λ k. is_ready_case script s no_timer counts g k ≡ false) (sym is) (both-false (is_ready_alone script s no_timer kind) _ alone partner))
 plain-firm script s counts g i kind has none alone partner = cc
 
@@ -255,10 +257,9 @@ module _ (script : Script) (s : State) (m then : Schedule) (g : ℕ) (others_sta
   own-firm =
       firm-stood script s (is_waiting then) g (goroutine_at s g)
       ∙ (ap (firm_on script s (is_waiting then) g) can.stands
-      ∙ quiet-firm script s (is_waiting then) g (Some instr) (firm-waits script s (is_waiting m) g (Some instr) can.firm) (λ n kind has.
+      ∙ quiet-firm script s (is_waiting then) g (Some instr) (firm-waits script s (is_waiting m) g (Some instr) can.firm) (firm-made script s (is_waiting m) g (Some instr) can.firm) (λ n kind has.
       let x : IsQuiet script s (is_waiting m) g kind = quiet n kind has in
       record {
-        sound = x.sound;
         alone = x.alone;
         partner = unless-true (has_partner script s (is_waiting then) g kind) (λ h. never-both (has_partner script s (is_waiting m) g kind) (has-back kind h) x.partner);
       }))
@@ -336,12 +337,11 @@ module _ (script : Script) (s : State) (m then : Schedule) (g : ℕ) (others_sta
       let on : Option Instr = stood script (goroutine_at s h) in
       let firm : firm_on script s (is_waiting m) h on ≡ false = sym (firm-stood script s (is_waiting m) h (goroutine_at s h)) ∙ calm h before in
       firm-stood script s (is_waiting then) h (goroutine_at s h)
-      ∙ quiet-firm script s (is_waiting then) h on (firm-waits script s (is_waiting m) h on firm) (λ n k e.
+      ∙ quiet-firm script s (is_waiting then) h on (firm-waits script s (is_waiting m) h on firm) (firm-made script s (is_waiting m) h on firm) (λ n k e.
       let x : IsQuiet script s (is_waiting m) h k = firm-each script s (is_waiting m) h on n k firm e in
       let at : AtOperation script s (at_case h n) k = at_operation script s (at_case h n) k e in
       let parked : Parked h at.instr = record { other = other; waits = before; stands = at.stands; firm = ap (firm_on script s (is_waiting m) h) (sym at.stands) ∙ firm } in
       record {
-        sound = x.sound;
         alone = x.alone;
         partner = unless-true (has_partner script s (is_waiting then) h k) (λ full. never-both (has_partner script s (is_waiting m) h k) (not-met h n at.instr k parked at.has full) x.partner);
       })
@@ -414,10 +414,9 @@ module _ (script : Script) (s : State) (m : Schedule) (fits : Fits script s m) (
       let waits : is_waiting m g ≡ true = standing-waits g i e in
       let firm : firm_on script s (is_waiting m) g (Some i) ≡ false =
       sym (ap (firm_on script s (is_waiting m) g) e) ∙ (sym (firm-stood script s (is_waiting m) g (goroutine_at s g)) ∙ calm g waits) in
-      quiet-firm script s everyone g (Some i) (firm-waits script s (is_waiting m) g (Some i) firm) (λ n k q.
+      quiet-firm script s everyone g (Some i) (firm-waits script s (is_waiting m) g (Some i) firm) (firm-made script s (is_waiting m) g (Some i) firm) (λ n k q.
       let x : IsQuiet script s (is_waiting m) g k = firm-each script s (is_waiting m) g (Some i) n k firm q in
       record {
-        sound = x.sound;
         alone = x.alone;
         partner = unless-true (has_partner script s everyone g k) (λ h. never-both (has_partner script s (is_waiting m) g k) (everyone-partner g k h) x.partner);
       })

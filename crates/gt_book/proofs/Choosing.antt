@@ -58,6 +58,12 @@ unready-operation script s timed counts g (Instr.Select cases default_to) (suc k
     unless-true (is_ready_case script s timed counts g kind) (λ ready.
     never-both (list_any (λ (c : Case). is_ready_case script s timed counts g c.kind) cases)
     (operation-any (is_ready_case script s timed counts g) cases k kind e ready) (or-false (is_some default_to) _ h).1)
+unready-operation script s timed counts g (Instr.Lock m) zero kind e h =
+    let is : CaseKind.Recv m ≡ kind = cc in subst (λ kind. is_ready_case script s timed counts g kind ≡ false) is h
+unready-operation script s timed counts g (Instr.Lock m) (suc k) kind e h = cc
+unready-operation script s timed counts g (Instr.Wait w) zero kind e h =
+    let is : CaseKind.Recv w ≡ kind = cc in subst (λ kind. is_ready_case script s timed counts g kind ≡ false) is h
+unready-operation script s timed counts g (Instr.Wait w) (suc k) kind e h = cc
 unready-operation script s timed counts g _ n kind e h = cc
 
 -- ---- an instruction without misuse
@@ -91,6 +97,10 @@ sends-made script s (Instr.Send d w) zero c v none e =
 sends-made script s (Instr.Send d w) (suc k) c v none e = cc
 sends-made script s (Instr.Recv o) zero c v none e = cc
 sends-made script s (Instr.Recv o) (suc k) c v none e = cc
+sends-made script s (Instr.Lock m) zero c v none e = cc
+sends-made script s (Instr.Lock m) (suc k) c v none e = cc
+sends-made script s (Instr.Wait w) zero c v none e = cc
+sends-made script s (Instr.Wait w) (suc k) c v none e = cc
 sends-made script s (Instr.Select cases default_to) zero c v none e = cc
 sends-made script s (Instr.Select cases default_to) (suc k) c v none e =
     let one : IsCase cases k (CaseKind.Send c v) = is-case cases k (CaseKind.Send c v) e in

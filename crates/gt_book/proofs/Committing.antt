@@ -1,7 +1,7 @@
 -- What an operation needs that is committed while the run goes on.
 use Rattle.std.proofs.lemmas.Bool.{le-leb, eq-eqb}
 use Rattle.std.specs.List.{list_any}
-use Rattle.std.proofs.Common.{◌≡◌, IsSomeAnd, ℕ, zero, suc, ◌+◌, ◌<◌, ◌≤◌, min, length, refl, sym, ap, subst, ◌∙◌, slice_get, Option, None, Some, Bool, true, false, not, ◌&&◌, ◌||◌, IsTrue, is_some, List, [], ◌∷◌, ◌==◌, cond, arith, option_map}
+use Rattle.std.proofs.Common.{◌≡◌, IsSomeAnd, ℕ, zero, suc, ◌+◌, ◌<◌, ◌≤◌, min, length, refl, sym, ap, subst, ◌∙◌, slice_get, Option, None, Some, Bool, true, false, not, ◌&&◌, ◌||◌, IsTrue, is_some, List, [], ◌∷◌, cond, arith, option_map}
 use Rattle.gt_model.specs.Times.{greatest_time}
 use Rattle.gt_model.specs.declared.script.Script.{Script}
 use Rattle.gt_model.specs.declared.script.Instr.{Instr}
@@ -13,26 +13,26 @@ use Rattle.gt_model.specs.declared.state.Timer.{Timer}
 use Rattle.gt_rules.specs.Ready.{is_due}
 use Rattle.gt_model.specs.declared.script.CaseKind.{CaseKind}
 use Rattle.gt_rules.specs.Operations.{operation, offers, receives_from}
-use Rattle.gt_rules.specs.Panics.{fault, when, zero_ticker}
+use Rattle.gt_rules.specs.Panics.{fault, zero_ticker}
 use Rattle.gt_rules.specs.After.{duration_of, new_period, period_of}
 use Rattle.gt_rules.specs.Legal.{May, Does, Operates, LeavesDue, operation_at, due_at, was_set, sleep_end}
 use Rattle.gt_model.specs.declared.entry.Party.{Party}
-use Rattle.gt_model.specs.declared.entry.Reason.{Reason}
 use Rattle.gt_schedule.specs.declared.status.RunStatus.{RunStatus}
 use Rattle.gt_book.specs.declared.step.Step.{Step}
 use Rattle.gt_book.specs.declared.answers.Op.{Op}
 use Rattle.gt_book.specs.declared.answers.TimerOp.{TimerOp}
-use Rattle.gt_schedule.specs.Schedule.{Schedule, Served, status_of, is_in_hand, is_parked, parties_at}
-use Rattle.gt_book.specs.Steps.{come_timer, step_of, step_or_panic, step_of_instr, set_instr, set_entry, is_receiving, is_late, is_gone, MayCommit}
+use Rattle.gt_schedule.specs.Schedule.{Schedule, plainly, Served, status_of, is_in_hand, is_parked, parties_at}
+use Rattle.gt_book.specs.Steps.{come_timer, goes_by, step_of, step_or_panic, step_of_instr, set_instr, set_entry, is_receiving, is_late, is_gone, MayCommit}
 use Rattle.gt_book.specs.View.{BookView, IsLawful, outcome_of, is_at, is_parked_at, first_case, case_of, receiver_of}
 use Rattle.gt_facts.specs.Formed.{IsPeriod}
+use Rattle.gt_facts.proofs.Periods.{no-zero}
 use Rattle.gt_facts.proofs.Within.{timer_within}
 use Rattle.gt_facts.proofs.Makers.{neither, calm-fault}
 use Rattle.gt_facts.proofs.Lookups.{Asleep, sleeper, offers-operation}
 use Rattle.gt_facts.proofs.Formed.{world_of-zero}
 use Rattle.gt_book.proofs.Firm.{calm-standing}
 use Rattle.gt_book.proofs.Fitting.{first-waiting, asleep-parked}
-use Rattle.gt_book.proofs.Meeting.{at-receives, receives-kind, parked-operates, recv-is, send-is, choice-is}
+use Rattle.gt_book.proofs.Meeting.{at-receives, receives-kind, parked-operates, plain-is, recv-is, send-is, choice-is}
 use Rattle.gt_book.proofs.Going.{IsStep, step-is, in_hand-goes, parked-goes}
 use Rattle.gt_book.proofs.Setting.{instr-set}
 use Rattle.gt_book.proofs.Options.{ChoiceIs, case_goes, case_polls, all_rest, all_wait, choice-so}
@@ -138,6 +138,8 @@ instr-sleeps script s m g d (Instr.Select cases default_to) h =
 instr-sleeps script s m g d (Instr.Sleep (suc e)) h =
     let same : suc e ≡ d = cc in
     record { is = ap Instr.Sleep same; ends = λ now. subst (λ d. sleep_end now d ≡ Some (due_at now d)) same refl }
+instr-sleeps script s m g d (Instr.Lock k) h = absurd (plain-is (λ step. step ≡ Step.Needs (TimerOp.Sleep d) → ⊥) (λ e q. cc) (λ kind q. cc) (CaseKind.Recv k) (goes_by script s m (plainly g) (CaseKind.Recv k)) h)
+instr-sleeps script s m g d (Instr.Wait w) h = absurd (plain-is (λ step. step ≡ Step.Needs (TimerOp.Sleep d) → ⊥) (λ e q. cc) (λ kind q. cc) (CaseKind.Recv w) (goes_by script s m (plainly g) (CaseKind.Recv w)) h)
 instr-sleeps script s m g d _ h = cc
 
 pub may-sleep : (b : BookView) (g d until : ℕ) → IsLawful b → outcome_of b ≡ None → step_of b.script b.state b.schedule g ≡ Some (Step.Needs (TimerOp.Sleep d))
@@ -184,11 +186,6 @@ set-period b g t d anew step =
     set-duration : (t d : ℕ) (anew : Bool) → duration_of (Some (set_instr t d anew)) ≡ d
     set-duration t d true = refl
     set-duration t d false = refl
-
-no-zero : (ticker : Bool) (d : ℕ) → when (ticker && d == 0) Reason.Ticker ≡ None → IsPeriod ticker (cond ticker d 0)
-no-zero true zero h = cc
-no-zero true (suc d) h = omega arith
-no-zero false d h = refl
 
 pub set-ticks : (b : BookView) (g t d : ℕ) (anew : Bool) → step_of b.script b.state b.schedule g ≡ Some (Step.Needs (TimerOp.Set t d anew))
     → IsPeriod (is_ticker b.script t) (period_of b.script t d)
@@ -238,6 +235,8 @@ receives-there t (Instr.Select cases default_to) h =
     let number : 1 + first.place ≡ suc first.place = omega arith in
     ap (operation (Instr.Select cases default_to)) (first.number ∙ number)
     ∙ (ap (option_map (λ (c : Case). c.kind)) first.there ∙ ap Some (receives-kind first.item.kind t first.passes))
+receives-there t (Instr.Lock m) h = ap Some (receives-kind (CaseKind.Recv m) t h)
+receives-there t (Instr.Wait w) h = ap Some (receives-kind (CaseKind.Recv w) t h)
 receives-there t i h = cc
 
 -- the party that receives from an object stands at that receive
@@ -270,6 +269,8 @@ instr-polls script s m g t (Instr.Sleep zero) h = cc
 instr-polls script s m g t (Instr.Sleep (suc d)) h = cc
 instr-polls script s m g t (Instr.Recv o) h = absurd (recv-is (λ step. step ≡ Step.Needs (TimerOp.Poll t) → ⊥) (λ e q. cc) (λ kind q. cc) (λ t q. cc) script s m g o h)
 instr-polls script s m g t (Instr.Send c v) h = absurd (send-is (λ step. step ≡ Step.Needs (TimerOp.Poll t) → ⊥) (λ e q. cc) (λ kind q. cc) script s m g c v h)
+instr-polls script s m g t (Instr.Lock k) h = absurd (plain-is (λ step. step ≡ Step.Needs (TimerOp.Poll t) → ⊥) (λ e q. cc) (λ kind q. cc) (CaseKind.Recv k) (goes_by script s m (plainly g) (CaseKind.Recv k)) h)
+instr-polls script s m g t (Instr.Wait w) h = absurd (plain-is (λ step. step ≡ Step.Needs (TimerOp.Poll t) → ⊥) (λ e q. cc) (λ kind q. cc) (CaseKind.Recv w) (goes_by script s m (plainly g) (CaseKind.Recv w)) h)
 instr-polls script s m g t _ h = cc
 
 -- who polls a timer may receive its tick that has come

@@ -103,6 +103,8 @@ cases-shown script s found (c ∷ cases) result shows shown one =
 instr-shown : (script : Script) (s : State) (found : Option (ℕ × ℕ)) (i : Instr) (result : Option (ℕ × ℕ))
     → ((t w : ℕ) → offers (receives_from t) i ≡ true → due_of s t ≡ Some w → counted_of script s t ≡ Some w) → IsShown script s found → IsOneAt s found i result → IsShown script s result
 instr-shown script s found (Instr.Recv o) result shows shown one = one-shown script s found (CaseKind.Recv o) result shows shown one
+instr-shown script s found (Instr.Lock m) result shows shown one = one-shown script s found (CaseKind.Recv m) result shows shown one
+instr-shown script s found (Instr.Wait w) result shows shown one = one-shown script s found (CaseKind.Recv w) result shows shown one
 instr-shown script s found (Instr.Select cases default_to) result shows shown one = cases-shown script s found cases result shows shown one
 instr-shown script s found _ result shows shown one = subst (IsShown script s) (sym one) shown
 

@@ -1,5 +1,5 @@
--- What becomes of those that are parked and not firmly ready, where objects and goroutines change: they stay so, but at the channels that change.
-use Rattle.std.proofs.Common.{◌≡◌, ◌≢◌, ℕ, zero, suc, List, [], ◌∷◌, slice_get, option_map, length, nat_lt, ◌==◌, refl, sym, ap, subst, ◌∙◌, Option, None, Some, Bool, true, false, not, ◌&&◌, ◌||◌, is_some, is_none}
+-- What becomes of those that are parked and not firmly ready, where objects and goroutines change: they stay so, but at the objects that change.
+use Rattle.std.proofs.Common.{◌≡◌, ◌≢◌, ℕ, zero, suc, ◌<◌, List, [], ◌∷◌, slice_get, option_map, length, nat_lt, ◌==◌, refl, sym, ap, subst, ◌∙◌, Option, None, Some, Bool, true, false, not, ◌&&◌, ◌||◌, is_some, is_none}
 use Rattle.std.proofs.lemmas.Bool.{and_parts, and_from}
 use Rattle.std.specs.List.{list_any}
 use Rattle.gt_model.specs.declared.script.Case.{Case}
@@ -11,7 +11,8 @@ use Rattle.gt_model.specs.declared.entry.Reason.{Reason}
 use Rattle.gt_model.specs.declared.state.Goroutine.{Goroutine}
 use Rattle.gt_model.specs.declared.state.Mode.{Mode}
 use Rattle.gt_model.specs.Script.{instr_at, what_at, is_chan, capacity_of}
-use Rattle.gt_rules.specs.State.{State, Channel, goroutine_at, timer_at, channel_at, item_count, is_closed, is_made, stands, stands_at}
+use Rattle.gt_model.specs.declared.state.SyncState.{SyncState}
+use Rattle.gt_rules.specs.State.{State, Channel, goroutine_at, timer_at, channel_at, sync_at, item_count, is_closed, is_made, stands, stands_at}
 use Rattle.gt_rules.specs.Operations.{operation, offers, polls, receives_from, sends_to}
 use Rattle.gt_rules.specs.Panics.{fault, fault_at, fault_case, case_fault, choice_fault, when, or_else, open_fault, panic_at}
 use Rattle.gt_rules.specs.Ready.{is_firm, is_firm_in, is_ready_at, is_ready_instr, is_ready_case, is_ready_alone, is_ready_recv, has_partner, partner_waits, no_timer}
@@ -22,7 +23,7 @@ use Rattle.gt_facts.proofs.Still.{panic_stands}
 use Rattle.gt_facts.proofs.Lookups.{IsCase, is-case}
 use Rattle.gt_facts.proofs.Partners.{Partner, partner, partner-waits}
 use Rattle.gt_book.specs.View.{is_waiting}
-use Rattle.gt_book.specs.Calm.{IsCalm, IsCalmBut, may_wait}
+use Rattle.gt_book.specs.Calm.{IsCalm, IsCalmBut, may_wait, unmade}
 
 -- ---- tests
 
@@ -92,13 +93,14 @@ pub firm-fault : (script : Script) (s : State) (counts : ℕ → Bool) (g : ℕ)
 firm-fault script s counts g None h = refl
 firm-fault script s counts g (Some i) h = (or-false (is_some (fault script s i)) (is_ready_instr script s no_timer counts g i) h).0
 
--- ---- what stays: what was made stays made, what was closed stays closed, and channels stay as they are but those that `may` change
+-- ---- what stays: what was made stays made, what was closed stays closed, and channels, mutexes and WaitGroups stay as they are but those that `may` change
 
 pub record Stays (s next : State) (may : ℕ → Bool) : Type 0 where
   pub timers : (t : ℕ) → is_some (timer_at s t) ≡ true → is_some (timer_at next t) ≡ true
   pub made : (c : ℕ) → is_some (channel_at s c) ≡ true → is_some (channel_at next c) ≡ true
   pub closed : (c : ℕ) → is_closed s c ≡ true → is_closed next c ≡ true
   pub same : (c : ℕ) → may c ≡ false → channel_at next c ≡ channel_at s c
+  pub syncs : (o : ℕ) → may o ≡ false → sync_at next o ≡ sync_at s o
 
 -- who is parked now was parked before, as it is, or sleeps
 pub data WasThere (s : State) (m : Schedule) (g : ℕ) : Option Goroutine → Type 0 where
@@ -149,9 +151,8 @@ open-no_fault s c is = open-none (channel_at s c) (is_closed s c) is.made is.uns
 
 -- ---- the operations of one that is parked
 
--- an operation on an object that was made, which is ready neither by itself nor by a partner
+-- an operation which is ready neither by itself nor by a partner
 pub record IsQuiet (script : Script) (s : State) (counts : ℕ → Bool) (g : ℕ) (kind : CaseKind) : Type 0 where
-  pub sound : case_fault s kind ≡ None
   pub alone : is_ready_alone script s no_timer kind ≡ false
   pub partner : has_partner script s counts g kind ≡ false
 
@@ -200,14 +201,18 @@ default-none (Some to) h = cc
 pub case-there : (cases : List Case) (k : ℕ) (c : Case) → slice_get cases k ≡ Some c → option_map (λ (c : Case). c.kind) (slice_get cases k) ≡ Some c.kind
 case-there cases k c e = ap (option_map (λ (c : Case). c.kind)) e
 
-ready-quiet : (script : Script) (s : State) (counts : ℕ → Bool) (g : ℕ) (kind : CaseKind) → case_fault s kind ≡ None → is_ready_case script s no_timer counts g kind ≡ false
-    → IsQuiet script s counts g kind
-ready-quiet script s counts g kind sound h =
+ready-quiet : (script : Script) (s : State) (counts : ℕ → Bool) (g : ℕ) (kind : CaseKind) → is_ready_case script s no_timer counts g kind ≡ false → IsQuiet script s counts g kind
+ready-quiet script s counts g kind h =
     let parts = or-false (is_ready_alone script s no_timer kind) (has_partner script s counts g kind) h in
-    record { sound = sound; alone = parts.0; partner = parts.1 }
+    record { alone = parts.0; partner = parts.1 }
 
 quiet-ready : (script : Script) (s : State) (counts : ℕ → Bool) (g : ℕ) (kind : CaseKind) → IsQuiet script s counts g kind → is_ready_case script s no_timer counts g kind ≡ false
 quiet-ready script s counts g kind x = both-false (is_ready_alone script s no_timer kind) (has_partner script s counts g kind) x.alone x.partner
+
+-- the same of where one stands
+abbrev pub unmade_of : State → Option Instr → Option Reason
+unmade_of s None = None
+unmade_of s (Some i) = unmade s i
 
 -- who is not firmly ready stands at such operations alone, where it may wait
 pub firm-quiet : (script : Script) (s : State) (counts : ℕ → Bool) (g : ℕ) (i : Instr) (n : ℕ) (kind : CaseKind) → firm_on script s counts g (Some i) ≡ false → operation i n ≡ Some kind
@@ -215,22 +220,41 @@ pub firm-quiet : (script : Script) (s : State) (counts : ℕ → Bool) (g : ℕ)
 firm-quiet script s counts g (Instr.Recv o) zero kind h e =
     let is : CaseKind.Recv o ≡ kind = cc in
     let parts = or-false (is_some (fault script s (Instr.Recv o))) (is_ready_instr script s no_timer counts g (Instr.Recv o)) h in
-    subst (IsQuiet script s counts g) is (ready-quiet script s counts g (CaseKind.Recv o) (no-reason (fault script s (Instr.Recv o)) parts.0) parts.1)
+    subst (IsQuiet script s counts g) is (ready-quiet script s counts g (CaseKind.Recv o) parts.1)
 firm-quiet script s counts g (Instr.Recv o) (suc k) kind h e = cc
 firm-quiet script s counts g (Instr.Send c v) zero kind h e =
     let is : CaseKind.Send c v ≡ kind = cc in
     let parts = or-false (is_some (fault script s (Instr.Send c v))) (is_ready_instr script s no_timer counts g (Instr.Send c v)) h in
-    subst (IsQuiet script s counts g) is (ready-quiet script s counts g (CaseKind.Send c v) (sound-made (channel_at s c) (open-fault s c parts.0).made) parts.1)
+    subst (IsQuiet script s counts g) is (ready-quiet script s counts g (CaseKind.Send c v) parts.1)
 firm-quiet script s counts g (Instr.Send c v) (suc k) kind h e = cc
+firm-quiet script s counts g (Instr.Lock m) zero kind h e =
+    let is : CaseKind.Recv m ≡ kind = cc in
+    let parts = or-false (is_some (fault script s (Instr.Lock m))) (is_ready_instr script s no_timer counts g (Instr.Lock m)) h in
+    subst (IsQuiet script s counts g) is (ready-quiet script s counts g (CaseKind.Recv m) parts.1)
+firm-quiet script s counts g (Instr.Lock m) (suc k) kind h e = cc
+firm-quiet script s counts g (Instr.Wait w) zero kind h e =
+    let is : CaseKind.Recv w ≡ kind = cc in
+    let parts = or-false (is_some (fault script s (Instr.Wait w))) (is_ready_instr script s no_timer counts g (Instr.Wait w)) h in
+    subst (IsQuiet script s counts g) is (ready-quiet script s counts g (CaseKind.Recv w) parts.1)
+firm-quiet script s counts g (Instr.Wait w) (suc k) kind h e = cc
 firm-quiet script s counts g (Instr.Select cases default_to) zero kind h e = cc
 firm-quiet script s counts g (Instr.Select cases default_to) (suc k) kind h e =
     let one : IsCase cases k kind = is-case cases k kind e in
     let parts = or-false (is_some (choice_fault s cases)) (is_ready_instr script s no_timer counts g (Instr.Select cases default_to)) h in
     let ready = or-false (is_some default_to) (list_any (λ (c : Case). is_ready_case script s no_timer counts g c.kind) cases) parts.1 in
     subst (IsQuiet script s counts g) one.its
-    (ready-quiet script s counts g one.item.kind (choice-sound s cases k one.item (no-reason (choice_fault s cases) parts.0) one.there)
-    (none-any (λ (c : Case). is_ready_case script s no_timer counts g c.kind) cases k one.item ready.1 one.there))
+    (ready-quiet script s counts g one.item.kind (none-any (λ (c : Case). is_ready_case script s no_timer counts g c.kind) cases k one.item ready.1 one.there))
 firm-quiet script s counts g i n kind h e = cc
+
+faultless-made : (script : Script) (s : State) (i : Instr) → is_some (fault script s i) ≡ false → unmade s i ≡ None
+faultless-made script s (Instr.Recv o) h = no-reason (fault script s (Instr.Recv o)) h
+faultless-made script s (Instr.Send c v) h = sound-made (channel_at s c) (open-fault s c h).made
+faultless-made script s (Instr.Select cases default_to) h = no-reason (choice_fault s cases) h
+faultless-made script s _ h = refl
+
+pub firm-made : (script : Script) (s : State) (counts : ℕ → Bool) (g : ℕ) (o : Option Instr) → firm_on script s counts g o ≡ false → unmade_of s o ≡ None
+firm-made script s counts g None h = refl
+firm-made script s counts g (Some i) h = faultless-made script s i (firm-fault script s counts g (Some i) h)
 
 or-true : (b : Bool) → (b || true) ≡ false → ⊥
 or-true true e = cc
@@ -240,6 +264,8 @@ pub firm-waits : (script : Script) (s : State) (counts : ℕ → Bool) (g : ℕ)
 firm-waits script s counts g None h = refl
 firm-waits script s counts g (Some (Instr.Recv o)) h = refl
 firm-waits script s counts g (Some (Instr.Send c v)) h = refl
+firm-waits script s counts g (Some (Instr.Lock m)) h = refl
+firm-waits script s counts g (Some (Instr.Wait w)) h = refl
 firm-waits script s counts g (Some (Instr.Select cases default_to)) h =
     let parts = or-false (is_some (choice_fault s cases)) (is_ready_instr script s no_timer counts g (Instr.Select cases default_to)) h in
     default-none default_to (or-false (is_some default_to) (list_any (λ (c : Case). is_ready_case script s no_timer counts g c.kind) cases) parts.1).0
@@ -248,23 +274,27 @@ firm-waits script s counts g (Some (Instr.LoopEnd depth top)) h = refl
 firm-waits script s counts g (Some (Instr.Jump to)) h = refl
 firm-waits script s counts g (Some i) h = absurd (or-true (is_some (fault script s i)) h)
 
--- who may wait makes no misuse where its operations are such
-pub quiet-faultless : (script : Script) (s : State) (counts : ℕ → Bool) (g : ℕ) (i : Instr) → may_wait (Some i) ≡ true
+-- who may wait makes no misuse where its operations are such, on what was made
+pub quiet-faultless : (script : Script) (s : State) (counts : ℕ → Bool) (g : ℕ) (i : Instr) → may_wait (Some i) ≡ true → unmade s i ≡ None
     → ((n : ℕ) (kind : CaseKind) → operation i n ≡ Some kind → IsQuiet script s counts g kind) → fault script s i ≡ None
-quiet-faultless script s counts g (Instr.Recv o) w q = (q 0 (CaseKind.Recv o) refl).sound
-quiet-faultless script s counts g (Instr.Send c v) w q =
+quiet-faultless script s counts g (Instr.Recv o) w made q = made
+quiet-faultless script s counts g (Instr.Send c v) w made q =
     let x : IsQuiet script s counts g (CaseKind.Send c v) = q 0 (CaseKind.Send c v) refl in
-    open-no_fault s c (record { made = made-sound (channel_at s c) x.sound; unshut = (or-false (is_closed s c) (nat_lt (item_count s c) (capacity_of script c)) x.alone).0 })
-quiet-faultless script s counts g (Instr.Select cases default_to) w q = sound-choice s cases (λ k c e. (q (suc k) c.kind (case-there cases k c e)).sound)
-quiet-faultless script s counts g (Instr.LoopTop depth count past) w q = refl
-quiet-faultless script s counts g (Instr.LoopEnd depth top) w q = refl
-quiet-faultless script s counts g (Instr.Jump to) w q = refl
-quiet-faultless script s counts g i w q = cc
+    open-no_fault s c (record { made = made-sound (channel_at s c) made; unshut = (or-false (is_closed s c) (nat_lt (item_count s c) (capacity_of script c)) x.alone).0 })
+quiet-faultless script s counts g (Instr.Select cases default_to) w made q = made
+quiet-faultless script s counts g (Instr.Lock m) w made q = refl
+quiet-faultless script s counts g (Instr.Wait w) h made q = refl
+quiet-faultless script s counts g (Instr.LoopTop depth count past) w made q = refl
+quiet-faultless script s counts g (Instr.LoopEnd depth top) w made q = refl
+quiet-faultless script s counts g (Instr.Jump to) w made q = refl
+quiet-faultless script s counts g i w made q = cc
 
 quiet-instr : (script : Script) (s : State) (counts : ℕ → Bool) (g : ℕ) (i : Instr) → may_wait (Some i) ≡ true
     → ((n : ℕ) (kind : CaseKind) → operation i n ≡ Some kind → IsQuiet script s counts g kind) → is_ready_instr script s no_timer counts g i ≡ false
 quiet-instr script s counts g (Instr.Recv o) w q = quiet-ready script s counts g (CaseKind.Recv o) (q 0 (CaseKind.Recv o) refl)
 quiet-instr script s counts g (Instr.Send c v) w q = quiet-ready script s counts g (CaseKind.Send c v) (q 0 (CaseKind.Send c v) refl)
+quiet-instr script s counts g (Instr.Lock m) w q = quiet-ready script s counts g (CaseKind.Recv m) (q 0 (CaseKind.Recv m) refl)
+quiet-instr script s counts g (Instr.Wait w) h q = quiet-ready script s counts g (CaseKind.Recv w) (q 0 (CaseKind.Recv w) refl)
 quiet-instr script s counts g (Instr.Select cases default_to) w q =
     both-false (is_some default_to) _ (no-default default_to w)
     (any-none (λ (c : Case). is_ready_case script s no_timer counts g c.kind) cases (λ k c e. quiet-ready script s counts g c.kind (q (suc k) c.kind (case-there cases k c e))))
@@ -274,11 +304,11 @@ quiet-instr script s counts g (Instr.Jump to) w q = refl
 quiet-instr script s counts g i w q = cc
 
 -- so it is not firmly ready
-pub quiet-firm : (script : Script) (s : State) (counts : ℕ → Bool) (g : ℕ) (o : Option Instr) → may_wait o ≡ true
+pub quiet-firm : (script : Script) (s : State) (counts : ℕ → Bool) (g : ℕ) (o : Option Instr) → may_wait o ≡ true → unmade_of s o ≡ None
     → ((n : ℕ) (kind : CaseKind) → operation_of o n ≡ Some kind → IsQuiet script s counts g kind) → firm_on script s counts g o ≡ false
-quiet-firm script s counts g None w q = refl
-quiet-firm script s counts g (Some i) w q =
-    both-false (is_some (fault script s i)) (is_ready_instr script s no_timer counts g i) (ap is_some (quiet-faultless script s counts g i w q)) (quiet-instr script s counts g i w q)
+quiet-firm script s counts g None w made q = refl
+quiet-firm script s counts g (Some i) w made q =
+    both-false (is_some (fault script s i)) (is_ready_instr script s no_timer counts g i) (ap is_some (quiet-faultless script s counts g i w made q)) (quiet-instr script s counts g i w q)
 
 -- and the other way round
 pub firm-each : (script : Script) (s : State) (counts : ℕ → Bool) (g : ℕ) (o : Option Instr) (n : ℕ) (kind : CaseKind) → firm_on script s counts g o ≡ false → operation_of o n ≡ Some kind
@@ -293,18 +323,20 @@ waits-polls i w = refl
 
 -- ---- the partners of one that is parked were its partners before
 
--- who stands at operations on objects that were made, and makes no misuse after, made none before
-fault-before : (script : Script) (s next : State) (may : ℕ → Bool) (test : CaseKind → Bool) (i : Instr) → Stays s next may → offers test i ≡ true
-    → ((n : ℕ) (kind : CaseKind) → operation i n ≡ Some kind → case_fault s kind ≡ None) → fault script next i ≡ None → fault script s i ≡ None
-fault-before script s next may test (Instr.Recv o) stays passes sound none = sound 0 (CaseKind.Recv o) refl
-fault-before script s next may test (Instr.Send c v) stays passes sound none =
+-- who stands at operations on what was made, and makes no misuse after, made none before
+fault-before : (script : Script) (s next : State) (may : ℕ → Bool) (test : CaseKind → Bool) (i : Instr) → Stays s next may → offers test i ≡ true → unmade s i ≡ None
+    → fault script next i ≡ None → fault script s i ≡ None
+fault-before script s next may test (Instr.Recv o) stays passes made none = made
+fault-before script s next may test (Instr.Send c v) stays passes made none =
     let after : IsOpenChannel next c = open-fault next c (ap is_some none) in
     open-no_fault s c (record {
-      made = made-sound (channel_at s c) (sound 0 (CaseKind.Send c v) refl);
+      made = made-sound (channel_at s c) made;
       unshut = unless-true (is_closed s c) (λ shut. never-both (is_closed next c) (stays.closed c shut) after.unshut);
     })
-fault-before script s next may test (Instr.Select cases default_to) stays passes sound none = sound-choice s cases (λ k c e. sound (suc k) c.kind (case-there cases k c e))
-fault-before script s next may test i stays passes sound none = cc
+fault-before script s next may test (Instr.Select cases default_to) stays passes made none = made
+fault-before script s next may test (Instr.Lock m) stays passes made none = refl
+fault-before script s next may test (Instr.Wait w) stays passes made none = refl
+fault-before script s next may test i stays passes made none = cc
 
 pub panic-standing : (script : Script) (s : State) (g : ℕ) (i : Instr) → stands_at script s g ≡ Some i → panic_at script s g ≡ fault_at script s i
 panic-standing script s g i e =
@@ -326,8 +358,7 @@ calm-standing script s g i e none =
 -- one of those that are parked makes no misuse, where it makes none after
 module _ (script : Script) (s next : State) (m n : Schedule) (x y : ℕ → Bool) (stays : Stays s next y) (were : AllWere s m next n) (calm : IsCalmBut script s m x) where
   calm-before : (g : ℕ) (i : Instr) (test : CaseKind → Bool) → is_waiting m g ≡ true → stands_at script s g ≡ Some i → offers test i ≡ true → fault script next i ≡ None → fault script s i ≡ None
-  calm-before g i test waits e passes none =
-      fault-before script s next y test i stays passes (λ n kind has. calm.objects g n kind waits (ap (λ o. operation_of o n) e ∙ has)) none
+  calm-before g i test waits e passes none = fault-before script s next y test i stays passes (calm.objects g i waits e) none
 
   partner-was : (g k : ℕ) (test : CaseKind → Bool) (i : Instr) (o : Option Goroutine) → WasThere s m k o → goroutine_at next k ≡ o → k ≢ g → stands_at script next k ≡ Some i → fault script next i ≡ None
       → polls i ≡ false → offers test i ≡ true → Partner script s (is_waiting m) g test
@@ -362,25 +393,37 @@ module _ (script : Script) (s next : State) (m n : Schedule) (x y : ℕ → Bool
 
 -- ---- one that is not firmly ready stays so where its object stays and it has no partner
 
-recv-same : (s next : State) (o : ℕ) (w : Option What) → channel_at next o ≡ channel_at s o → is_ready_recv next no_timer o w ≡ is_ready_recv s no_timer o w
+-- the objects under a number
+pub record IsSame (s next : State) (o : ℕ) : Type 0 where
+  pub channel : channel_at next o ≡ channel_at s o
+  pub sync : sync_at next o ≡ sync_at s o
+
+recv-same : (s next : State) (o : ℕ) (w : Option What) → IsSame s next o → is_ready_recv next no_timer o w ≡ is_ready_recv s no_timer o w
 recv-same s next o None same = refl
 recv-same s next o (Some What.Timer) same = refl
 recv-same s next o (Some What.Ticker) same = refl
 recv-same s next o (Some (What.AfterFunc func)) same = refl
-recv-same s next o (Some (What.Chan cap)) same = ap (λ (ch : Option Channel). nat_lt 0 (length (kept_in ch)) || shut_in ch) same
+recv-same s next o (Some (What.Chan cap)) same = ap (λ (ch : Option Channel). nat_lt 0 (length (kept_in ch)) || shut_in ch) same.channel
+recv-same s next o (Some What.Mutex) same = ap (λ (y : SyncState). not y.locked) same.sync
+recv-same s next o (Some What.Wg) same = ap (λ (y : SyncState). y.counter == 0) same.sync
 recv-same s next o (Some What.Function) same = refl
 
 send-same : (s next : State) (c cap : ℕ) → channel_at next c ≡ channel_at s c → (is_closed next c || nat_lt (item_count next c) cap) ≡ (is_closed s c || nat_lt (item_count s c) cap)
 send-same s next c cap same = ap (λ (ch : Option Channel). shut_in ch || nat_lt (length (kept_in ch)) cap) same
 
-pub alone-same : (script : Script) (s next : State) (kind : CaseKind) → channel_at next (object_of kind) ≡ channel_at s (object_of kind)
-    → is_ready_alone script next no_timer kind ≡ is_ready_alone script s no_timer kind
+pub alone-same : (script : Script) (s next : State) (kind : CaseKind) → IsSame s next (object_of kind) → is_ready_alone script next no_timer kind ≡ is_ready_alone script s no_timer kind
 alone-same script s next (CaseKind.Recv o) same = recv-same s next o (what_at script o) same
-alone-same script s next (CaseKind.Send c v) same = send-same s next c (capacity_of script c) same
+alone-same script s next (CaseKind.Send c v) same = send-same s next c (capacity_of script c) same.channel
 
 sound-stays : (s next : State) (may : ℕ → Bool) (kind : CaseKind) → Stays s next may → case_fault s kind ≡ None → case_fault next kind ≡ None
 sound-stays s next may (CaseKind.Recv o) stays h = made-none (is_made next o) (made-stays s next may o stays (none-made (is_made s o) (ap is_some h)))
 sound-stays s next may (CaseKind.Send c v) stays h = sound-made (channel_at next c) (stays.made c (made-sound (channel_at s c) h))
+
+unmade-stays : (s next : State) (may : ℕ → Bool) (i : Instr) → Stays s next may → unmade s i ≡ None → unmade next i ≡ None
+unmade-stays s next may (Instr.Recv o) stays h = sound-stays s next may (CaseKind.Recv o) stays h
+unmade-stays s next may (Instr.Send c v) stays h = sound-stays s next may (CaseKind.Send c v) stays h
+unmade-stays s next may (Instr.Select cases default_to) stays h = sound-choice next cases (λ k c e. sound-stays s next may c.kind stays (choice-sound s cases k c h e))
+unmade-stays s next may _ stays h = refl
 
 -- ---- all of them
 
@@ -390,18 +433,18 @@ record Was (script : Script) (s : State) (m : Schedule) (g k : ℕ) (kind : Case
   at : operation_at script s (at_case g k) ≡ Some kind
 
 pub calm_but-next : (script : Script) (s next : State) (m n : Schedule) (x y : ℕ → Bool) → Stays s next y → AllWere s m next n → ((o : ℕ) → y o ≡ false → x o ≡ false) → IsCalmBut script s m x
-    → ((c : ℕ) → y c ≡ true → is_some (channel_at next c) ≡ true) → IsCalmBut script next n y
-calm_but-next script s next m n x y stays were wider calm made = record {
+    → ((c : ℕ) → y c ≡ true → c < length script.decls) → IsCalmBut script next n y
+calm_but-next script s next m n x y stays were wider calm declared = record {
   waits = λ g waits. stands-there g (goroutine_at next g) (were g waits) refl;
-  objects = λ g k kind waits e. let w : Was script s m g k kind = was g k kind (goroutine_at next g) (were g waits) refl e in sound-stays s next y kind stays (calm.objects g k kind w.waits w.at);
+  objects = λ g i waits e. made-there g i (goroutine_at next g) (were g waits) refl e;
   partners = λ g k kind waits e.
       let w : Was script s m g k kind = was g k kind (goroutine_at next g) (were g waits) refl e in
       unless-true (has_partner script next (is_waiting n) g kind)
       (λ h. never-both (has_partner script s (is_waiting m) g kind) (partner-kept script s next m n x y stays were calm g kind h) (calm.partners g k kind w.waits w.at));
   others = λ g k kind waits e apart.
       let w : Was script s m g k kind = was g k kind (goroutine_at next g) (were g waits) refl e in
-      alone-same script s next kind (stays.same (object_of kind) apart) ∙ calm.others g k kind w.waits w.at (wider (object_of kind) apart);
-  made = made;
+      alone-same script s next kind (record { channel = stays.same (object_of kind) apart; sync = stays.syncs (object_of kind) apart }) ∙ calm.others g k kind w.waits w.at (wider (object_of kind) apart);
+  declared = declared;
 }
   where
     was : (g k : ℕ) (kind : CaseKind) (o : Option Goroutine) → WasThere s m g o → goroutine_at next g ≡ o → operation_at script next (at_case g k) ≡ Some kind → Was script s m g k kind
@@ -409,6 +452,10 @@ calm_but-next script s next m n x y stays were wider calm made = record {
     was g k kind o (sleeps until r) there e =
         let none : operation_at script next (at_case g k) ≡ None = ap (λ o. operation_of (stood script o) k) there in
         cc
+
+    made-there : (g : ℕ) (i : Instr) (o : Option Goroutine) → WasThere s m g o → goroutine_at next g ≡ o → stands_at script next g ≡ Some i → unmade next i ≡ None
+    made-there g i o (waited waits p is) there e = unmade-stays s next y i stays (calm.objects g i waits (ap (stood script) (sym (there ∙ is)) ∙ e))
+    made-there g i o (sleeps until r) there e = let none : stands_at script next g ≡ None = ap (stood script) there in cc
 
     stands-there : (g : ℕ) (o : Option Goroutine) → WasThere s m g o → goroutine_at next g ≡ o → may_wait (stands_at script next g) ≡ true
     stands-there g o (waited waits p is) there = ap (λ o. may_wait (stood script o)) (there ∙ is) ∙ calm.waits g waits
@@ -421,10 +468,10 @@ nowhere o = false
 pub calm-nowhere : (script : Script) (s : State) (m : Schedule) → IsCalm script s m → IsCalmBut script s m nowhere
 calm-nowhere script s m calm = record {
   waits = λ g waits. firm-waits script s (is_waiting m) g (stood script (goroutine_at s g)) (firm g waits);
-  objects = λ g n kind waits e. (firm-each script s (is_waiting m) g (stood script (goroutine_at s g)) n kind (firm g waits) e).sound;
+  objects = λ g i waits e. firm-made script s (is_waiting m) g (Some i) (ap (firm_on script s (is_waiting m) g) (sym e) ∙ firm g waits);
   partners = λ g n kind waits e. (firm-each script s (is_waiting m) g (stood script (goroutine_at s g)) n kind (firm g waits) e).partner;
   others = λ g n kind waits e apart. (firm-each script s (is_waiting m) g (stood script (goroutine_at s g)) n kind (firm g waits) e).alone;
-  made = λ c h. cc;
+  declared = λ c h. cc;
 }
   where
     firm : (g : ℕ) → is_waiting m g ≡ true → firm_on script s (is_waiting m) g (stood script (goroutine_at s g)) ≡ false
@@ -435,8 +482,12 @@ pub calm_but-calm : (script : Script) (s : State) (m : Schedule) (but : ℕ → 
     → ((g n : ℕ) (kind : CaseKind) → is_waiting m g ≡ true → operation_at script s (at_case g n) ≡ Some kind → is_ready_alone script s no_timer kind ≡ false) → IsCalm script s m
 calm_but-calm script s m but calm alone g waits =
     firm-stood script s (is_waiting m) g (goroutine_at s g)
-    ∙ quiet-firm script s (is_waiting m) g (stood script (goroutine_at s g)) (calm.waits g waits) (λ n kind e.
-    record { sound = calm.objects g n kind waits e; alone = alone g n kind waits e; partner = calm.partners g n kind waits e })
+    ∙ quiet-firm script s (is_waiting m) g (stood script (goroutine_at s g)) (calm.waits g waits) (made (stood script (goroutine_at s g)) refl)
+    (λ n kind e. record { alone = alone g n kind waits e; partner = calm.partners g n kind waits e })
+  where
+    made : (o : Option Instr) → stands_at script s g ≡ o → unmade_of s o ≡ None
+    made None e = refl
+    made (Some i) e = calm.objects g i waits e
 
 pub nowhere-calm : (script : Script) (s : State) (m : Schedule) → IsCalmBut script s m nowhere → IsCalm script s m
 nowhere-calm script s m but = calm_but-calm script s m nowhere but (λ g n kind waits e. but.others g n kind waits e refl)

@@ -14,8 +14,8 @@ use Rattle.gt_model.specs.declared.state.Mode.{Mode}
 use Rattle.gt_model.specs.Tables.{numbered, change, change_numbered}
 use Rattle.gt_model.proofs.Changes.{length-change_numbered}
 use Rattle.gt_model.proofs.Items.{numbered-change_same, numbered-change_other, numbered-push_same, numbered-push_other, HasNumber, has_number, numbered-next}
-use Rattle.gt_model.specs.Good.{NamesRightly, OperatesRightly}
-use Rattle.gt_model.specs.Script.{names_timer, names_chan}
+use Rattle.gt_model.specs.Good.{NamesRightly}
+use Rattle.gt_model.specs.Script.{names_timer, names_chan, names_mutex, names_wg}
 use Rattle.gt_model.proofs.Declared.{declared_within, chan_declared}
 use Rattle.gt_rules.specs.State.{State, goroutine_at, stands, stands_at}
 use Rattle.gt_rules.specs.After.{after, changed, first_state, moved, begun, with_mover, with_starts, started_by}
@@ -23,7 +23,7 @@ use Rattle.gt_rules.specs.Change.{Change, change_of}
 use Rattle.gt_rules.specs.Operations.{operation, receives_from, sends_to}
 use Rattle.gt_rules.specs.declared.change.Move.{Move}
 use Rattle.gt_rules.specs.declared.change.Start.{Start}
-use Rattle.gt_facts.proofs.Lookups.{Standing, standing, Asleep, names-operation}
+use Rattle.gt_facts.proofs.Lookups.{Standing, standing, Asleep, NamesObject, names-operation}
 use Rattle.gt_schedule.specs.declared.status.RunStatus.{RunStatus}
 use Rattle.gt_schedule.specs.Counts.{as_number, times, is_party, often}
 use Rattle.gt_schedule.specs.Schedule.{Schedule, first_schedule, plainly, status_of, is_queued, is_in_hand, is_parked, parties_at, joins, taken, parked, parked_at, waiting_at, waiting_at_cases, parked_cases, unparked, with_new, gone_on, turned, moved_by, begun_by, rescheduled, scheduled, object_of, MayMove, ServedBy, ServedIn, Served}
@@ -686,9 +686,9 @@ pub record Chooser (script : Script) (s : State) (m : Schedule) (g : ℕ) (cases
   pub in_hand : status_of m g ≡ Some RunStatus.InHand
   pub declared : AreDeclared (length script.decls) cases
 
--- the objects of a choice are declared
-object-declared : (script : Script) (kind : CaseKind) → OperatesRightly script kind → object_of kind < length script.decls
-object-declared script (CaseKind.Recv o) names = declared_within script o (λ what. names_timer what || names_chan what) refl names
+-- the object of an operation is declared
+pub object-declared : (script : Script) (kind : CaseKind) → NamesObject script kind → object_of kind < length script.decls
+object-declared script (CaseKind.Recv o) names = declared_within script o (λ what. (names_timer what || names_chan what) || (names_mutex what || names_wg what)) refl names
 object-declared script (CaseKind.Send c v) names = chan_declared script c names
 
 pub declared-cases : (script : Script) (cases : List Case) (default_to : Option ℕ) → NamesRightly script (Instr.Select cases default_to) → AreDeclared (length script.decls) cases

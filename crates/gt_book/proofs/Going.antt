@@ -1,11 +1,10 @@
 -- A book whose schedule changes, and one that ends, keep what a book keeps; what a goroutine in hand does may come.
 use Rattle.std.proofs.Common.{◌≡◌, ◌≢◌, ℕ, ◌+◌, ◌<◌, nat_lt, cond, List, [], ◌∷◌, refl, sym, ap, subst, ◌∙◌, arith, Option, None, Some, IfSome, IfNone, length, is_some, IsSome, slice_get, Bool, true, false, not, ◌&&◌, ◌||◌, IsTrue, zero, suc, MatchOption, inl, inr}
-use Rattle.std.specs.List.{AllByRecursion, list_any}
-use Rattle.std.proofs.lemmas.Bool.{ltb-true}
-use Rattle.std.proofs.lemmas.List.Elements.{recursion_from_All}
+use Rattle.std.proofs.lemmas.Bool.{ltb-true, eqb-true}
 use Rattle.gt_model.specs.declared.script.Script.{Script}
 use Rattle.gt_model.specs.declared.script.Instr.{Instr}
 use Rattle.gt_model.specs.declared.script.Place.{Place}
+use Rattle.gt_model.specs.declared.script.What.{What}
 use Rattle.gt_model.specs.declared.script.CaseKind.{CaseKind}
 use Rattle.gt_model.specs.declared.script.Case.{Case}
 use Rattle.gt_model.specs.declared.entry.Entry.{Entry}
@@ -14,43 +13,42 @@ use Rattle.gt_model.specs.declared.entry.Party.{Party}
 use Rattle.gt_model.specs.declared.entry.Reason.{Reason}
 use Rattle.gt_model.specs.declared.state.Goroutine.{Goroutine}
 use Rattle.gt_model.specs.declared.state.Mode.{Mode}
-use Rattle.gt_rules.specs.State.{State, timer_at, channel_at, stands, stands_at, clock_of, sleeps_until, items_of, item_count, is_open, is_closed}
-use Rattle.gt_model.specs.Script.{instr_at, code_of, what_at, is_chan, capacity_of, names_timer, names_chan}
+use Rattle.gt_rules.specs.State.{State, timer_at, channel_at, stands, stands_at, clock_of, sleeps_until, items_of, item_count, is_open, is_closed, is_locked, counter_of, is_done}
+use Rattle.gt_model.specs.Script.{instr_at, code_of, what_at, is_timer, is_chan, is_mutex, is_wg, capacity_of, names_timer, names_chan, names_mutex, names_wg}
 use Rattle.gt_model.proofs.Declared.{declared_within, chan_declared}
 use Rattle.gt_model.proofs.Items.{numbered-change_other}
 use Rattle.gt_rules.specs.Panics.{fault, fault_case, when, panic_at}
 use Rattle.gt_rules.specs.Legal.{May, MayPanic, ChoosesClosed, Does, Operates, operation_at, is_polling}
 use Rattle.gt_rules.specs.Finish.{IsIdle}
 use Rattle.gt_rules.specs.Counted.{counted}
-use Rattle.gt_model.specs.Good.{IsGood, IsGoodChoice, NamesRightly, OperatesRightly}
+use Rattle.gt_model.specs.Good.{IsGood, NamesRightly}
 use Rattle.gt_rules.specs.Places.{silent}
 use Rattle.gt_facts.specs.Formed.{IsFormed, IsPlacedIn}
 use Rattle.gt_facts.proofs.Formed.{formed-finish}
-use Rattle.gt_facts.proofs.Lookups.{names-Does, names-operation, does-Operates}
+use Rattle.gt_facts.proofs.Lookups.{names-Does, names-operation, does-Operates, locks-Operates, waits-Operates}
 use Rattle.gt_book.specs.declared.book.Book.TheInside.{Inside}
 use Rattle.gt_schedule.specs.declared.scheduler.Scheduler.{Scheduler}
 use Rattle.gt_schedule.specs.declared.status.RunStatus.{RunStatus}
 use Rattle.gt_book.specs.declared.step.Step.{Step}
 use Rattle.gt_machine.specs.Machine.{state_of}
-use Rattle.gt_schedule.specs.Schedule.{Schedule, plainly, at_case, object_of, status_of, is_in_hand, is_parked, taken, gone_on, moved_by, MayMove, ServedBy, Served}
+use Rattle.gt_schedule.specs.Schedule.{Schedule, plainly, at_case, status_of, is_in_hand, is_parked, taken, gone_on, moved_by, MayMove, ServedBy, Served}
 use Rattle.gt_schedule.specs.Scheduler.{schedule_of, capacity, IsScheduler}
 use Rattle.gt_schedule.proofs.Moving.{first-queued}
 use Rattle.gt_rules.specs.Change.{Change, change_of}
 use Rattle.gt_rules.specs.declared.change.Move.{Move}
-use Rattle.gt_book.specs.Steps.{chooses, case_step, come_timer, step_of, step_or_panic, step_of_instr, plain_step, goes_by, goes_alone, meets, or_next, receives_alone, sends_alone, meets_sender, meets_receiver, partner_in, value_of}
+use Rattle.gt_book.specs.Steps.{step_of, step_or_panic, step_of_instr, plain_step, goes_by, goes_alone, meets, or_next, receives_alone, takes_alone, sends_alone, meets_sender, meets_receiver, partner_in, value_of}
 use Rattle.gt_book.specs.View.{BookView, IsLawful, Fits, NoneFirm, Agrees, is_waiting, with_entries, with_schedule, outcome_of}
 use Rattle.gt_book.specs.Book.{seen, IsKept}
 use Rattle.gt_book.specs.Calm.{IsCalm}
-use Rattle.gt_book.proofs.Calm.{CanPark, CanWait, calm-taken}
+use Rattle.gt_book.proofs.Calm.{CanPark, calm-taken}
 use Rattle.gt_book.proofs.Entering.{running-none, sound-more, sound-lawful, lawful-sound}
 use Rattle.gt_book.specs.declared.run.Run.{Run}
 use Rattle.gt_book.proofs.Books.{Finished, seen-finished, finished-rooms}
 use Rattle.gt_book.proofs.Fitting.{Known, known, fits-taken, fits-changed}
-use Rattle.gt_book.proofs.Firm.{both-false, never-both, calm-standing, panic-standing}
+use Rattle.gt_book.proofs.Firm.{never-both, calm-standing, panic-standing}
 use Rattle.gt_book.proofs.Choosing.{sends-made}
-use Rattle.gt_book.proofs.Options.{ChoiceIs, NoneGoes, case_goes, case_polls, all_rest, all_wait, choice-so, none-rests, or-is, or-none, sends-none, unready-alone, never-come, meets-nobody}
+use Rattle.gt_book.proofs.Options.{ChoiceIs, case_goes, case_polls, all_rest, all_wait, choice-so, none-rests, or-is, sends-none}
 use Rattle.gt_rules.specs.Operations.{operation}
-use Rattle.gt_rules.specs.Ready.{no_timer, is_ready_alone, is_ready_case}
 use Rattle.gt_book.proofs.Meeting.{plain-is, recv-is, send-is, choice-is, stands-awake, operates-awake, Met, sender-met, receiver-met, parked-other, open-is, met-open, timer-alone, timer-unready}
 
 -- ---- another schedule
@@ -179,6 +177,8 @@ never-nowhere script s m g p (Instr.Sleep zero) None acts h = cc
 never-nowhere script s m g p (Instr.Sleep (suc d)) None acts h = cc
 never-nowhere script s m g p (Instr.Recv o) None acts h = recv-is (λ step. step ≡ Step.Nowhere → ⊥) (λ e k. cc) (λ kind k. cc) (λ t k. cc) script s m g o h
 never-nowhere script s m g p (Instr.Send c v) None acts h = send-is (λ step. step ≡ Step.Nowhere → ⊥) (λ e k. cc) (λ kind k. cc) script s m g c v h
+never-nowhere script s m g p (Instr.Lock k) None acts h = plain-is (λ step. step ≡ Step.Nowhere → ⊥) (λ e q. cc) (λ kind q. cc) (CaseKind.Recv k) (goes_by script s m (plainly g) (CaseKind.Recv k)) h
+never-nowhere script s m g p (Instr.Wait w) None acts h = plain-is (λ step. step ≡ Step.Nowhere → ⊥) (λ e q. cc) (λ kind q. cc) (CaseKind.Recv w) (goes_by script s m (plainly g) (CaseKind.Recv w)) h
 never-nowhere script s m g p i None acts h = cc
 
 pub in_hand-acts : (v : BookView) (g : ℕ) → IsLawful v → status_of v.schedule g ≡ Some RunStatus.InHand → step_of v.script v.state v.schedule g ≡ Some Step.Nowhere → ⊥
@@ -237,6 +237,20 @@ called-receives p c (v ∷ items) closed = record { mover = tt; partner = tt; ti
 called-receives p c [] true = record { mover = tt; partner = tt; timer = refl; clock = refl }
 called-receives p c [] false = tt
 
+called-takes : (s : State) (p : Party) (o : ℕ) (w : Option What) → AreCalled (takes_alone s p o w)
+called-takes s p o None = tt
+called-takes s p o (Some What.Mutex) = by (is_locked s o)
+  where
+    by : (b : Bool) → AreCalled (cond b None (Some (Entry.Lock p.g o)))
+    by true = tt
+    by false = record { mover = tt; partner = tt; timer = refl; clock = refl }
+called-takes s p o (Some What.Wg) = by (is_done s o)
+  where
+    by : (b : Bool) → AreCalled (cond b (Some (Entry.WgWait p.g o)) None)
+    by true = record { mover = tt; partner = tt; timer = refl; clock = refl }
+    by false = tt
+called-takes s p o (Some _) = tt
+
 called-sends : (p : Party) (c v : ℕ) (closed room : Bool) → AreCalled (sends_alone p c v closed room)
 called-sends p c v true room = record { mover = tt; partner = tt; timer = refl; clock = refl }
 called-sends p c v false true = record { mover = tt; partner = tt; timer = refl; clock = refl }
@@ -250,9 +264,9 @@ called-receiver : (p : Party) (c v : ℕ) (o : Option Party) → AreCalled (meet
 called-receiver p c v None = tt
 called-receiver p c v (Some q) = record { mover = tt; partner = tt; timer = refl; clock = refl }
 
-called-where : (b : Bool) (o : Option Entry) → AreCalled o → AreCalled (cond b o None)
-called-where true o h = h
-called-where false o h = tt
+called-where : (b : Bool) (o other : Option Entry) → AreCalled o → AreCalled other → AreCalled (cond b o other)
+called-where true o other h k = h
+called-where false o other h k = k
 
 called-first : (a b : Option Entry) → AreCalled a → AreCalled b → AreCalled (or_next a b)
 called-first None b h k = k
@@ -261,8 +275,10 @@ called-first (Some e) b h k = h
 called-by : (script : Script) (s : State) (m : Schedule) (p : Party) (kind : CaseKind) → AreCalled (goes_by script s m p kind)
 called-by script s m p (CaseKind.Recv o) =
     called-first (goes_alone script s p (CaseKind.Recv o)) (meets script s m p (CaseKind.Recv o))
-    (called-where (is_chan script o) (receives_alone p o (items_of s o) (is_closed s o)) (called-receives p o (items_of s o) (is_closed s o)))
-    (called-where (is_chan script o) (meets_sender script s p o (partner_in script m.senders o)) (called-sender script s p o (partner_in script m.senders o)))
+    (called-where (is_chan script o) (receives_alone p o (items_of s o) (is_closed s o)) (takes_alone s p o (what_at script o))
+    (called-receives p o (items_of s o) (is_closed s o)) (called-takes s p o (what_at script o)))
+    (called-where (is_chan script o) (meets_sender script s p o (partner_in script m.senders o)) None
+    (called-sender script s p o (partner_in script m.senders o)) tt)
 called-by script s m p (CaseKind.Send c v) =
     called-first (goes_alone script s p (CaseKind.Send c v)) (meets script s m p (CaseKind.Send c v))
     (called-sends p c v (is_closed s c) (nat_lt (item_count s c) (capacity_of script c))) (called-receiver p c v (partner_in script m.receivers c))
@@ -293,6 +309,10 @@ called script s m g (Instr.Recv o) = received (is_chan script o)
     received false = tt
 called script s m g (Instr.Send c v) = called-plain (CaseKind.Send c v) (goes_by script s m (plainly g) (CaseKind.Send c v)) (called-by script s m (plainly g) (CaseKind.Send c v))
 called script s m g (Instr.Select cases default_to) = called-choice script s m g cases default_to _ (choice-so script s m g cases default_to)
+called script s m g (Instr.Lock k) = called-plain (CaseKind.Recv k) (goes_by script s m (plainly g) (CaseKind.Recv k)) (called-by script s m (plainly g) (CaseKind.Recv k))
+called script s m g (Instr.Wait w) = called-plain (CaseKind.Recv w) (goes_by script s m (plainly g) (CaseKind.Recv w)) (called-by script s m (plainly g) (CaseKind.Recv w))
+called script s m g (Instr.Unlock k) = record { mover = tt; partner = tt; timer = refl; clock = refl }
+called script s m g (Instr.Add w n) = record { mover = tt; partner = tt; timer = refl; clock = refl }
 called script s m g (Instr.Jump to) = tt
 called script s m g (Instr.New t d) = tt
 called script s m g (Instr.Stop t) = tt
@@ -349,6 +369,27 @@ module _ (script : Script) (s : State) (m : Schedule) (g : ℕ) (good : IsGood s
       subst (MakesSo script s m g) is (alone (Entry.Recv (at_case g n) c None) (Move.GoesOn n) (gets, chan, (kept, shut)) refl refl refl)
   makes-receives n c [] false e kept shut chan gets h = cc
 
+  -- a mutex that nobody has is locked, and a wait for a WaitGroup ends whose counter is 0
+  makes-takes : (n o : ℕ) (w : Option What) (e : Entry) → what_at script o ≡ w → Operates script s (at_case g n) (CaseKind.Recv o) → takes_alone s (at_case g n) o w ≡ Some e
+      → MakesSo script s m g e
+  makes-takes n o (Some What.Mutex) e is gets h =
+      let mutex : IsTrue (is_mutex script o) = ap names_mutex is in
+      let locks : Does script s g (Instr.Lock o) = (locks-Operates script s (at_case g n) o good gets mutex).0 in
+      elim (is_locked s o) as (λ b. is_locked s o ≡ b → cond b None (Some (Entry.Lock g o)) ≡ Some e → MakesSo script s m g e) [
+        | true ↦ λ q k. cc
+        | false ↦ λ q k. let same : Entry.Lock g o ≡ e = cc in subst (MakesSo script s m g) same (alone (Entry.Lock g o) (Move.GoesOn 0) (locks, mutex, q) refl refl refl)
+      ] refl h
+  makes-takes n o (Some What.Wg) e is gets h =
+      let wg : IsTrue (is_wg script o) = ap names_wg is in
+      let waits : Does script s g (Instr.Wait o) = (waits-Operates script s (at_case g n) o good gets wg).0 in
+      elim (is_done s o) as (λ b. is_done s o ≡ b → cond b (Some (Entry.WgWait g o)) None ≡ Some e → MakesSo script s m g e) [
+        | true ↦ λ q k.
+            let same : Entry.WgWait g o ≡ e = cc in
+            subst (MakesSo script s m g) same (alone (Entry.WgWait g o) (Move.GoesOn 0) (waits, wg, eqb-true (counter_of s o) 0 q) refl refl refl)
+        | false ↦ λ q k. cc
+      ] refl h
+  makes-takes n o _ e is gets h = cc
+
   makes-sends : (n c v : ℕ) (closed room : Bool) (e : Entry) → is_closed s c ≡ closed → nat_lt (item_count s c) (capacity_of script c) ≡ room → is_some (channel_at s c) ≡ true
       → Operates script s (at_case g n) (CaseKind.Send c v) → sends_alone (at_case g n) c v closed room ≡ Some e → MakesSo script s m g e
   makes-sends n c v true room e shut has made sends h =
@@ -396,14 +437,21 @@ module _ (script : Script) (s : State) (m : Schedule) (g : ℕ) (good : IsGood s
       → goes_by script s m (at_case g n) kind ≡ Some e → MakesSo script s m g e
   makes-by n (CaseKind.Recv o) i e has does none h =
       let gets : Operates script s (at_case g n) (CaseKind.Recv o) = does-Operates script s (at_case g n) i (CaseKind.Recv o) has does in
-      elim (is_chan script o) as (λ b. is_chan script o ≡ b → or_next (cond b (receives_alone (at_case g n) o (items_of s o) (is_closed s o)) None)
+      elim (is_chan script o) as (λ b. is_chan script o ≡ b
+      → or_next (cond b (receives_alone (at_case g n) o (items_of s o) (is_closed s o)) (takes_alone s (at_case g n) o (what_at script o)))
       (cond b (meets_sender script s (at_case g n) o (partner_in script m.senders o)) None) ≡ Some e → MakesSo script s m g e) [
         | true ↦ λ chan k. elim (or-is (receives_alone (at_case g n) o (items_of s o) (is_closed s o)) (meets_sender script s (at_case g n) o (partner_in script m.senders o)) e k) [
           | inl by ↦ makes-receives n o (items_of s o) (is_closed s o) e refl refl chan gets by
           | inr by ↦ makes-sender n o (partner_in script m.senders o) e refl chan gets by.1
         ]
-        | false ↦ λ plain k. cc
+        | false ↦ λ plain k. elim (or-is (takes_alone s (at_case g n) o (what_at script o)) None e k) [
+          | inl by ↦ makes-takes n o (what_at script o) e refl gets by
+          | inr by ↦ absurd (none-some e by.1)
+        ]
       ] refl h
+    where
+      none-some : (e : Entry) → None ≡ Some e → ⊥
+      none-some e h = cc
   makes-by n (CaseKind.Send c v) i e has does none h =
       let sends : Operates script s (at_case g n) (CaseKind.Send c v) = does-Operates script s (at_case g n) i (CaseKind.Send c v) has does in
       let made : is_some (channel_at s c) ≡ true = sends-made script s i n c v none has in
@@ -456,6 +504,14 @@ module _ (script : Script) (s : State) (m : Schedule) (g : ℕ) (good : IsGood s
   makes-instr (Instr.Select cases default_to) e does none h = makes-choice cases default_to _ e does none (choice-so script s m g cases default_to) h
   makes-instr (Instr.Close c) e does none h =
       let is : Entry.Close g c ≡ e = cc in subst (MakesSo script s m g) is (alone (Entry.Close g c) (Move.GoesOn 0) does refl refl refl)
+  makes-instr (Instr.Lock k) e does none h =
+      makes-by 0 (CaseKind.Recv k) (Instr.Lock k) e refl does none (makes-plain (CaseKind.Recv k) (goes_by script s m (plainly g) (CaseKind.Recv k)) e h)
+  makes-instr (Instr.Unlock k) e does none h =
+      let is : Entry.Unlock g k ≡ e = cc in subst (MakesSo script s m g) is (alone (Entry.Unlock g k) (Move.GoesOn 0) does refl refl refl)
+  makes-instr (Instr.Add w n) e does none h =
+      let is : Entry.Add g w n ≡ e = cc in subst (MakesSo script s m g) is (alone (Entry.Add g w n) (Move.GoesOn 0) does refl refl refl)
+  makes-instr (Instr.Wait w) e does none h =
+      makes-by 0 (CaseKind.Recv w) (Instr.Wait w) e refl does none (makes-plain (CaseKind.Recv w) (goes_by script s m (plainly g) (CaseKind.Recv w)) e h)
   makes-instr Instr.Finish e does none h =
       let is : Entry.End g ≡ e = cc in subst (MakesSo script s m g) is (alone (Entry.End g) Move.Ends does refl refl refl)
   makes-instr (Instr.New t d) e does none h = cc
@@ -547,11 +603,12 @@ makes-awake script s m g e good formed fits calm in_hand h =
     let step : IsStep script s m g (Step.Makes e) = step-is script s m g (Step.Makes e) h in
     so-awake script s m g e (stands-awake script s g step.instr step.stands) (makes-so script s m g good fits calm in_hand e h)
 
--- ---- who waits
+-- ---- who waits at a timer
 
 -- who waits at the receive of a timer stands there, and its timer was made
 pub record WaitsRightly (script : Script) (s : State) (g t : ℕ) : Type 0 where
   pub stands : stands_at script s g ≡ Some (Instr.Recv t)
+  pub timer : is_timer script t ≡ true
   pub plain : is_chan script t ≡ false
   pub faultless : fault script s (Instr.Recv t) ≡ None
   pub made : is_some (timer_at s t) ≡ true
@@ -575,6 +632,8 @@ instr-waits script s m g t (Instr.Select cases default_to) h =
     absurd (choice-is (λ step. step ≡ Step.Waits t → ⊥) (λ e q. cc) (λ t q. cc) (λ timed q. cc) script s m g cases default_to h)
 instr-waits script s m g t (Instr.Sleep zero) h = cc
 instr-waits script s m g t (Instr.Sleep (suc d)) h = cc
+instr-waits script s m g t (Instr.Lock k) h = absurd (plain-is (λ step. step ≡ Step.Waits t → ⊥) (λ e q. cc) (λ kind q. cc) (CaseKind.Recv k) (goes_by script s m (plainly g) (CaseKind.Recv k)) h)
+instr-waits script s m g t (Instr.Wait w) h = absurd (plain-is (λ step. step ≡ Step.Waits t → ⊥) (λ e q. cc) (λ kind q. cc) (CaseKind.Recv w) (goes_by script s m (plainly g) (CaseKind.Recv w)) h)
 instr-waits script s m g t _ h = cc
 
 -- what was made and is no channel is a timer
@@ -589,8 +648,14 @@ made-timer script s t formed plain none =
     first true h = refl
     first false h = cc
 
+-- what gives values and is no channel is a timer
+plain-timer : (timer chan : Bool) → IsTrue (timer || chan) → chan ≡ false → timer ≡ true
+plain-timer true chan gives plain = refl
+plain-timer false true gives plain = cc
+plain-timer false false gives plain = cc
+
 -- what is received from is declared
-recv-declared : (script : Script) (t : ℕ) → NamesRightly script (Instr.Recv t) → t < length script.decls
+pub recv-declared : (script : Script) (t : ℕ) → NamesRightly script (Instr.Recv t) → t < length script.decls
 recv-declared script t names = declared_within script t (λ o. names_timer o || names_chan o) refl names
 
 pub waits-rightly : (script : Script) (s : State) (m : Schedule) (g t : ℕ) → IsGood script → IsFormed script s → step_of script s m g ≡ Some (Step.Waits t) → WaitsRightly script s g t
@@ -602,12 +667,14 @@ waits-rightly script s m g t good formed h =
           let stands : stands_at script s g ≡ Some (Instr.Recv t) = step.stands ∙ ap Some at.is in
           let faultless : fault script s (Instr.Recv t) ≡ None = ap (fault script s) (sym at.is) ∙ q in
           let does : Does script s g (Instr.Recv t) = record { stands = stands; calm = calm-standing script s g (Instr.Recv t) stands faultless } in
+          let names : NamesRightly script (Instr.Recv t) = names-Does script s g (Instr.Recv t) good does in
           record {
             stands = stands;
+            timer = plain-timer (is_timer script t) (is_chan script t) names at.plain;
             plain = at.plain;
             faultless = faultless;
             made = made-timer script s t formed at.plain faultless;
-            within = recv-declared script t (names-Does script s g (Instr.Recv t) good does);
+            within = recv-declared script t names;
           }
       | Some reason ↦ λ q k. cc
     ] refl step.is
@@ -625,135 +692,6 @@ waits-parks script s m g t good formed in_hand h =
     record {
       waiter = record { instr = Instr.Recv t; stands = w.stands; has = refl; in_hand = in_hand; declared = w.within };
       faultless = w.faultless;
-      alone = timer-unready s t (what_at script t) w.plain;
+      alone = timer-unready s t (what_at script t) w.timer;
       partner = timer-alone script s m g t w.plain;
     }
-
--- ---- who waits at a channel
-
--- what a step that parks has met
-module _ (script : Script) (s : State) (m : Schedule) (g : ℕ) (good : IsGood script) (fits : Fits script s m) (in_hand : status_of m g ≡ Some RunStatus.InHand) where
-  parks-plain : (kind : CaseKind) (o : Option Entry) (at : CaseKind) → plain_step kind o ≡ Step.Parks at → (o ≡ None) × (kind ≡ at)
-  parks-plain kind None at h = (refl, cc)
-  parks-plain kind (Some e) at h = cc
-
-  parks-by : (kind at : CaseKind) (i : Instr) → operation i 0 ≡ Some kind → stands_at script s g ≡ Some i → fault script s i ≡ None → object_of kind < length script.decls
-      → OperatesRightly script kind → plain_step kind (goes_by script s m (plainly g) kind) ≡ Step.Parks at → CanPark script s m g at
-  parks-by kind at i has stands none within names h =
-      let parts = parks-plain kind (goes_by script s m (plainly g) kind) at h in
-      let neither = or-none (goes_alone script s (plainly g) kind) (meets script s m (plainly g) kind) parts.0 in
-      subst (CanPark script s m g) parts.1 (record {
-        waiter = record { instr = i; stands = stands; has = has; in_hand = in_hand; declared = within };
-        faultless = none;
-        alone = unready-alone script s (plainly g) no_timer kind neither.0 (never-come script kind);
-        partner = meets-nobody script s m g (plainly g) kind fits names neither.1;
-      })
-
-  parks-instr : (i : Instr) (kind : CaseKind) → stands_at script s g ≡ Some i → fault script s i ≡ None → step_of_instr script s m g i ≡ Step.Parks kind → CanPark script s m g kind
-  parks-instr (Instr.Recv o) kind stands none h =
-      let names : NamesRightly script (Instr.Recv o) = names-Does script s g (Instr.Recv o) good (record { stands = stands; calm = calm-standing script s g (Instr.Recv o) stands none }) in
-      elim (is_chan script o)
-      as (λ b. cond b (plain_step (CaseKind.Recv o) (goes_by script s m (plainly g) (CaseKind.Recv o))) (Step.Waits o) ≡ Step.Parks kind → CanPark script s m g kind) [
-        | true ↦ λ k. parks-by (CaseKind.Recv o) kind (Instr.Recv o) refl stands none (recv-declared script o names) names k
-        | false ↦ λ k. cc
-      ] h
-  parks-instr (Instr.Send c v) kind stands none h =
-      let names : NamesRightly script (Instr.Send c v) = names-Does script s g (Instr.Send c v) good (record { stands = stands; calm = calm-standing script s g (Instr.Send c v) stands none }) in
-      parks-by (CaseKind.Send c v) kind (Instr.Send c v) refl stands none (chan_declared script c names) names h
-  parks-instr (Instr.Select cases default_to) kind stands none h =
-      absurd (choice-is (λ step. step ≡ Step.Parks kind → ⊥) (λ e q. cc) (λ t q. cc) (λ timed q. cc) script s m g cases default_to h)
-  parks-instr (Instr.Sleep zero) kind stands none h = cc
-  parks-instr (Instr.Sleep (suc d)) kind stands none h = cc
-  parks-instr i kind stands none h = cc
-
-pub parks-rightly : (script : Script) (s : State) (m : Schedule) (g : ℕ) (kind : CaseKind) → IsGood script → Fits script s m → status_of m g ≡ Some RunStatus.InHand
-    → step_of script s m g ≡ Some (Step.Parks kind) → CanPark script s m g kind
-parks-rightly script s m g kind good fits in_hand h =
-    let step : IsStep script s m g (Step.Parks kind) = step-is script s m g (Step.Parks kind) h in
-    elim (fault script s step.instr) as (λ o. fault script s step.instr ≡ o → step_or_panic script s m g step.instr o ≡ Step.Parks kind → CanPark script s m g kind) [
-      | None ↦ λ q k. parks-instr script s m g good fits in_hand step.instr kind step.stands q k
-      | Some reason ↦ λ q k. cc
-    ] refl step.is
-
--- ---- who waits at a choice
-
--- what a step that waits at the cases of a choice has met
-pub record CanChoose (script : Script) (s : State) (m : Schedule) (g : ℕ) : Type 0 where
-  pub cases : List Case
-  pub stands : stands_at script s g ≡ Some (Instr.Select cases None)
-  pub names : IsGoodChoice script cases None
-  pub waits : CanWait script s m g
-
--- what an operation names is declared
-pub operates-declared : (script : Script) (kind : CaseKind) → OperatesRightly script kind → object_of kind < length script.decls
-operates-declared script (CaseKind.Recv o) names = recv-declared script o names
-operates-declared script (CaseKind.Send c v) names = chan_declared script c names
-
-module _ (script : Script) (s : State) (m : Schedule) (g : ℕ) (good : IsGood script) (fits : Fits script s m) where
-  none-goes : (n : ℕ) (cases : List Case) → AllByRecursion (λ (c : Case). OperatesRightly script c.kind) cases → NoneGoes script s m g false n cases
-      → list_any (λ (c : Case). is_ready_case script s no_timer (is_waiting m) g c.kind) cases ≡ false
-  none-goes n [] names none = refl
-  none-goes n (c ∷ cases) names none =
-      let nothing : goes_by script s m (at_case g n) c.kind ≡ None = no-step (goes_by script s m (at_case g n) c.kind) (come_timer script s (clock_of s g) c.kind) none.0 in
-      let neither = or-none (goes_alone script s (at_case g n) c.kind) (meets script s m (at_case g n) c.kind) nothing in
-      both-false (is_ready_case script s no_timer (is_waiting m) g c.kind) _
-      (both-false (is_ready_alone script s no_timer c.kind) _ (unready-alone script s (at_case g n) no_timer c.kind neither.0 (never-come script c.kind))
-      (meets-nobody script s m g (at_case g n) c.kind fits names.0 neither.1))
-      (none-goes (n + 1) cases names.1 none.1)
-    where
-      no-step : (e : Option Entry) (come : Option ℕ) → case_step e false come ≡ None → e ≡ None
-      no-step None come h = refl
-      no-step (Some e) come h = cc
-
-  choice-waits : (cases : List Case) (default_to : Option ℕ) (step : Step) (timed : Bool) → stands_at script s g ≡ Some (Instr.Select cases default_to)
-      → fault script s (Instr.Select cases default_to) ≡ None → ChoiceIs script s m g cases default_to step → step ≡ Step.Chooses timed → CanChoose script s m g
-  choice-waits cases default_to step timed stands none (case_goes n kind e has by) h = cc
-  choice-waits cases default_to step timed stands none (case_polls n kind t has come) h = cc
-  choice-waits cases default_to step timed stands none (all_rest to is rest) h = cc
-  choice-waits cases default_to step timed stands none (all_wait is rest) h =
-      let here : stands_at script s g ≡ Some (Instr.Select cases None) = stands ∙ ap (λ o. Some (Instr.Select cases o)) is in
-      let faultless : fault script s (Instr.Select cases None) ≡ None = none in
-      let names : IsGoodChoice script cases None = names-Does script s g (Instr.Select cases None) good (record { stands = here; calm = calm-standing script s g (Instr.Select cases None) here faultless }) in
-      record {
-        cases = cases;
-        stands = here;
-        names = names;
-        waits = record {
-          instr = Instr.Select cases None;
-          stands = here;
-          firm = both-false (is_some (fault script s (Instr.Select cases None))) _ (ap is_some faultless)
-              (none-goes 1 cases (recursion_from_All (λ (c : Case). OperatesRightly script c.kind) cases names.each) rest);
-        };
-      }
-
-  chooses-instr : (i : Instr) (timed : Bool) → stands_at script s g ≡ Some i → fault script s i ≡ None → step_of_instr script s m g i ≡ Step.Chooses timed → CanChoose script s m g
-  chooses-instr (Instr.Select cases default_to) timed stands none h = choice-waits cases default_to _ timed stands none (choice-so script s m g cases default_to) h
-  chooses-instr (Instr.Recv o) timed stands none h =
-      absurd (recv-is (λ step. step ≡ Step.Chooses timed → ⊥) (λ e q. cc) (λ kind q. cc) (λ t q. cc) script s m g o h)
-  chooses-instr (Instr.Send c v) timed stands none h = absurd (send-is (λ step. step ≡ Step.Chooses timed → ⊥) (λ e q. cc) (λ kind q. cc) script s m g c v h)
-  chooses-instr (Instr.Sleep zero) timed stands none h = cc
-  chooses-instr (Instr.Sleep (suc d)) timed stands none h = cc
-  chooses-instr i timed stands none h = cc
-
-pub chooses-rightly : (script : Script) (s : State) (m : Schedule) (g : ℕ) → IsGood script → Fits script s m → IsTrue (chooses (step_of script s m g)) → CanChoose script s m g
-chooses-rightly script s m g good fits h =
-    elim (step_of script s m g) as (λ o. step_of script s m g ≡ o → chooses o ≡ true → CanChoose script s m g) [
-      | None ↦ λ e k. cc
-      | Some step ↦ λ e k. by step e k
-    ] refl h
-  where
-    at : (timed : Bool) → step_of script s m g ≡ Some (Step.Chooses timed) → CanChoose script s m g
-    at timed e =
-        let step : IsStep script s m g (Step.Chooses timed) = step-is script s m g (Step.Chooses timed) e in
-        elim (fault script s step.instr) as (λ o. fault script s step.instr ≡ o → step_or_panic script s m g step.instr o ≡ Step.Chooses timed → CanChoose script s m g) [
-          | None ↦ λ q k. chooses-instr script s m g good fits step.instr timed step.stands q k
-          | Some reason ↦ λ q k. cc
-        ] refl step.is
-
-    by : (step : Step) → step_of script s m g ≡ Some step → chooses (Some step) ≡ true → CanChoose script s m g
-    by (Step.Chooses timed) e k = at timed e
-    by (Step.Makes x) e k = cc
-    by (Step.Waits t) e k = cc
-    by (Step.Parks kind) e k = cc
-    by (Step.Needs op) e k = cc
-    by Step.Nowhere e k = cc

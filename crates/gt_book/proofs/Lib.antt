@@ -7,6 +7,7 @@ pub mod Books
 pub mod Meeting
 pub mod Waking
 pub mod Going
+pub mod Resting
 pub mod Giving
 pub mod Counting
 pub mod Waiting

@@ -11,7 +11,7 @@ use Rattle.gt_model.specs.declared.entry.Entry.{Entry}
 use Rattle.gt_model.specs.declared.entry.Party.{Party}
 use Rattle.gt_model.specs.declared.state.Goroutine.{Goroutine}
 use Rattle.gt_model.specs.declared.state.Mode.{Mode}
-use Rattle.gt_model.specs.Script.{is_chan, names_chan, capacity_of}
+use Rattle.gt_model.specs.Script.{is_chan, names_timer, capacity_of}
 use Rattle.gt_rules.specs.State.{State, Channel, channel_at, stands_at, clock_of, until_of, sleeps_until, item_count, is_open, is_closed}
 use Rattle.gt_rules.specs.Operations.{operation, offers, polls, receives_from, sends_to}
 use Rattle.gt_rules.specs.Legal.{Operates, operation_at, is_polling}
@@ -280,11 +280,9 @@ send-alone script s m g c v fits declared none =
 pub timer-alone : (script : Script) (s : State) (m : Schedule) (g t : ℕ) → is_chan script t ≡ false → has_partner script s (is_waiting m) g (CaseKind.Recv t) ≡ false
 timer-alone script s m g t none = ap (λ b. b && capacity_of script t == 0 && partner_waits script s (is_waiting m) g (sends_to t)) none
 
--- what is no channel is ready for a receive by its time alone
-pub timer-unready : (s : State) (t : ℕ) (what : Option What) → names_chan what ≡ false → is_ready_recv s no_timer t what ≡ false
-timer-unready s t None none = refl
-timer-unready s t (Some What.Timer) none = refl
-timer-unready s t (Some What.Ticker) none = refl
-timer-unready s t (Some (What.AfterFunc func)) none = refl
-timer-unready s t (Some (What.Chan cap)) none = cc
-timer-unready s t (Some What.Function) none = refl
+-- a timer is ready for a receive by its time alone
+pub timer-unready : (s : State) (t : ℕ) (what : Option What) → names_timer what ≡ true → is_ready_recv s no_timer t what ≡ false
+timer-unready s t None timer = refl
+timer-unready s t (Some What.Timer) timer = refl
+timer-unready s t (Some What.Ticker) timer = refl
+timer-unready s t (Some _) timer = cc

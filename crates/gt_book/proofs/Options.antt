@@ -1,5 +1,5 @@
 -- What an operation is for a goroutine in hand, and what a choice is: the case with the lowest number that can go on, its default, or a wait.
-use Rattle.std.proofs.Common.{◌≡◌, ℕ, suc, ◌+◌, nat_lt, cond, List, [], ◌∷◌, length, slice_get, refl, ap, subst, arith, Option, None, Some, Bool, true, false, ◌&&◌, is_some, ◌⊎◌, inl, inr}
+use Rattle.std.proofs.Common.{◌≡◌, ℕ, suc, ◌+◌, ◌<◌, nat_lt, cond, List, [], ◌∷◌, length, slice_get, refl, ap, subst, arith, Option, None, Some, Bool, true, false, not, ◌&&◌, is_some, ◌⊎◌, inl, inr}
 use Rattle.std.specs.List.{All, AllByRecursion, list_any}
 use Rattle.std.proofs.lemmas.List.Elements.{All-from_recursion}
 use Rattle.std.specs.Option.{option_map}
@@ -10,16 +10,15 @@ use Rattle.gt_model.specs.declared.script.CaseKind.{CaseKind}
 use Rattle.gt_model.specs.declared.script.What.{What}
 use Rattle.gt_model.specs.declared.entry.Entry.{Entry}
 use Rattle.gt_model.specs.declared.entry.Party.{Party}
-use Rattle.gt_model.specs.Good.{OperatesRightly, awaits_timer}
+use Rattle.gt_model.specs.Good.{awaits_timer}
 use Rattle.gt_model.specs.Script.{what_at, is_chan, is_timer, names_chan, names_timer, capacity_of}
-use Rattle.gt_model.proofs.Declared.{chan_declared}
-use Rattle.gt_rules.specs.State.{State, clock_of, due_of, world_of, items_of, item_count, is_closed}
+use Rattle.gt_rules.specs.State.{State, clock_of, due_of, world_of, items_of, item_count, is_closed, is_locked, is_done}
 use Rattle.gt_rules.specs.Operations.{operation}
 use Rattle.gt_rules.specs.Ready.{is_due, is_ready_recv, is_ready_alone, has_partner, has_come, no_timer}
-use Rattle.gt_schedule.specs.Schedule.{Schedule, at_case}
+use Rattle.gt_schedule.specs.Schedule.{Schedule, at_case, object_of}
 use Rattle.gt_book.specs.declared.step.Step.{Step}
 use Rattle.gt_book.specs.declared.answers.TimerOp.{TimerOp}
-use Rattle.gt_book.specs.Steps.{or_next, receives_alone, sends_alone, goes_alone, partner_in, meets_sender, meets_receiver, meets, goes_by, come_timer, case_step, first_step, no_case, choice_step}
+use Rattle.gt_book.specs.Steps.{or_next, receives_alone, takes_alone, sends_alone, goes_alone, partner_in, meets_sender, meets_receiver, meets, goes_by, come_timer, case_step, first_step, no_case, choice_step}
 use Rattle.gt_book.specs.View.{Fits, is_waiting}
 use Rattle.gt_book.proofs.Firm.{both-false}
 use Rattle.gt_book.proofs.Meeting.{recv-alone, send-alone, timer-alone}
@@ -51,8 +50,16 @@ abbrev pub NotCome : Script → (ℕ → Bool) → CaseKind → Type 0
 NotCome script timed (CaseKind.Recv o) = (is_timer script o && timed o) ≡ false
 NotCome script timed (CaseKind.Send c v) = Unit {0}
 
-recv-not : (s : State) (p : Party) (timed : ℕ → Bool) (o : ℕ) (w : Option What) → cond (names_chan w) (receives_alone p o (items_of s o) (is_closed s o)) None ≡ None
-    → (names_timer w && timed o) ≡ false → is_ready_recv s timed o w ≡ false
+cond-none : {X : Type 0} (b : Bool) (x : X) → cond b (Some x) None ≡ None → b ≡ false
+cond-none true x h = cc
+cond-none false x h = refl
+
+not-cond_none : {X : Type 0} (b : Bool) (x : X) → cond b None (Some x) ≡ None → not b ≡ false
+not-cond_none true x h = refl
+not-cond_none false x h = cc
+
+recv-not : (s : State) (p : Party) (timed : ℕ → Bool) (o : ℕ) (w : Option What)
+    → cond (names_chan w) (receives_alone p o (items_of s o) (is_closed s o)) (takes_alone s p o w) ≡ None → (names_timer w && timed o) ≡ false → is_ready_recv s timed o w ≡ false
 recv-not s p timed o None none come = refl
 recv-not s p timed o (Some What.Timer) none come = come
 recv-not s p timed o (Some What.Ticker) none come = come
@@ -60,6 +67,8 @@ recv-not s p timed o (Some (What.AfterFunc func)) none come = refl
 recv-not s p timed o (Some (What.Chan cap)) none come =
     let parts = receives-none p o (items_of s o) (is_closed s o) none in
     both-false (nat_lt 0 (item_count s o)) (is_closed s o) (ap (λ (xs : List ℕ). nat_lt 0 (length xs)) parts.0) parts.1
+recv-not s p timed o (Some What.Mutex) none come = not-cond_none (is_locked s o) (Entry.Lock p.g o) none
+recv-not s p timed o (Some What.Wg) none come = cond-none (is_done s o) (Entry.WgWait p.g o) none
 recv-not s p timed o (Some What.Function) none come = refl
 
 pub unready-alone : (script : Script) (s : State) (p : Party) (timed : ℕ → Bool) (kind : CaseKind) → goes_alone script s p kind ≡ None → NotCome script timed kind
@@ -77,10 +86,6 @@ pub never-come : (script : Script) (kind : CaseKind) → NotCome script no_timer
 never-come script (CaseKind.Recv o) = and-false (is_timer script o)
 never-come script (CaseKind.Send c v) = tt
 
-cond-none : {X : Type 0} (b : Bool) (x : X) → cond b (Some x) None ≡ None → b ≡ false
-cond-none true x h = cc
-cond-none false x h = refl
-
 pub not-come : (script : Script) (s : State) (g : ℕ) (kind : CaseKind) → come_timer script s (clock_of s g) kind ≡ None → NotCome script (has_come s (world_of s g)) kind
 not-come script s g (CaseKind.Recv o) h = cond-none (is_timer script o && is_due (due_of s o) (clock_of s g)) o h
 not-come script s g (CaseKind.Send c v) h = tt
@@ -94,16 +99,16 @@ receiver-none p c v None h = refl
 receiver-none p c v (Some q) h = cc
 
 -- it meets nobody who is parked
-pub meets-nobody : (script : Script) (s : State) (m : Schedule) (g : ℕ) (p : Party) (kind : CaseKind) → Fits script s m → OperatesRightly script kind → meets script s m p kind ≡ None
+pub meets-nobody : (script : Script) (s : State) (m : Schedule) (g : ℕ) (p : Party) (kind : CaseKind) → Fits script s m → object_of kind < length script.decls → meets script s m p kind ≡ None
     → has_partner script s (is_waiting m) g kind ≡ false
-meets-nobody script s m g p (CaseKind.Recv o) fits names none =
+meets-nobody script s m g p (CaseKind.Recv o) fits declared none =
     elim (is_chan script o) as (λ b. is_chan script o ≡ b → cond b (meets_sender script s p o (partner_in script m.senders o)) None ≡ None
     → has_partner script s (is_waiting m) g (CaseKind.Recv o) ≡ false) [
-      | true ↦ λ chan h. recv-alone script s m g o fits (chan_declared script o chan) (sender-none script s p o (partner_in script m.senders o) h)
+      | true ↦ λ chan h. recv-alone script s m g o fits declared (sender-none script s p o (partner_in script m.senders o) h)
       | false ↦ λ plain h. timer-alone script s m g o plain
     ] refl none
-meets-nobody script s m g p (CaseKind.Send c v) fits names none =
-    send-alone script s m g c v fits (chan_declared script c names) (receiver-none p c v (partner_in script m.receivers c) none)
+meets-nobody script s m g p (CaseKind.Send c v) fits declared none =
+    send-alone script s m g c v fits declared (receiver-none p c v (partner_in script m.receivers c) none)
 
 -- ---- a choice
 

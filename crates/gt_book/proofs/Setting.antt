@@ -11,8 +11,8 @@ use Rattle.gt_rules.specs.State.{State, stands_at}
 use Rattle.gt_rules.specs.Panics.{fault}
 use Rattle.gt_schedule.specs.declared.status.Ticket.{Ticket}
 use Rattle.gt_schedule.specs.Schedule.{Schedule, plainly, parked_at, parked_cases, ticket_of}
-use Rattle.gt_book.specs.Steps.{Does, Steps, cases_of, set_instr, step_of, step_of_instr, step_or_panic}
-use Rattle.gt_book.proofs.Meeting.{recv-is, send-is, choice-is}
+use Rattle.gt_book.specs.Steps.{Does, Steps, cases_of, goes_by, set_instr, step_of, step_of_instr, step_or_panic}
+use Rattle.gt_book.proofs.Meeting.{plain-is, recv-is, send-is, choice-is}
 use Rattle.gt_book.proofs.Going.{IsStep, step-is}
 use Rattle.gt_book.specs.View.{BookView, outcome_of, with_schedule}
 
@@ -92,6 +92,8 @@ none-enrolled script s m g (Instr.Recv o) = recv-is (λ step. needs_enrolled ste
 none-enrolled script s m g (Instr.Send c v) = send-is (λ step. needs_enrolled step ≡ false) (λ e. refl) (λ kind. refl) script s m g c v
 none-enrolled script s m g (Instr.Select cases default_to) =
     choice-is (λ step. needs_enrolled step ≡ false) (λ e. refl) (λ t. refl) (λ timed. refl) script s m g cases default_to
+none-enrolled script s m g (Instr.Lock k) = plain-is (λ step. needs_enrolled step ≡ false) (λ e. refl) (λ kind. refl) (CaseKind.Recv k) (goes_by script s m (plainly g) (CaseKind.Recv k))
+none-enrolled script s m g (Instr.Wait w) = plain-is (λ step. needs_enrolled step ≡ false) (λ e. refl) (λ kind. refl) (CaseKind.Recv w) (goes_by script s m (plainly g) (CaseKind.Recv w))
 none-enrolled script s m g _ = refl
 
 asks-not_enrolled : (script : Script) (s : State) (m : Schedule) (g : ℕ) (i : Instr) (op : TimerOp) → step_of_instr script s m g i ≡ Step.Needs op → is_enrolled op ≡ false
@@ -109,6 +111,8 @@ same-instr script s m g (Instr.Recv o) = recv-is (λ step. asked_by (Instr.Recv 
 same-instr script s m g (Instr.Send c v) = send-is (λ step. asked_by (Instr.Send c v) step ≡ Instr.Send c v) (λ e. refl) (λ kind. refl) script s m g c v
 same-instr script s m g (Instr.Select cases default_to) =
     choice-is (λ step. asked_by (Instr.Select cases default_to) step ≡ Instr.Select cases default_to) (λ e. refl) (λ t. refl) (λ timed. refl) script s m g cases default_to
+same-instr script s m g (Instr.Lock k) = plain-is (λ step. asked_by (Instr.Lock k) step ≡ Instr.Lock k) (λ e. refl) (λ kind. refl) (CaseKind.Recv k) (goes_by script s m (plainly g) (CaseKind.Recv k))
+same-instr script s m g (Instr.Wait w) = plain-is (λ step. asked_by (Instr.Wait w) step ≡ Instr.Wait w) (λ e. refl) (λ kind. refl) (CaseKind.Recv w) (goes_by script s m (plainly g) (CaseKind.Recv w))
 same-instr script s m g _ = refl
 
 pub instr-set : (script : Script) (s : State) (m : Schedule) (g t d : ℕ) (anew : Bool) (i : Instr) → step_of_instr script s m g i ≡ Step.Needs (TimerOp.Set t d anew) → i ≡ set_instr t d anew

@@ -13,7 +13,7 @@ use Rattle.gt_model.specs.declared.state.Goroutine.{Goroutine}
 use Rattle.gt_model.specs.declared.state.Timer.{Timer}
 use Rattle.gt_model.specs.Good.{IsGood}
 use Rattle.gt_model.specs.Tables.{numbered}
-use Rattle.gt_model.specs.Script.{what_at, is_func, names_func, names_timer, names_chan}
+use Rattle.gt_model.specs.Script.{what_at, is_func, names_func, names_timer, names_chan, names_mutex, names_wg}
 use Rattle.gt_rules.specs.State.{State, goroutine_at, timer_at, stands, stands_at, until_of, sleeps_until, due_of}
 use Rattle.gt_rules.specs.Operations.{receives_from, offers}
 use Rattle.gt_rules.specs.Counted.{sleep_of, awaits, is_awaited, counted_timer}
@@ -190,9 +190,9 @@ pub awaited-shown : (script : Script) (s : State) (g t w : ℕ) (i : Instr) → 
 awaited-shown script s g t w i good formed e passes due =
     let st : Standing script s g i = standing script s g i e in
     let at : ReceivesFrom i t = receives-recv i t passes in
-    let named : (names_timer (what_at script t) || names_chan (what_at script t)) ≡ true =
+    let named : ((names_timer (what_at script t) || names_chan (what_at script t)) || (names_mutex (what_at script t) || names_wg (what_at script t))) ≡ true =
     names-operation script i at.case_no (CaseKind.Recv t) at.has (names-instr_at script st.who.place i good st.on) in
-    counted-declared script s t (named-within script t (λ what. names_timer what || names_chan what) refl named)
+    counted-declared script s t (named-within script t (λ what. (names_timer what || names_chan what) || (names_mutex what || names_wg what)) refl named)
     ∙ timer-counts script s t w formed (or-second (is_func script t) _ (stands-awaited script s g t i formed e passes)) due
 
 -- and where it is an AfterFunc timer

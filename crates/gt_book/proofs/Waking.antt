@@ -1,4 +1,4 @@
--- Who goes on at a channel, of those that wait there: each entry may come and is of one that is firmly ready; where there is none, nobody parked is.
+-- Who goes on at an object, of those that wait there: each entry may come and is of one that is firmly ready; where there is none, nobody parked is.
 use Rattle.std.proofs.Common.{◌≡◌, ℕ, zero, suc, cond, ◌+◌, ◌-◌, ◌<◌, List, [], ◌∷◌, ◌++◌, length, slice_get, nat_lt, eqb, refl, sym, ap, subst, ◌∙◌, arith, Option, None, Some, Bool, true, false, not, ◌||◌, is_some, is_none, IsTrue, ◌⊎◌, inl, inr}
 use Rattle.std.specs.Prelude.{MatchOption}
 use Rattle.std.proofs.lemmas.Bool.{eqb-true, eq-eqb, ltb-true, and_parts}
@@ -13,37 +13,34 @@ use Rattle.gt_model.specs.declared.entry.Limits.{Limits}
 use Rattle.gt_model.specs.declared.entry.Outcome.{Outcome}
 use Rattle.gt_model.specs.declared.entry.Reason.{Reason}
 use Rattle.gt_model.specs.Good.{IsGood}
-use Rattle.gt_model.specs.Script.{what_at, is_chan, capacity_of}
-use Rattle.gt_model.proofs.Declared.{chan_declared}
-use Rattle.gt_rules.specs.State.{State, Channel, goroutine_at, channel_at, items_of, item_count, is_closed, stands_at}
+use Rattle.gt_model.specs.Script.{what_at, names_chan, names_mutex, names_wg, capacity_of}
+use Rattle.gt_rules.specs.State.{State, Channel, goroutine_at, channel_at, items_of, item_count, is_closed, is_locked, is_done, counter_of, stands_at}
 use Rattle.gt_rules.specs.Operations.{operation, receives_from, sends_to}
-use Rattle.gt_rules.specs.Panics.{fault, case_fault, choice_fault, when, or_else, open_fault, panic_at}
+use Rattle.gt_rules.specs.Panics.{fault, case_fault, when, or_else, open_fault, panic_at}
 use Rattle.gt_rules.specs.Ready.{is_ready_alone, is_ready_recv, no_timer}
-use Rattle.gt_rules.specs.Legal.{May, MayPanic, ChoosesClosed, Gives, operation_at}
+use Rattle.gt_rules.specs.Legal.{May, MayPanic, ChoosesClosed, Gives, Operates, operation_at}
 use Rattle.gt_rules.specs.Finish.{IsRunning}
 use Rattle.gt_rules.specs.History.{AllLegal, state_after}
 use Rattle.gt_rules.specs.After.{after}
-use Rattle.gt_rules.specs.declared.change.Trade.{Trade}
-use Rattle.gt_rules.specs.Change.{change_of, takes}
-use Rattle.gt_facts.specs.Formed.{IsFormed}
-use Rattle.gt_facts.proofs.Lookups.{AtOperation, at_operation, IsCase, is-case}
-use Rattle.gt_facts.proofs.Makers.{gives-ready}
+use Rattle.gt_rules.specs.Change.{change_of}
+use Rattle.gt_facts.proofs.Lookups.{AtOperation, at_operation, IsCase, is-case, locks-Operates, waits-Operates}
+use Rattle.gt_facts.proofs.Makers.{gives-ready, free-ready, done-ready}
 use Rattle.gt_machine.specs.Machine.{state_of}
 use Rattle.gt_machine.specs.Outcomes.{due_outcome}
 use Rattle.gt_schedule.specs.Counts.{as_number, often}
 use Rattle.gt_schedule.specs.Schedule.{Schedule, at_case, object_of, parties_at, status_of, is_in_hand, is_parked, scheduled, Served}
 use Rattle.gt_schedule.specs.Scheduler.{schedule_of}
 use Rattle.gt_book.specs.declared.run.Run.{Run}
-use Rattle.gt_book.specs.Steps.{or_next, goes_alone, receives_alone, sends_alone}
-use Rattle.gt_book.specs.Woken.{first_alone, alone_of, woken_by, next_woken}
-use Rattle.gt_book.specs.Calm.{IsCalm, IsCalmBut}
+use Rattle.gt_book.specs.Steps.{or_next, goes_alone, receives_alone, sends_alone, takes_alone}
+use Rattle.gt_book.specs.Woken.{first_alone, alone_of, woken_by, next_woken, changed_object}
+use Rattle.gt_book.specs.Calm.{IsCalm, IsCalmBut, unmade}
 use Rattle.gt_book.specs.declared.book.Book.TheInside.{Inside}
 use Rattle.gt_book.specs.Book.{seen, IsKept}
 use Rattle.gt_book.specs.Run.{seen_of, CanMake, Makes, CanWake, Wakes, CanEnter, Entered, Ends}
 use Rattle.gt_book.specs.View.{BookView, Fits, AreWoken, Enters, is_waiting, is_at, is_parked_at, is_firm_at, with_entries, finish_due, outcome_of}
-use Rattle.gt_book.proofs.Firm.{operation_of, firm_on, firm-stood, firm-quiet, sound-choice, made-sound, case-there, never-both, both-false, panic-standing, calm-standing, open-no_fault, calm_but-calm}
+use Rattle.gt_book.proofs.Firm.{operation_of, firm_on, firm-stood, firm-quiet, choice-sound, made-sound, case-there, never-both, both-false, panic-standing, calm-standing, open-no_fault, calm_but-calm}
 use Rattle.gt_book.proofs.Fitting.{first-waiting, first-sending}
-use Rattle.gt_book.proofs.Stays.{trades_at}
+use Rattle.gt_book.proofs.Stays.{alters}
 use Rattle.gt_book.proofs.Calm.{calm-but, calm-entered, calm_but-again}
 use Rattle.gt_book.proofs.Entering.{IsCounted, counted-May, legal-May, running-none, way-lawful, way-running, with_entries-more, no-entries, all_legal-more, woken-more}
 
@@ -90,12 +87,12 @@ both-none (Some e) next h = cc
 
 -- ---- the one that goes on
 
--- an entry of one that waits at channel c, and is firmly ready there
+-- an entry of one that waits at object c, and is firmly ready there
 pub record IsWoken (script : Script) (s : State) (m : Schedule) (c : ℕ) (e : Entry) : Type 0 where
   pub may : May script s e
   pub served : Served m e
   pub woken : AreWoken script s m (e ∷ [])
-  pub here : (o : ℕ) → eqb o c ≡ false → trades_at (change_of e).channel o ≡ false
+  pub here : (o : ℕ) → eqb o c ≡ false → alters (change_of e) o ≡ false
 
 -- what a receive gives, by the values that the channel keeps and whether it is closed
 abbrev GivesOf : List ℕ → Bool → Option ℕ → Type 0
@@ -134,14 +131,59 @@ none-sending p c v true room h = cc
 none-sending p c v false true h = cc
 none-sending p c v false false h = (refl, refl)
 
--- a receive goes on by itself at a channel alone
-at-chan : (b : Bool) (next : Option Entry) (e : Entry) → cond b next None ≡ Some e → (b ≡ true) × (next ≡ Some e)
-at-chan true next e h = (refl, h)
-at-chan false next e h = cc
+-- what goes on by itself where it receives: a receive from a channel, the lock of a mutex that is free, or the end of a wait
+data Getting (s : State) (p : Party) (o : ℕ) (w : Option What) (e : Entry) : Type 0 where
+  gets : (v : Option ℕ) → IsTrue (names_chan w) → Gives s o v → Entry.Recv p o v ≡ e → Getting s p o w e
+  locks : IsTrue (names_mutex w) → is_locked s o ≡ false → Entry.Lock p.g o ≡ e → Getting s p o w e
+  passes_by : IsTrue (names_wg w) → counter_of s o ≡ 0 → Entry.WgWait p.g o ≡ e → Getting s p o w e
 
-no-chan : (b : Bool) (next : Option Entry) → b ≡ true → cond b next None ≡ None → next ≡ None
-no-chan true next e h = h
-no-chan false next e h = cc
+-- by what is declared
+abbrev got_from : State → Party → ℕ → Option What → Option Entry
+got_from s p o w = cond (names_chan w) (receives_alone p o (items_of s o) (is_closed s o)) (takes_alone s p o w)
+
+free-some : (locked : Bool) (x e : Entry) → cond locked None (Some x) ≡ Some e → (locked ≡ false) × (x ≡ e)
+free-some true x e h = cc
+free-some false x e h = (refl, cc)
+
+done-some : (done : Bool) (x e : Entry) → cond done (Some x) None ≡ Some e → (done ≡ true) × (x ≡ e)
+done-some true x e h = (refl, cc)
+done-some false x e h = cc
+
+getting : (s : State) (p : Party) (o : ℕ) (w : Option What) (e : Entry) → got_from s p o w ≡ Some e → Getting s p o w e
+getting s p o (Some (What.Chan cap)) e h =
+    let x : Receiving p o (items_of s o) (is_closed s o) e = receiving p o (items_of s o) (is_closed s o) e h in
+    gets x.v refl (gives-of s o x.v x.gives) x.is
+getting s p o (Some What.Mutex) e h = let parts = free-some (is_locked s o) (Entry.Lock p.g o) e h in locks refl parts.0 parts.1
+getting s p o (Some What.Wg) e h =
+    let parts = done-some (is_done s o) (Entry.WgWait p.g o) e h in
+    passes_by refl (eqb-true (counter_of s o) 0 parts.0) parts.1
+getting s p o _ e h = cc
+
+getting-ready : (script : Script) (s : State) (p : Party) (o : ℕ) (e : Entry) → Getting s p o (what_at script o) e → is_ready_alone script s no_timer (CaseKind.Recv o) ≡ true
+getting-ready script s p o e (gets v chan gives is) = gives-ready script s o v chan gives no_timer
+getting-ready script s p o e (locks mutex free is) = free-ready s o (what_at script o) mutex free no_timer
+getting-ready script s p o e (passes_by wg done is) = done-ready s o (what_at script o) wg done no_timer
+
+-- where nothing goes on, the receive is not ready
+free-none : (locked : Bool) (x : Entry) → cond locked None (Some x) ≡ None → not locked ≡ false
+free-none true x h = refl
+free-none false x h = cc
+
+done-none : (done : Bool) (x : Entry) → cond done (Some x) None ≡ None → done ≡ false
+done-none true x h = cc
+done-none false x h = refl
+
+none-getting : (s : State) (p : Party) (o : ℕ) (w : Option What) → got_from s p o w ≡ None → is_ready_recv s no_timer o w ≡ false
+none-getting s p o None h = refl
+none-getting s p o (Some What.Timer) h = refl
+none-getting s p o (Some What.Ticker) h = refl
+none-getting s p o (Some (What.AfterFunc func)) h = refl
+none-getting s p o (Some (What.Chan cap)) h =
+    let quiet = none-receiving p o (items_of s o) (is_closed s o) h in
+    both-false (nat_lt 0 (item_count s o)) (is_closed s o) (ap (λ (xs : List ℕ). nat_lt 0 (length xs)) quiet.0) quiet.1
+none-getting s p o (Some What.Mutex) h = free-none (is_locked s o) (Entry.Lock p.g o) h
+none-getting s p o (Some What.Wg) h = done-none (is_done s o) (Entry.WgWait p.g o) h
+none-getting s p o (Some What.Function) h = refl
 
 -- an operation of an instruction goes on by itself, by this entry
 record Alone (script : Script) (s : State) (g : ℕ) (i : Instr) (e : Entry) : Type 0 where
@@ -190,6 +232,8 @@ none-case script s g n (d ∷ cases) (suc j) c h there =
 
 alone : (script : Script) (s : State) (g : ℕ) (i : Instr) (e : Entry) → alone_of script s g (Some i) ≡ Some e → Alone script s g i e
 alone script s g (Instr.Recv o) e h = record { case_no = 0; kind = CaseKind.Recv o; has = refl; goes = h }
+alone script s g (Instr.Lock m) e h = record { case_no = 0; kind = CaseKind.Recv m; has = refl; goes = h }
+alone script s g (Instr.Wait w) e h = record { case_no = 0; kind = CaseKind.Recv w; has = refl; goes = h }
 alone script s g (Instr.Send c v) e h = record { case_no = 0; kind = CaseKind.Send c v; has = refl; goes = h }
 alone script s g (Instr.Select cases default_to) e h =
     let x : AloneCase script s g 1 cases e = alone-case script s g 1 cases e h in
@@ -206,6 +250,10 @@ none-alone : (script : Script) (s : State) (g : ℕ) (i : Instr) (n : ℕ) (kind
     → goes_alone script s (at_case g n) kind ≡ None
 none-alone script s g (Instr.Recv o) zero kind h has = let is : CaseKind.Recv o ≡ kind = cc in subst (λ kind. goes_alone script s (at_case g 0) kind ≡ None) is h
 none-alone script s g (Instr.Recv o) (suc k) kind h has = cc
+none-alone script s g (Instr.Lock m) zero kind h has = let is : CaseKind.Recv m ≡ kind = cc in subst (λ kind. goes_alone script s (at_case g 0) kind ≡ None) is h
+none-alone script s g (Instr.Lock m) (suc k) kind h has = cc
+none-alone script s g (Instr.Wait w) zero kind h has = let is : CaseKind.Recv w ≡ kind = cc in subst (λ kind. goes_alone script s (at_case g 0) kind ≡ None) is h
+none-alone script s g (Instr.Wait w) (suc k) kind h has = cc
 none-alone script s g (Instr.Send c v) zero kind h has = let is : CaseKind.Send c v ≡ kind = cc in subst (λ kind. goes_alone script s (at_case g 0) kind ≡ None) is h
 none-alone script s g (Instr.Send c v) (suc k) kind h has = cc
 none-alone script s g (Instr.Select cases default_to) zero kind h has = cc
@@ -218,70 +266,75 @@ none-alone script s g i n kind h has = cc
 
 -- an operation that goes on by itself is ready so
 goes-ready : (script : Script) (s : State) (p : Party) (kind : CaseKind) (e : Entry) → goes_alone script s p kind ≡ Some e → is_ready_alone script s no_timer kind ≡ true
-goes-ready script s p (CaseKind.Recv o) e h =
-    let parts = at-chan (is_chan script o) (receives_alone p o (items_of s o) (is_closed s o)) e h in
-    let x : Receiving p o (items_of s o) (is_closed s o) e = receiving p o (items_of s o) (is_closed s o) e parts.1 in
-    gives-ready script s o x.v parts.0 (gives-of s o x.v x.gives) no_timer
+goes-ready script s p (CaseKind.Recv o) e h = getting-ready script s p o e (getting s p o (what_at script o) e h)
 goes-ready script s p (CaseKind.Send c v) e h =
     elim (sending p c v (is_closed s c) (nat_lt (item_count s c) (capacity_of script c)) e h) [
       | inl k ↦ first-true (is_closed s c) (nat_lt (item_count s c) (capacity_of script c)) k.0
       | inr k ↦ either (is_closed s c) (nat_lt (item_count s c) (capacity_of script c)) k.1
     ]
 
--- ---- whose operations are on objects that were made makes no misuse but at a closed channel
+-- ---- who names what was made makes no misuse but at a closed channel
 
-abbrev AreSound : State → Instr → Type 0
-AreSound s i = (n : ℕ) (kind : CaseKind) → operation i n ≡ Some kind → case_fault s kind ≡ None
+-- what one sends to was made
+send-made : (s : State) (i : Instr) (n c v : ℕ) → operation i n ≡ Some (CaseKind.Send c v) → unmade s i ≡ None → is_some (channel_at s c) ≡ true
+send-made s (Instr.Send d w) zero c v has made = let is : d ≡ c = cc in made-sound (channel_at s c) (subst (λ d. case_fault s (CaseKind.Send d w) ≡ None) is made)
+send-made s (Instr.Send d w) (suc k) c v has made = cc
+send-made s (Instr.Select cases default_to) zero c v has made = cc
+send-made s (Instr.Select cases default_to) (suc k) c v has made =
+    let one : IsCase cases k (CaseKind.Send c v) = is-case cases k (CaseKind.Send c v) has in
+    made-sound (channel_at s c) (subst (λ kind. case_fault s kind ≡ None) one.its (choice-sound s cases k one.item made one.there))
+send-made s (Instr.Recv o) zero c v has made = cc
+send-made s (Instr.Recv o) (suc k) c v has made = cc
+send-made s (Instr.Lock m) zero c v has made = cc
+send-made s (Instr.Lock m) (suc k) c v has made = cc
+send-made s (Instr.Wait w) zero c v has made = cc
+send-made s (Instr.Wait w) (suc k) c v has made = cc
+send-made s i n c v has made = cc
 
-unfaulty : (script : Script) (s : State) (i : Instr) (n : ℕ) (kind : CaseKind) → operation i n ≡ Some kind → AreSound s i
+unfaulty : (script : Script) (s : State) (i : Instr) (n : ℕ) (kind : CaseKind) → operation i n ≡ Some kind → unmade s i ≡ None
     → ((c v : ℕ) → kind ≡ CaseKind.Send c v → is_closed s c ≡ false) → fault script s i ≡ None
-unfaulty script s (Instr.Recv o) n kind has sound unshut = sound 0 (CaseKind.Recv o) refl
-unfaulty script s (Instr.Send c v) zero kind has sound unshut =
+unfaulty script s (Instr.Recv o) n kind has made unshut = made
+unfaulty script s (Instr.Lock m) n kind has made unshut = refl
+unfaulty script s (Instr.Wait w) n kind has made unshut = refl
+unfaulty script s (Instr.Send c v) zero kind has made unshut =
     let is : kind ≡ CaseKind.Send c v = cc in
-    open-no_fault s c (record { made = made-sound (channel_at s c) (sound 0 (CaseKind.Send c v) refl); unshut = unshut c v is })
-unfaulty script s (Instr.Send c v) (suc k) kind has sound unshut = cc
-unfaulty script s (Instr.Select cases default_to) n kind has sound unshut = sound-choice s cases (λ k c e. sound (suc k) c.kind (case-there cases k c e))
-unfaulty script s i n kind has sound unshut = cc
+    open-no_fault s c (record { made = made-sound (channel_at s c) made; unshut = unshut c v is })
+unfaulty script s (Instr.Send c v) (suc k) kind has made unshut = cc
+unfaulty script s (Instr.Select cases default_to) n kind has made unshut = made
+unfaulty script s i n kind has made unshut = cc
 
 -- who sends to a closed channel panics: at a choice where it chooses that case
-panicking : (script : Script) (s : State) (g : ℕ) (i : Instr) (n c v : ℕ) → stands_at script s g ≡ Some i → operation i n ≡ Some (CaseKind.Send c v) → AreSound s i → is_closed s c ≡ true
+panicking : (script : Script) (s : State) (g : ℕ) (i : Instr) (n c v : ℕ) → stands_at script s g ≡ Some i → operation i n ≡ Some (CaseKind.Send c v) → unmade s i ≡ None → is_closed s c ≡ true
     → MayPanic script s (at_case g n) Reason.Closed
-panicking script s g (Instr.Send d w) zero c v stands has sound shut =
+panicking script s g (Instr.Send d w) zero c v stands has made shut =
     let is : d ≡ c = cc in
     let misuse : open_fault s d ≡ Some Reason.Closed =
-    closed-fault (channel_at s d) (is_closed s d) (made-sound (channel_at s d) (sound 0 (CaseKind.Send d w) refl)) (ap (is_closed s) is ∙ shut) in
+    closed-fault (channel_at s d) (is_closed s d) (made-sound (channel_at s d) made) (ap (is_closed s) is ∙ shut) in
     let panic : panic_at script s g ≡ Some (0, Reason.Closed) =
     panic-standing script s g (Instr.Send d w) stands
     ∙ ap (λ (o : Option Reason). elim o as (λ o. Option (ℕ × Reason)) [ None ↦ None | Some reason ↦ Some (0, reason) ]) misuse in
     subst (λ o. MatchOption o (ChoosesClosed s (operation_at script s (at_case g 0)) Reason.Closed) (λ x. x ≡ (0, Reason.Closed))) (sym panic) refl
-panicking script s g (Instr.Send d w) (suc k) c v stands has sound shut = cc
-panicking script s g (Instr.Recv o) zero c v stands has sound shut = cc
-panicking script s g (Instr.Recv o) (suc k) c v stands has sound shut = cc
-panicking script s g (Instr.Select cases default_to) n c v stands has sound shut =
-    let faultless : choice_fault s cases ≡ None = sound-choice s cases (λ k c e. sound (suc k) c.kind (case-there cases k c e)) in
-    let calm : panic_at script s g ≡ None = calm-standing script s g (Instr.Select cases default_to) stands faultless in
+panicking script s g (Instr.Send d w) (suc k) c v stands has made shut = cc
+panicking script s g (Instr.Recv o) zero c v stands has made shut = cc
+panicking script s g (Instr.Recv o) (suc k) c v stands has made shut = cc
+panicking script s g (Instr.Lock m) zero c v stands has made shut = cc
+panicking script s g (Instr.Lock m) (suc k) c v stands has made shut = cc
+panicking script s g (Instr.Wait w) zero c v stands has made shut = cc
+panicking script s g (Instr.Wait w) (suc k) c v stands has made shut = cc
+panicking script s g (Instr.Select cases default_to) n c v stands has made shut =
+    let calm : panic_at script s g ≡ None = calm-standing script s g (Instr.Select cases default_to) stands made in
     let at : operation_at script s (at_case g n) ≡ Some (CaseKind.Send c v) = ap (λ o. operation_of o n) stands ∙ has in
     subst (λ o. MatchOption o (ChoosesClosed s (operation_at script s (at_case g n)) Reason.Closed) (λ x. x ≡ (n, Reason.Closed))) (sym calm)
     (subst (λ o. ChoosesClosed s o Reason.Closed) (sym at) (shut, refl))
-panicking script s g i n c v stands has sound shut = cc
+panicking script s g i n c v stands has made shut = cc
 
-takes-here : (c : ℕ) (v : Option ℕ) (o : ℕ) → eqb o c ≡ false → trades_at (takes c v) o ≡ false
-takes-here c None o h = refl
-takes-here c (Some v) o h = h
+takes-here : (p : Party) (c : ℕ) (v : Option ℕ) (o : ℕ) → eqb o c ≡ false → alters (change_of (Entry.Recv p c v)) o ≡ false
+takes-here p c None o h = refl
+takes-here p c (Some v) o h = both-false (eqb o c) false h refl
 
-module _ (script : Script) (s : State) (m : Schedule) (c : ℕ) (good : IsGood script) (formed : IsFormed script s) (fits : Fits script s m) (but : IsCalmBut script s m (λ o. eqb o c)) where
-  made : is_some (channel_at s c) ≡ true
-  made = but.made c (eq-eqb c c refl)
-
-  chan : IsTrue (is_chan script c)
-  chan =
-      elim (channel_at s c) as (λ o. channel_at s c ≡ o → is_some o ≡ true → IsTrue (is_chan script c)) [
-        | None ↦ λ e h. cc
-        | Some r ↦ λ e h. (formed.chans c r e).named
-      ] refl made
-
+module _ (script : Script) (s : State) (m : Schedule) (c : ℕ) (good : IsGood script) (fits : Fits script s m) (but : IsCalmBut script s m (λ o. eqb o c)) where
   pub declared : c < length script.decls
-  declared = chan_declared script c chan
+  declared = but.declared c (eq-eqb c c refl)
 
   -- who is parked goes on
   parked-served : (g : ℕ) → is_waiting m g ≡ true → IsTrue (is_in_hand (status_of m g) || is_parked (status_of m g))
@@ -292,8 +345,8 @@ module _ (script : Script) (s : State) (m : Schedule) (c : ℕ) (good : IsGood s
     there : (n : ℕ) (kind : CaseKind) → operation i n ≡ Some kind → operation_at script s (at_case g n) ≡ Some kind
     there n kind has = ap (λ o. operation_of o n) stands ∙ has
 
-    sound : AreSound s i
-    sound n kind has = but.objects g n kind waits (there n kind has)
+    made : unmade s i ≡ None
+    made = but.objects g i waits stands
 
     firm : (x : Alone script s g i e) → is_firm_at script s m g ≡ true
     firm x =
@@ -307,19 +360,39 @@ module _ (script : Script) (s : State) (m : Schedule) (c : ℕ) (good : IsGood s
         never-both (is_ready_alone script s no_timer x.kind) (goes-ready script s (at_case g x.case_no) x.kind e x.goes)
         (but.others g x.case_no x.kind waits (there x.case_no x.kind x.has) apart)))
 
-    receives : (x : Alone script s g i e) (n : ℕ) (v : Option ℕ) → operation i n ≡ Some (CaseKind.Recv c) → Gives s c v → IsWoken script s m c (Entry.Recv (at_case g n) c v)
-    receives x n v has gives =
-        let calm : panic_at script s g ≡ None = calm-standing script s g i stands (unfaulty script s i n (CaseKind.Recv c) has sound (λ d w is. cc)) in
-        record {
-          may = (record { stands = there n (CaseKind.Recv c) has; calm = calm }, chan, gives);
+    -- who receives makes no misuse
+    quiet-recv : (n : ℕ) → operation i n ≡ Some (CaseKind.Recv c) → Operates script s (at_case g n) (CaseKind.Recv c)
+    quiet-recv n has = record {
+      stands = there n (CaseKind.Recv c) has;
+      calm = calm-standing script s g i stands (unfaulty script s i n (CaseKind.Recv c) has made (λ d w is. cc));
+    }
+
+    receives : (x : Alone script s g i e) (n : ℕ) → operation i n ≡ Some (CaseKind.Recv c) → (then : Entry) → Getting s (at_case g n) c (what_at script c) then → IsWoken script s m c then
+    receives x n has then (gets v chan gives is) =
+        subst (IsWoken script s m c) is (record {
+          may = (quiet-recv n has, chan, gives);
           served = (parked-served g waits, tt);
           woken = ((waits, firm x), tt);
-          here = takes-here c v;
-        }
+          here = takes-here (at_case g n) c v;
+        })
+    receives x n has then (locks mutex free is) =
+        subst (IsWoken script s m c) is (record {
+          may = ((locks-Operates script s (at_case g n) c good (quiet-recv n has) mutex).0, mutex, free);
+          served = (parked-served g waits, tt);
+          woken = ((waits, firm x), tt);
+          here = λ o h. h;
+        })
+    receives x n has then (passes_by wg done is) =
+        subst (IsWoken script s m c) is (record {
+          may = ((waits-Operates script s (at_case g n) c good (quiet-recv n has) wg).0, wg, done);
+          served = (parked-served g waits, tt);
+          woken = ((waits, firm x), tt);
+          here = λ o h. refl;
+        })
 
     panics : (x : Alone script s g i e) (n v : ℕ) → operation i n ≡ Some (CaseKind.Send c v) → is_closed s c ≡ true → IsWoken script s m c (Entry.Panic (at_case g n) Reason.Closed)
     panics x n v has shut = record {
-      may = panicking script s g i n c v stands has sound shut;
+      may = panicking script s g i n c v stands has made shut;
       served = (parked-served g waits, tt);
       woken = ((waits, firm x), tt);
       here = λ o h. refl;
@@ -330,12 +403,12 @@ module _ (script : Script) (s : State) (m : Schedule) (c : ℕ) (good : IsGood s
     sends x n v has unshut room =
         let shut_not : (d w : ℕ) → CaseKind.Send c v ≡ CaseKind.Send d w → is_closed s d ≡ false =
         λ d w is. (let same : c ≡ d = cc in subst (λ d. is_closed s d ≡ false) same unshut) in
-        let calm : panic_at script s g ≡ None = calm-standing script s g i stands (unfaulty script s i n (CaseKind.Send c v) has sound shut_not) in
+        let calm : panic_at script s g ≡ None = calm-standing script s g i stands (unfaulty script s i n (CaseKind.Send c v) has made shut_not) in
         record {
-          may = (record { stands = there n (CaseKind.Send c v) has; calm = calm }, open-is (channel_at s c) made unshut, ltb-true (item_count s c) (capacity_of script c) room);
+          may = (record { stands = there n (CaseKind.Send c v) has; calm = calm }, open-is (channel_at s c) (send-made s i n c v has made) unshut, ltb-true (item_count s c) (capacity_of script c) room);
           served = (parked-served g waits, tt);
           woken = ((waits, firm x), tt);
-          here = λ o h. h;
+          here = λ o h. both-false (eqb o c) false h refl;
         }
 
     woken-at : (x : Alone script s g i e) (kind : CaseKind) → x.kind ≡ kind → object_of kind ≡ c → IsWoken script s m c e
@@ -343,9 +416,7 @@ module _ (script : Script) (s : State) (m : Schedule) (c : ℕ) (good : IsGood s
         let has : operation i x.case_no ≡ Some (CaseKind.Recv c) = x.has ∙ (ap Some is ∙ ap (λ o. Some (CaseKind.Recv o)) on) in
         let goes : goes_alone script s (at_case g x.case_no) (CaseKind.Recv c) ≡ Some e =
         ap (λ o. goes_alone script s (at_case g x.case_no) (CaseKind.Recv o)) (sym on) ∙ (ap (goes_alone script s (at_case g x.case_no)) (sym is) ∙ x.goes) in
-        let parts = at-chan (is_chan script c) (receives_alone (at_case g x.case_no) c (items_of s c) (is_closed s c)) e goes in
-        let y : Receiving (at_case g x.case_no) c (items_of s c) (is_closed s c) e = receiving (at_case g x.case_no) c (items_of s c) (is_closed s c) e parts.1 in
-        subst (IsWoken script s m c) y.is (receives x x.case_no y.v has (gives-of s c y.v y.gives))
+        receives x x.case_no has e (getting s (at_case g x.case_no) c (what_at script c) e goes)
     woken-at x (CaseKind.Send d v) is on =
         let has : operation i x.case_no ≡ Some (CaseKind.Send c v) = x.has ∙ (ap Some is ∙ ap (λ d. Some (CaseKind.Send d v)) on) in
         let goes : goes_alone script s (at_case g x.case_no) (CaseKind.Send c v) ≡ Some e =
@@ -386,14 +457,6 @@ module _ (script : Script) (s : State) (m : Schedule) (c : ℕ) (good : IsGood s
   one-first p [] h = absurd (omega arith)
   one-first p (q ∷ ps) h = (q, refl)
 
-  recv-alone : (o : Option What) → items_of s c ≡ [] → is_closed s c ≡ false → is_ready_recv s no_timer c o ≡ false
-  recv-alone None empty unshut = refl
-  recv-alone (Some What.Timer) empty unshut = refl
-  recv-alone (Some What.Ticker) empty unshut = refl
-  recv-alone (Some (What.AfterFunc func)) empty unshut = refl
-  recv-alone (Some (What.Chan cap)) empty unshut = both-false (nat_lt 0 (item_count s c)) (is_closed s c) (ap (λ (xs : List ℕ). nat_lt 0 (length xs)) empty) unshut
-  recv-alone (Some What.Function) empty unshut = refl
-
   -- the first one there does not go on under its case number
   first-rests : (p : Party) (kind : CaseKind) → woken_by script s (Some p) ≡ None → operation_at script s p ≡ Some kind → goes_alone script s (at_case p.g p.case_no) kind ≡ None
   first-rests p kind none at =
@@ -410,9 +473,7 @@ module _ (script : Script) (s : State) (m : Schedule) (c : ℕ) (good : IsGood s
       let its : operation_at script s first.0 ≡ Some (CaseKind.Recv c) = at-recv (operation_at script s first.0) c (first-receiver first.0 first.1).1 in
       let rests : goes_alone script s (at_case first.0.g first.0.case_no) (CaseKind.Recv c) ≡ None =
       first-rests first.0 (CaseKind.Recv c) (ap (woken_by script s) (sym first.1) ∙ none) its in
-      let quiet = none-receiving (at_case first.0.g first.0.case_no) c (items_of s c) (is_closed s c)
-      (no-chan (is_chan script c) (receives_alone (at_case first.0.g first.0.case_no) c (items_of s c) (is_closed s c)) chan rests) in
-      recv-alone (what_at script c) quiet.0 quiet.1
+      none-getting s (at_case first.0.g first.0.case_no) c (what_at script c) rests
 
   rests-send : (p : Party) (v : ℕ) → woken_by script s (slice_get (parties_at m.senders c) 0) ≡ None → is_waiting m p.g ≡ true → operation_at script s p ≡ Some (CaseKind.Send c v)
       → is_ready_alone script s no_timer (CaseKind.Send c v) ≡ false
@@ -457,7 +518,7 @@ pub record Waking (script : Script) (limits : Limits) (old now : Run) (c : ℕ) 
 pub waking-first : (script : Script) (limits : Limits) (r : Run) (c : ℕ) → CanWake script limits r c → Waking script limits r r c
 waking-first script limits r c can = record { woken = []; legal = tt; each_woken = tt; is = no-entries (seen_of script limits r); can = can }
 
--- the channel has its lists
+-- the object has its lists
 pub record HasLists (m : Schedule) (c : ℕ) : Type 0 where
   pub receivers : c < length m.receivers
   pub senders : c < length m.senders
@@ -465,7 +526,7 @@ pub record HasLists (m : Schedule) (c : ℕ) : Type 0 where
 pub waking-lists : (script : Script) (limits : Limits) (old now : Run) (c : ℕ) → Waking script limits old now c → HasLists (schedule_of now.scheduler) c
 waking-lists script limits old now c w =
     let within : c < length script.decls =
-    declared script (state_of now.machine) (schedule_of now.scheduler) c w.can.kept.way.sound.good w.can.kept.way.sound.formed w.can.kept.way.sound.fits w.can.but in
+    declared script (state_of now.machine) (schedule_of now.scheduler) c w.can.kept.way.sound.good w.can.kept.way.sound.fits w.can.but in
     record {
       receivers = subst (λ n. c < n) (sym w.can.kept.way.sound.fits.receivers) within;
       senders = subst (λ n. c < n) (sym w.can.kept.way.sound.fits.senders) within;
@@ -482,7 +543,7 @@ waking-less script limits old now new c e can makes =
 module _ (script : Script) (limits : Limits) (old now : Run) (c : ℕ) (e : Entry) (w : Waking script limits old now c) (next : next_woken script (state_of now.machine) (schedule_of now.scheduler) c ≡ Some e)
     (none : due_outcome limits (state_of now.machine) ≡ None) where
   goes : IsWoken script (state_of now.machine) (schedule_of now.scheduler) c e
-  goes = is-woken script (state_of now.machine) (schedule_of now.scheduler) c w.can.kept.way.sound.good w.can.kept.way.sound.formed w.can.kept.way.sound.fits w.can.but e next
+  goes = is-woken script (state_of now.machine) (schedule_of now.scheduler) c w.can.kept.way.sound.good w.can.kept.way.sound.fits w.can.but e next
 
   running : IsRunning limits (state_of now.machine)
   running = way-running (seen_of script limits now) w.can.kept.way none
@@ -517,7 +578,7 @@ wakes-none script limits old now c w none = record {
   each_woken = w.each_woken;
   is = w.is;
   kept = w.can.kept;
-  calm = λ due. none-woken script (state_of now.machine) (schedule_of now.scheduler) c w.can.kept.way.sound.good w.can.kept.way.sound.formed w.can.kept.way.sound.fits w.can.but none;
+  calm = λ due. none-woken script (state_of now.machine) (schedule_of now.scheduler) c w.can.kept.way.sound.good w.can.kept.way.sound.fits w.can.but none;
 }
 
 pub wakes-due : (script : Script) (limits : Limits) (old now : Run) (c : ℕ) (outcome : Outcome) → Waking script limits old now c → due_outcome limits (state_of now.machine) ≡ Some outcome
@@ -554,7 +615,7 @@ module _ (script : Script) (limits : Limits) (old mid : Run) (e : Entry) (can : 
   schedule-is : schedule_of mid.scheduler ≡ scheduled (schedule_of old.scheduler) e
   schedule-is = ap (λ (b : BookView). b.schedule) makes.is
 
-  pub entered-alone : (change_of e).channel ≡ None → Entered script limits old e mid
+  pub entered-alone : changed_object (change_of e) ≡ None → Entered script limits old e mid
   entered-alone none = record {
     woken = [];
     legal = first-legal;
@@ -565,11 +626,11 @@ module _ (script : Script) (limits : Limits) (old mid : Run) (e : Entry) (can : 
         (calm-entered script (state_of old.machine) (schedule_of old.scheduler) e can.can.kept.way.sound.good can.can.may can.can.kept.way.sound.fits can.can.served none can.calm);
   }
 
-  pub can-wake : (c : ℕ) (x : Trade) → (change_of e).channel ≡ Some (c, x) → CanWake script limits mid c
-  can-wake c x is = record {
+  pub can-wake : (c : ℕ) → changed_object (change_of e) ≡ Some c → CanWake script limits mid c
+  can-wake c is = record {
     kept = makes.kept;
     but = subst (λ (b : BookView). IsCalmBut script b.state b.schedule (λ o. eqb o c)) (sym makes.is)
-        (calm-but script (state_of old.machine) (schedule_of old.scheduler) e c x can.can.kept.way.sound.good can.can.kept.way.sound.formed can.can.may can.can.kept.way.sound.fits can.can.served is can.calm);
+        (calm-but script (state_of old.machine) (schedule_of old.scheduler) e c can.can.kept.way.sound.good can.can.may can.can.kept.way.sound.fits can.can.served is can.calm);
   }
 
   pub entered-woken : (new : Run) → Wakes script limits mid new → Entered script limits old e new

@@ -1,12 +1,13 @@
 -- Where nobody who is parked is firmly ready, but at some objects.
-use Rattle.std.specs.Prelude.{ℕ, ◌≡◌, Bool, true, false, is_some, is_none}
+use Rattle.std.specs.Prelude.{ℕ, ◌<◌, ◌≡◌, Bool, true, false, is_none, length}
 use Rattle.std.specs.declared.option.Option.{Option}
 use Rattle.std.specs.declared.option.Option.TheVariants.{None, Some}
 use Rattle.gt_model.specs.declared.script.Script.{Script}
 use Rattle.gt_model.specs.declared.script.Instr.{Instr}
 use Rattle.gt_model.specs.declared.script.CaseKind.{CaseKind}
-use Rattle.gt_rules.specs.State.{State, channel_at, stands_at}
-use Rattle.gt_rules.specs.Panics.{case_fault}
+use Rattle.gt_model.specs.declared.entry.Reason.{Reason}
+use Rattle.gt_rules.specs.State.{State, stands_at}
+use Rattle.gt_rules.specs.Panics.{case_fault, choice_fault}
 use Rattle.gt_rules.specs.Legal.{operation_at}
 use Rattle.gt_rules.specs.Ready.{has_partner, is_ready_alone, no_timer}
 use Rattle.gt_schedule.specs.Schedule.{Schedule, at_case, object_of}
@@ -22,6 +23,8 @@ may_wait None = true
 may_wait (Some i) = elim i [
   | Instr.Recv o ↦ true
   | Instr.Send c v ↦ true
+  | Instr.Lock m ↦ true
+  | Instr.Wait w ↦ true
   | Instr.Select cases default_to ↦ is_none default_to
   | Instr.LoopTop depth count past ↦ true
   | Instr.LoopEnd depth top ↦ true
@@ -29,12 +32,19 @@ may_wait (Some i) = elim i [
   | _ ↦ false
 ]
 
--- Who is parked waits at operations on objects that were made, and meets no partner who is parked; none of these is ready by itself but at some objects, which are
--- channels that were made
+-- the misuse of an instruction that names what was not made. That a channel is closed is none here, and a mutex and a WaitGroup need not be made
+abbrev pub unmade : State → Instr → Option Reason
+unmade s (Instr.Recv o) = case_fault s (CaseKind.Recv o)
+unmade s (Instr.Send c v) = case_fault s (CaseKind.Send c v)
+unmade s (Instr.Select cases default_to) = choice_fault s cases
+unmade s _ = None
+
+-- Who is parked waits at operations on objects that may be used, and meets no partner who is parked; none of these is ready by itself but at some objects, which
+-- are declared
 pub record IsCalmBut (script : Script) (s : State) (m : Schedule) (but : ℕ → Bool) : Type 0 where
   pub waits : (g : ℕ) → is_waiting m g ≡ true → may_wait (stands_at script s g) ≡ true
-  pub objects : (g n : ℕ) (kind : CaseKind) → is_waiting m g ≡ true → operation_at script s (at_case g n) ≡ Some kind → case_fault s kind ≡ None
+  pub objects : (g : ℕ) (i : Instr) → is_waiting m g ≡ true → stands_at script s g ≡ Some i → unmade s i ≡ None
   pub partners : (g n : ℕ) (kind : CaseKind) → is_waiting m g ≡ true → operation_at script s (at_case g n) ≡ Some kind → has_partner script s (is_waiting m) g kind ≡ false
   pub others : (g n : ℕ) (kind : CaseKind) → is_waiting m g ≡ true → operation_at script s (at_case g n) ≡ Some kind → but (object_of kind) ≡ false
       → is_ready_alone script s no_timer kind ≡ false
-  pub made : (c : ℕ) → but c ≡ true → is_some (channel_at s c) ≡ true
+  pub declared : (c : ℕ) → but c ≡ true → c < length script.decls

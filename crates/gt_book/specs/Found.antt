@@ -37,6 +37,8 @@ IsOneOfDue s found (c ∷ cases) result = (between : Option (ℕ × ℕ)) × IsO
 -- the same of the operations of an instruction
 abbrev pub IsOneAt : State → Option (ℕ × ℕ) → Instr → Option (ℕ × ℕ) → Type 0
 IsOneAt s found (Instr.Recv o) result = IsOneDue s found (CaseKind.Recv o) result
+IsOneAt s found (Instr.Lock m) result = IsOneDue s found (CaseKind.Recv m) result
+IsOneAt s found (Instr.Wait w) result = IsOneDue s found (CaseKind.Recv w) result
 IsOneAt s found (Instr.Select cases default_to) result = IsOneOfDue s found cases result
 IsOneAt s found _ result = result ≡ found
 

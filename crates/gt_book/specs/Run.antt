@@ -69,7 +69,7 @@ pub record Makes (script : Script) (limits : Limits) (old : Run) (e : Entry) (ne
   pub is : seen_of script limits new ≡ with_entries (seen_of script limits old) (e ∷ [])
   pub kept : IsKeptRun script limits new
 
--- where a run may let those go on that wait at a channel: nobody else could
+-- where a run may let those go on that wait at an object: nobody else could
 pub record CanWake (script : Script) (limits : Limits) (r : Run) (c : ℕ) : Type 0 where
   pub kept : IsKeptRun script limits r
   pub but : IsCalmBut script (state_of r.machine) (schedule_of r.scheduler) (λ o. o == c)

@@ -5,14 +5,15 @@ use Rattle.std.specs.declared.option.Option.{Option}
 use Rattle.std.specs.declared.option.Option.TheVariants.{None, Some}
 use Rattle.gt_model.specs.declared.script.Script.{Script}
 use Rattle.gt_model.specs.declared.script.Instr.{Instr}
+use Rattle.gt_model.specs.declared.script.What.{What}
 use Rattle.gt_model.specs.declared.entry.Entry.{Entry}
 use Rattle.gt_model.specs.declared.entry.Party.{Party}
 use Rattle.gt_model.specs.declared.entry.Reason.{Reason}
 use Rattle.gt_model.specs.declared.script.Case.{Case}
 use Rattle.gt_model.specs.declared.script.CaseKind.{CaseKind}
 use Rattle.gt_model.specs.Good.{awaits_timer}
-use Rattle.gt_model.specs.Script.{is_chan, is_timer, capacity_of}
-use Rattle.gt_rules.specs.State.{State, clock, stands_at, clock_of, due_of, next_number, sleeps_until, items_of, item_count, is_closed}
+use Rattle.gt_model.specs.Script.{what_at, is_chan, is_timer, capacity_of}
+use Rattle.gt_rules.specs.State.{State, clock, stands_at, clock_of, due_of, next_number, sleeps_until, items_of, item_count, is_closed, is_locked, is_done}
 use Rattle.gt_rules.specs.Operations.{receives_from}
 use Rattle.gt_rules.specs.Panics.{fault, fault_case}
 use Rattle.gt_rules.specs.Ready.{is_due}
@@ -56,8 +57,20 @@ sends_alone p c v true room = Some (Entry.Panic p Reason.Closed)
 sends_alone p c v false true = Some (Entry.Send p c v)
 sends_alone p c v false false = None
 
+-- What is no channel gives by what it is declared as: a mutex its lock where nobody has it, a WaitGroup the end of a wait where its counter is 0. What a timer
+-- gives needs its record
+abbrev pub takes_alone : State → Party → ℕ → Option What → Option Entry
+takes_alone s p o None = None
+takes_alone s p o (Some What.Timer) = None
+takes_alone s p o (Some What.Ticker) = None
+takes_alone s p o (Some (What.AfterFunc func)) = None
+takes_alone s p o (Some (What.Chan cap)) = None
+takes_alone s p o (Some What.Mutex) = cond (is_locked s o) None (Some (Entry.Lock p.g o))
+takes_alone s p o (Some What.Wg) = cond (is_done s o) (Some (Entry.WgWait p.g o)) None
+takes_alone s p o (Some What.Function) = None
+
 abbrev pub goes_alone : Script → State → Party → CaseKind → Option Entry
-goes_alone script s p (CaseKind.Recv o) = cond (is_chan script o) (receives_alone p o (items_of s o) (is_closed s o)) None
+goes_alone script s p (CaseKind.Recv o) = cond (is_chan script o) (receives_alone p o (items_of s o) (is_closed s o)) (takes_alone s p o (what_at script o))
 goes_alone script s p (CaseKind.Send c v) = sends_alone p c v (is_closed s c) (nat_lt (item_count s c) (capacity_of script c))
 
 -- its entry with a partner that is parked
@@ -132,6 +145,10 @@ step_of_instr script s m g (Instr.Recv o) =
 step_of_instr script s m g (Instr.Make c) = Step.Makes (Entry.Make g c)
 step_of_instr script s m g (Instr.Send c v) = plain_step (CaseKind.Send c v) (goes_by script s m (plainly g) (CaseKind.Send c v))
 step_of_instr script s m g (Instr.Close c) = Step.Makes (Entry.Close g c)
+step_of_instr script s m g (Instr.Lock k) = plain_step (CaseKind.Recv k) (goes_by script s m (plainly g) (CaseKind.Recv k))
+step_of_instr script s m g (Instr.Unlock k) = Step.Makes (Entry.Unlock g k)
+step_of_instr script s m g (Instr.Add w n) = Step.Makes (Entry.Add g w n)
+step_of_instr script s m g (Instr.Wait w) = plain_step (CaseKind.Recv w) (goes_by script s m (plainly g) (CaseKind.Recv w))
 step_of_instr script s m g (Instr.Select cases default_to) = choice_step script s m g cases default_to
 step_of_instr script s m g (Instr.LoopTop depth count past) = Step.Nowhere
 step_of_instr script s m g (Instr.Jump to) = Step.Nowhere

@@ -404,7 +404,7 @@ impl Book {
         }
     }
 
-    /// Makes an entry, those of whoever goes on by it at its channel, and the finish of the run where one is due then.
+    /// Makes an entry, those of whoever goes on by it at the object that it changes, and the finish of the run where one is due then.
     fn enter(&mut self, entry: Entry)
         requires running { outcome_of self.old ≡ None }
         requires may { May self.old.script self.old.state entry }

@@ -1,7 +1,9 @@
-//! What an operation at a channel is for a party, and who goes on there after one.
+//! What an operation is for a party, and who goes on at an object after one.
 
 ghost use Rattle.std.specs.Prelude.{◌≡◌, ◌<◌, ◌≤◌, Some, length};
 ghost use Rattle.gt_model.specs.Good.{IsGood};
+ghost use Rattle.gt_model.specs.Script.{what_at};
+ghost use Rattle.gt_rules.specs.State as at;
 ghost use Rattle.gt_rules.specs.Legal as legal;
 ghost use Rattle.gt_rules.specs.Operations.{operation, receives_from};
 ghost use Rattle.gt_book.specs.View.{first_case};
@@ -11,8 +13,8 @@ ghost use Rattle.gt_schedule.specs.Schedule.{object_of};
 ghost use Rattle.gt_book.specs.Steps as steps;
 ghost use Rattle.gt_book.specs.Woken as woken;
 
-use gt_machine::{Machine, capacity, is_chan};
-use gt_model::{Case, CaseKind, Entry, Instr, Party, Reason, Script};
+use gt_machine::{Machine, capacity, is_chan, what_at};
+use gt_model::{Case, CaseKind, Entry, Instr, Party, Reason, Script, What};
 use gt_schedule::{Scheduler, plainly};
 
 /// The operation of an instruction under a case number; 0 is a plain one, and the cases of a choice count from 1.
@@ -22,6 +24,8 @@ fn operation(instr: &Instr, case_no: u32) -> Option<CaseKind>
     match (instr, case_no) {
         (Instr::Recv { o }, 0) => Some(CaseKind::Recv(*o)),
         (Instr::Send { c, v }, 0) => Some(CaseKind::Send(*c, *v)),
+        (Instr::Lock { m }, 0) => Some(CaseKind::Recv(*m)),
+        (Instr::Wait { w }, 0) => Some(CaseKind::Recv(*w)),
         (Instr::Select { cases, .. }, n) if n > 0 => {
             Some(cases.as_slice().get(n as usize - 1)?.kind)
         }
@@ -59,17 +63,35 @@ fn value_of(machine: &Machine, script: &Script, p: Party) -> u32
     }
 }
 
+/// The entry of a party that receives from channel `c`, where it can go on by itself.
+fn receives_alone(machine: &Machine, p: Party, c: u32) -> Option<Entry>
+    ensures { result ≡ steps.receives_alone p c (at.items_of (state_of machine.now) c) (at.is_closed (state_of machine.now) c) }
+{
+    match machine.first_item(c) {
+        Some(v) => Some(Entry::Recv { p, c, v: Some(v) }),
+        None if machine.is_closed(c) => Some(Entry::Recv { p, c, v: None }),
+        None => None,
+    }
+}
+
+/// The entry of a party that takes a mutex, or what a WaitGroup gives, where it can go on by itself.
+fn takes_alone(machine: &Machine, script: &Script, p: Party, o: u32) -> Option<Entry>
+    ensures { result ≡ steps.takes_alone (state_of machine.now) p o (what_at script.now o) }
+{
+    match what_at(script, o) {
+        Some(What::Mutex) if !machine.is_locked(o) => Some(Entry::Lock { g: p.g, m: o }),
+        Some(What::Wg) if machine.is_done(o) => Some(Entry::WgWait { g: p.g, w: o }),
+        _ => None,
+    }
+}
+
 /// The entry of a party at an operation, where it can go on by itself. A send to a closed channel is a misuse.
 fn goes_alone(machine: &Machine, script: &Script, p: Party, kind: CaseKind) -> Option<Entry>
     ensures { result ≡ steps.goes_alone script.now (state_of machine.now) p kind }
 {
     match kind {
-        CaseKind::Recv(c) if !is_chan(script, c) => None,
-        CaseKind::Recv(c) => match machine.first_item(c) {
-            Some(v) => Some(Entry::Recv { p, c, v: Some(v) }),
-            None if machine.is_closed(c) => Some(Entry::Recv { p, c, v: None }),
-            None => None,
-        },
+        CaseKind::Recv(c) if is_chan(script, c) => receives_alone(machine, p, c),
+        CaseKind::Recv(o) => takes_alone(machine, script, p, o),
         CaseKind::Send(c, _) if machine.is_closed(c) => Some(Entry::Panic {
             p,
             reason: Reason::Closed,
@@ -147,12 +169,14 @@ fn woken_by(machine: &Machine, script: &Script, p: Party) -> Option<Entry>
     match machine.stands_at(script, p.g)? {
         Instr::Recv { o } => goes_alone(machine, script, plainly(p.g), CaseKind::Recv(*o)),
         Instr::Send { c, v } => goes_alone(machine, script, plainly(p.g), CaseKind::Send(*c, *v)),
+        Instr::Lock { m } => goes_alone(machine, script, plainly(p.g), CaseKind::Recv(*m)),
+        Instr::Wait { w } => goes_alone(machine, script, plainly(p.g), CaseKind::Recv(*w)),
         Instr::Select { cases, .. } => first_alone(machine, script, p.g, cases.as_slice()),
         _ => None,
     }
 }
 
-/// The entry of the one that goes on next at a channel, of those that wait there; None where none can.
+/// The entry of the one that goes on next at an object, of those that wait there; None where none can.
 pub fn next_woken(
     machine: &Machine,
     scheduler: &Scheduler,

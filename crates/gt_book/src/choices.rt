@@ -27,7 +27,7 @@ pub fn plain_step(
     kind: CaseKind,
 ) -> Step
     requires lists { HasLists script.now scheduler.now }
-    requires names { OperatesRightly script.now kind }
+    requires declared { object_of kind < length script.now.decls }
     ensures { result ≡ steps.plain_step kind (steps.goes_by script.now (state_of machine.now) (schedule_of scheduler.now) (plainly g) kind) }
 {
     match goes_by(machine, scheduler, script, plainly(g), kind) {

@@ -79,6 +79,8 @@ fn with_instr(found: Found, machine: &Machine, instr: &Instr) -> Found
 {
     match instr {
         Instr::Recv { o } => with_operation(found, machine, CaseKind::Recv(*o)),
+        Instr::Lock { m } => with_operation(found, machine, CaseKind::Recv(*m)),
+        Instr::Wait { w } => with_operation(found, machine, CaseKind::Recv(*w)),
         Instr::Select { cases, .. } => with_cases(found, machine, cases.as_slice()),
         _ => found,
     }

@@ -68,6 +68,10 @@ fn step_of_instr(
         Instr::Make { c } => Step::Makes(Entry::Make { g, c }),
         Instr::Send { c, v } => plain_step(machine, scheduler, script, g, CaseKind::Send(c, v)),
         Instr::Close { c } => Step::Makes(Entry::Close { g, c }),
+        Instr::Lock { m } => plain_step(machine, scheduler, script, g, CaseKind::Recv(m)),
+        Instr::Unlock { m } => Step::Makes(Entry::Unlock { g, m }),
+        Instr::Add { w, n } => Step::Makes(Entry::Add { g, w, n }),
+        Instr::Wait { w } => plain_step(machine, scheduler, script, g, CaseKind::Recv(w)),
         Instr::Select {
             ref cases,
             default_to,

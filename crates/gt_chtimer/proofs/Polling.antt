@@ -10,8 +10,9 @@ use Rattle.gt_model.specs.declared.script.CaseKind.{CaseKind}
 use Rattle.gt_model.specs.declared.script.Instr.{Instr}
 use Rattle.gt_model.specs.declared.script.Script.{Script}
 use Rattle.gt_model.specs.Good.{IsGood, IsGoodChoice, awaits_timer}
-use Rattle.gt_model.specs.Script.{is_chan, is_timer}
-use Rattle.gt_rules.specs.State.{State, clock, clock_of, due_of, stands_at, items_of, is_closed}
+use Rattle.gt_model.specs.Script.{is_chan, is_timer, what_at}
+use Rattle.gt_model.specs.declared.script.What.{What}
+use Rattle.gt_rules.specs.State.{is_locked, is_done, State, clock, clock_of, due_of, stands_at, items_of, is_closed}
 use Rattle.gt_rules.specs.Operations.{operation, receives_from}
 use Rattle.gt_rules.specs.Panics.{fault}
 use Rattle.gt_rules.specs.Ready.{is_due}
@@ -28,7 +29,7 @@ use Rattle.gt_book.specs.declared.answers.Did.{Did}
 use Rattle.gt_book.specs.declared.answers.Op.{Op}
 use Rattle.gt_book.specs.declared.answers.TimerOp.{TimerOp}
 use Rattle.gt_book.specs.declared.step.Step.{Step}
-use Rattle.gt_book.specs.Steps.{Steps, Does, Commits, is_gone, or_next, receives_alone, sends_alone, goes_alone, partner_in, meets_sender, meets_receiver, meets, goes_by, come_timer, step_or_panic}
+use Rattle.gt_book.specs.Steps.{takes_alone, Steps, Does, Commits, is_gone, or_next, receives_alone, sends_alone, goes_alone, partner_in, meets_sender, meets_receiver, meets, goes_by, come_timer, step_or_panic}
 use Rattle.gt_book.specs.View.{BookView, Enters, IsLawful, outcome_of, receiver_of}
 use Rattle.gt_book.proofs.Committing.{may-poll}
 use Rattle.gt_book.proofs.Meeting.{receives-kind}
@@ -96,9 +97,24 @@ cond-timerless : (b : Bool) (o : Option Entry) → IsTimerlessIf o → IsTimerle
 cond-timerless true o h = h
 cond-timerless false o h = tt
 
+both-timerless : (b : Bool) (o q : Option Entry) → IsTimerlessIf o → IsTimerlessIf q → IsTimerlessIf (cond b o q)
+both-timerless true o q h k = h
+both-timerless false o q h k = k
+
+takes-timerless : (s : State) (p : Party) (o : ℕ) (w : Option What) → IsTimerlessIf (takes_alone s p o w)
+takes-timerless s p o (Some What.Mutex) = both-timerless (is_locked s o) None (Some (Entry.Lock p.g o)) tt refl
+takes-timerless s p o (Some What.Wg) = both-timerless (is_done s o) (Some (Entry.WgWait p.g o)) None refl tt
+takes-timerless s p o (Some What.Timer) = tt
+takes-timerless s p o (Some What.Ticker) = tt
+takes-timerless s p o (Some (What.AfterFunc func)) = tt
+takes-timerless s p o (Some (What.Chan cap)) = tt
+takes-timerless s p o (Some What.Function) = tt
+takes-timerless s p o None = tt
+
 alone-timerless : (script : Script) (s : State) (p : Party) (kind : CaseKind) → IsTimerlessIf (goes_alone script s p kind)
 alone-timerless script s p (CaseKind.Recv o) =
-    cond-timerless (is_chan script o) (receives_alone p o (items_of s o) (is_closed s o)) (receives-timerless p o (items_of s o) (is_closed s o))
+    both-timerless (is_chan script o) (receives_alone p o (items_of s o) (is_closed s o)) (takes_alone s p o (what_at script o)) (receives-timerless p o (items_of s o) (is_closed s o))
+    (takes-timerless s p o (what_at script o))
 alone-timerless script s p (CaseKind.Send c v) = sends-timerless p c v _ _
 
 sender-timerless : (script : Script) (s : State) (p : Party) (c : ℕ) (o : Option Party) → IsTimerlessIf (meets_sender script s p c o)

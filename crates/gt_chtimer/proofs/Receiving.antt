@@ -37,6 +37,8 @@ channel-what : (what : What) (kind : RecKind) → has_channel kind ≡ true → 
 channel-what What.Timer kind h is = refl
 channel-what What.Ticker kind h is = refl
 channel-what (What.AfterFunc f) kind h is = let same : RecKind.Func ≡ kind = cc in absurd (no-channel kind RecKind.Func h same refl)
+channel-what What.Mutex kind h is = cc
+channel-what What.Wg kind h is = cc
 channel-what What.Function kind h is = cc
 channel-what (What.Chan cap) kind h is = cc
 

@@ -24,3 +24,7 @@ pub mod ChoosesClosed
 pub mod FirstFault
 pub mod TwoPolls
 pub mod Ticks
+pub mod Locks
+pub mod LocksTwice
+pub mod Negative
+pub mod UnlocksFree

@@ -32,6 +32,10 @@ ghost use Rattle.gt_examples.specs.ChoosesClosed as chooses_closed;
 ghost use Rattle.gt_examples.specs.FirstFault as first_fault;
 ghost use Rattle.gt_examples.specs.TwoPolls as two_polls;
 ghost use Rattle.gt_examples.specs.Ticks as ticks;
+ghost use Rattle.gt_examples.specs.Locks as locks;
+ghost use Rattle.gt_examples.specs.LocksTwice as locks_twice;
+ghost use Rattle.gt_examples.specs.Negative as negative;
+ghost use Rattle.gt_examples.specs.UnlocksFree as unlocks_free;
 
 /// main sleeps for 5 ms and looks at the clock.
 pub fn sleeps_and_looks()
@@ -367,4 +371,58 @@ pub fn panics_without_a_period()
 /// A run goes on where a ticker was made without a time between its ticks.
 pub fn goes_on_without_a_period()
     ensures { IsVerdict ticks.without_a_period default_limits ticks.goes_on (Verdict.Illegal 1) }
+{}
+
+/// Two goroutines lock a mutex one after the other, and main waits for the second one.
+pub fn locks()
+    ensures history { History locks.script default_limits locks.history Outcome.Exit }
+    ensures jumps { AllJump locks.script 0 (first_state locks.script) locks.history }
+{}
+
+/// Two goroutines have a mutex at once.
+pub fn two_hold_a_mutex()
+    ensures { IsVerdict locks.script default_limits locks.two_hold (Verdict.Illegal 4) }
+{}
+
+/// A wait goes on while the counter of its WaitGroup is 1.
+pub fn goes_on_above_zero()
+    ensures { IsVerdict locks.script default_limits locks.above_zero (Verdict.Illegal 5) }
+{}
+
+/// A deadlock while a goroutine could lock a mutex that is free.
+pub fn deadlock_beside_a_lock()
+    ensures { IsVerdict locks.script default_limits locks.deadlock_beside_a_lock (Verdict.Illegal 5) }
+{}
+
+/// Who locks a mutex that it has waits for ever.
+pub fn locks_twice()
+    ensures history { History locks_twice.script default_limits locks_twice.history Outcome.Deadlock }
+    ensures jumps { AllJump locks_twice.script 0 (first_state locks_twice.script) locks_twice.history }
+{}
+
+/// A goroutine locks a mutex that it has.
+pub fn locks_what_it_has()
+    ensures { IsVerdict locks_twice.script default_limits locks_twice.locks_again (Verdict.Illegal 2) }
+{}
+
+/// A counter would fall below 0.
+pub fn panics_below_zero()
+    ensures history { History negative.script default_limits negative.history Outcome.Panic }
+    ensures jumps { AllJump negative.script 0 (first_state negative.script) negative.history }
+{}
+
+/// A run goes on where a counter fell below 0.
+pub fn goes_on_below_zero()
+    ensures { IsVerdict negative.script default_limits negative.goes_on (Verdict.Illegal 1) }
+{}
+
+/// A mutex that is free is unlocked.
+pub fn unlocks_a_free_mutex()
+    ensures history { History unlocks_free.script default_limits unlocks_free.history Outcome.Panic }
+    ensures jumps { AllJump unlocks_free.script 0 (first_state unlocks_free.script) unlocks_free.history }
+{}
+
+/// A run goes on where a free mutex was unlocked.
+pub fn goes_on_after_a_free_unlock()
+    ensures { IsVerdict unlocks_free.script default_limits unlocks_free.goes_on (Verdict.Illegal 1) }
 {}

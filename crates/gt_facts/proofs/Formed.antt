@@ -39,6 +39,7 @@ use Rattle.gt_model.proofs.GoodCode.{HasItem, has_item, all_at, main_within}
 use Rattle.gt_facts.proofs.Landing.{way-forward, next-way, passes, Landed, landed}
 use Rattle.gt_facts.proofs.Lookups.{Standing, standing, AtOperation, at_operation}
 use Rattle.gt_facts.proofs.Makers.{Maker, calls, receives, trades, pairs, wakes, ticks, panics, maker, Leaves, Sets, sets, Trades, trades-May, Begins, AllBegin, starts, starts-few}
+use Rattle.gt_facts.proofs.Counters.{AreSyncs, syncs-finished, syncs-entered, syncs-first}
 use Rattle.gt_facts.proofs.Periods.{ArePeriods, periods-first, periods-entered}
 use Rattle.gt_facts.proofs.Within.{chan_within}
 use Rattle.gt_model.proofs.Items.{at-is, at-change_other, numbered-change_other}
@@ -71,8 +72,8 @@ pub record AreChannels (script : Script) (cs : List (Option Channel)) : Type 0 w
   pub each : (c : ℕ) (r : Channel) → at cs c ≡ Some r → IsFormedChannel script c r
 
 formed-parts : (script : Script) (s : State) → AreClocks s.clocks → AreGoroutines script s.goroutines → length s.goroutines ≤ s.entries + 1 → AreTimers script s.timers
-    → ArePeriods script s.timers → AreChannels script s.channels → IsFormed script s
-formed-parts script s clocks gs few ts periods cs =
+    → ArePeriods script s.timers → AreChannels script s.channels → AreSyncs script s.entries s.syncs → IsFormed script s
+formed-parts script s clocks gs few ts periods cs ys =
     let timer : (t : ℕ) (r : Timer) → timer_at s t ≡ Some r → IsFormedTimer r = λ t r e. ts.each t (Some r) (at-is s.timers t r e) in
     record {
       world = record { goroutines = λ g r e. (gs.each g r e).world; timers = λ t r e. (timer t r e).world };
@@ -86,6 +87,8 @@ formed-parts script s clocks gs few ts periods cs =
       periods = periods;
       channels = cs.count;
       chans = cs.each;
+      syncs = ys.count;
+      counters = ys.each;
     }
 
 clocks-of : (script : Script) (s : State) → IsFormed script s → AreClocks s.clocks
@@ -206,6 +209,7 @@ formed-first script good =
     (record { count = length-map script.decls (λ (d : Decl). None); each = all-none script.decls })
     (periods-first script)
     (record { count = length-map script.decls (λ (d : Decl). None); each = λ c r e. none_channel script script.decls c c r e })
+    (syncs-first script)
 
 -- ---- goroutines
 
@@ -307,6 +311,8 @@ timer_world-zero script s t formed = elim (timer_at s t) as (λ o. timer_at s t 
 starts_what : (script : Script) (what : What) → DeclaresRightly script what → names_func (Some what) ≡ true → (elim what [ What.AfterFunc f ↦ f | _ ↦ 0 ]) < length script.funcs
 starts_what script What.Timer h k = cc
 starts_what script What.Ticker h k = cc
+starts_what script What.Mutex h k = cc
+starts_what script What.Wg h k = cc
 starts_what script (What.AfterFunc f) h k = h
 starts_what script (What.Chan cap) h k = cc
 starts_what script What.Function h k = cc
@@ -508,12 +514,13 @@ formed-after script s e good formed may =
     (timers-formed script s c.mover c.timer formed (sets script s e good may))
     (periods-entered script s e may formed.periods)
     (channels-formed script s c.mover c.channel formed (trades-May script s e good may))
+    (syncs-entered script s e good formed may)
 
 pub formed-finish : (script : Script) (s : State) (outcome : Outcome) → IsFormed script s → IsFormed script (after script s (Entry.Finish outcome))
 formed-finish script s outcome formed =
     let few : length s.goroutines ≤ s.entries + 1 = formed.few in
     formed-parts script (after script s (Entry.Finish outcome)) (clocks-of script s formed) (goroutines-of script s formed) (omega arith) (timers-of script s formed)
-    formed.periods (channels-of script s formed)
+    formed.periods (channels-of script s formed) (syncs-finished script s formed)
 
 -- ---- legal entries, and histories of them
 

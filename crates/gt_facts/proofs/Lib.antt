@@ -3,6 +3,7 @@ pub mod Lookups
 pub mod Partners
 pub mod Makers
 pub mod Periods
+pub mod Counters
 pub mod Quiet
 pub mod Still
 pub mod Landing

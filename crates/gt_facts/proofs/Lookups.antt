@@ -1,17 +1,18 @@
 -- What holds of each item of a list holds of one, and an item of a numbered list has its number; a goroutine where it stands, what it names and wants there, and one that sleeps.
-use Rattle.std.proofs.Common.{◌≡◌, ℕ, zero, suc, ◌+◌, ◌-◌, arith, subst, sym, List, [], ◌∷◌, refl, ap, slice_get, None, Some, option_map, Bool, true, false, eqb-true, ◌||◌, IsSomeAnd, ◌∙◌, Option}
+use Rattle.std.proofs.Common.{◌≡◌, ℕ, zero, suc, ◌+◌, ◌-◌, arith, subst, sym, List, [], ◌∷◌, refl, ap, slice_get, None, Some, option_map, Bool, true, false, eqb-true, ◌||◌, IsSomeAnd, IsTrue, ◌∙◌, Option}
 use Rattle.std.specs.List.{All, list_any, list_all, enumerate_from}
-use Rattle.std.proofs.lemmas.Bool.{and_parts}
+use Rattle.std.proofs.lemmas.Bool.{and_parts, or_left, or_right}
 use Rattle.gt_model.specs.declared.script.Script.{Script}
 use Rattle.gt_model.specs.declared.script.Instr.{Instr}
 use Rattle.gt_model.specs.declared.state.Goroutine.{Goroutine}
 use Rattle.gt_model.specs.declared.state.Mode.{Mode}
 use Rattle.gt_model.specs.Tables.{numbered}
 use Rattle.gt_rules.specs.State.{State, goroutine_at, stands, stands_at, until_of, sleeps_until}
-use Rattle.gt_model.specs.Script.{instr_at}
+use Rattle.gt_model.specs.Script.{instr_at, is_chan, is_mutex, is_wg, what_at, names_timer, names_chan, names_mutex, names_wg}
+use Rattle.gt_model.specs.declared.script.What.{What}
 use Rattle.gt_model.specs.declared.script.Func.{Func}
 use Rattle.gt_model.specs.declared.script.Place.{Place}
-use Rattle.gt_model.specs.Good.{IsGood, IsGoodCode, NamesRightly, OperatesRightly}
+use Rattle.gt_model.specs.Good.{IsGood, IsGoodCode, NamesRightly, OperatesRightly, gives_values}
 use Rattle.gt_model.proofs.GoodCode.{all_at}
 use Rattle.gt_model.specs.declared.script.Case.{Case}
 use Rattle.gt_model.specs.declared.script.CaseKind.{CaseKind}
@@ -168,6 +169,8 @@ offered (Instr.Send c v) test h = record { case_no = 0; kind = CaseKind.Send c v
 offered (Instr.Select cases default_to) test h =
     let one : HasAny (λ (c : Case). test c.kind) cases = any-has (λ (c : Case). test c.kind) cases h in
     record { case_no = suc one.place; kind = one.item.kind; has = ap (option_map (λ (c : Case). c.kind)) one.there; passes = one.passes }
+offered (Instr.Lock m) test h = record { case_no = 0; kind = CaseKind.Recv m; has = refl; passes = h }
+offered (Instr.Wait w) test h = record { case_no = 0; kind = CaseKind.Recv w; has = refl; passes = h }
 offered _ test h = cc
 
 -- the case that has a number
@@ -203,17 +206,92 @@ offers-operation test (Instr.Send c v) zero kind e h = let is : CaseKind.Send c 
 offers-operation test (Instr.Send c v) (suc k) kind e h = cc
 offers-operation test (Instr.Select cases default_to) zero kind e h = cc
 offers-operation test (Instr.Select cases default_to) (suc k) kind e h = operation-any test cases k kind e h
+offers-operation test (Instr.Lock m) zero kind e h = let is : CaseKind.Recv m ≡ kind = cc in subst (λ kind. test kind ≡ true) (sym is) h
+offers-operation test (Instr.Lock m) (suc k) kind e h = cc
+offers-operation test (Instr.Wait w) zero kind e h = let is : CaseKind.Recv w ≡ kind = cc in subst (λ kind. test kind ≡ true) (sym is) h
+offers-operation test (Instr.Wait w) (suc k) kind e h = cc
 offers-operation test _ n kind e h = cc
 
+-- what an operation may name: a receive gives a value, or is a lock or a wait
+abbrev pub NamesObject : Script → CaseKind → Type 0
+NamesObject script (CaseKind.Recv o) = IsTrue (gives_values script o || (is_mutex script o || is_wg script o))
+NamesObject script (CaseKind.Send c v) = IsTrue (is_chan script c)
+
+names-case : (script : Script) (kind : CaseKind) → OperatesRightly script kind → NamesObject script kind
+names-case script (CaseKind.Recv o) h = or_left (gives_values script o) (is_mutex script o || is_wg script o) h
+names-case script (CaseKind.Send c v) h = h
+
 -- the operation of a party is named rightly
-pub names-operation : (script : Script) (i : Instr) (n : ℕ) (kind : CaseKind) → operation i n ≡ Some kind → NamesRightly script i → OperatesRightly script kind
-names-operation script (Instr.Recv o) zero kind e names = let is : CaseKind.Recv o ≡ kind = cc in subst (OperatesRightly script) is names
+pub names-operation : (script : Script) (i : Instr) (n : ℕ) (kind : CaseKind) → operation i n ≡ Some kind → NamesRightly script i → NamesObject script kind
+names-operation script (Instr.Recv o) zero kind e names = let is : CaseKind.Recv o ≡ kind = cc in subst (NamesObject script) is (names-case script (CaseKind.Recv o) names)
 names-operation script (Instr.Recv o) (suc k) kind e names = cc
-names-operation script (Instr.Send c v) zero kind e names = let is : CaseKind.Send c v ≡ kind = cc in subst (OperatesRightly script) is names
+names-operation script (Instr.Send c v) zero kind e names = let is : CaseKind.Send c v ≡ kind = cc in subst (NamesObject script) is names
 names-operation script (Instr.Send c v) (suc k) kind e names = cc
 names-operation script (Instr.Select cases default_to) zero kind e names = cc
-names-operation script (Instr.Select cases default_to) (suc k) kind e names = operation-all (OperatesRightly script) cases k kind e names.each
+names-operation script (Instr.Select cases default_to) (suc k) kind e names = names-case script kind (operation-all (OperatesRightly script) cases k kind e names.each)
+names-operation script (Instr.Lock m) zero kind e names =
+    let is : CaseKind.Recv m ≡ kind = cc in
+    subst (NamesObject script) is (or_right (gives_values script m) (is_mutex script m || is_wg script m) (or_left (is_mutex script m) (is_wg script m) names))
+names-operation script (Instr.Lock m) (suc k) kind e names = cc
+names-operation script (Instr.Wait w) zero kind e names =
+    let is : CaseKind.Recv w ≡ kind = cc in
+    subst (NamesObject script) is (or_right (gives_values script w) (is_mutex script w || is_wg script w) (or_right (is_mutex script w) (is_wg script w) names))
+names-operation script (Instr.Wait w) (suc k) kind e names = cc
 names-operation script _ n kind e names = cc
+
+-- ---- a lock is the only receive of a mutex, and a wait that of a WaitGroup
+
+no-value_mutex : (w : Option What) → IsTrue (names_timer w || names_chan w) → IsTrue (names_mutex w) → ⊥
+no-value_mutex (Some What.Mutex) h mutex = cc
+no-value_mutex _ h mutex = cc
+
+no-value_wg : (w : Option What) → IsTrue (names_timer w || names_chan w) → IsTrue (names_wg w) → ⊥
+no-value_wg (Some What.Wg) h wg = cc
+no-value_wg _ h wg = cc
+
+no-mutex_wg : (w : Option What) → IsTrue (names_mutex w) → IsTrue (names_wg w) → ⊥
+no-mutex_wg (Some What.Mutex) mutex wg = cc
+no-mutex_wg _ mutex wg = cc
+
+-- a receive of an object that gives no value is plain, and no case of a choice
+pub record IsPlain (i j : Instr) (n : ℕ) : Type 0 where
+  pub instr : i ≡ j
+  pub plain : n ≡ 0
+
+-- what each case gives that receives
+gives-case : (script : Script) (cases : List Case) (k o : ℕ) → All (λ (c : Case). OperatesRightly script c.kind) cases
+    → option_map (λ (c : Case). c.kind) (slice_get cases k) ≡ Some (CaseKind.Recv o) → IsTrue (gives_values script o)
+gives-case script cases k o each e = operation-all (OperatesRightly script) cases k (CaseKind.Recv o) e each
+
+pub locks-instr : (script : Script) (i : Instr) (n m : ℕ) → operation i n ≡ Some (CaseKind.Recv m) → NamesRightly script i → IsTrue (is_mutex script m) → IsPlain i (Instr.Lock m) n
+locks-instr script (Instr.Recv o) zero m e names mutex =
+    let is : o ≡ m = cc in
+    absurd (no-value_mutex (what_at script m) (subst (λ o. IsTrue (gives_values script o)) is names) mutex)
+locks-instr script (Instr.Recv o) (suc k) m e names mutex = cc
+locks-instr script (Instr.Send c v) zero m e names mutex = cc
+locks-instr script (Instr.Send c v) (suc k) m e names mutex = cc
+locks-instr script (Instr.Select cases default_to) zero m e names mutex = cc
+locks-instr script (Instr.Select cases default_to) (suc k) m e names mutex = absurd (no-value_mutex (what_at script m) (gives-case script cases k m names.each e) mutex)
+locks-instr script (Instr.Lock k) zero m e names mutex = let is : k ≡ m = cc in record { instr = ap Instr.Lock is; plain = refl }
+locks-instr script (Instr.Lock k) (suc j) m e names mutex = cc
+locks-instr script (Instr.Wait w) zero m e names mutex = let is : w ≡ m = cc in absurd (no-mutex_wg (what_at script m) mutex (subst (λ w. IsTrue (is_wg script w)) is names))
+locks-instr script (Instr.Wait w) (suc j) m e names mutex = cc
+locks-instr script _ n m e names mutex = cc
+
+pub waits-instr : (script : Script) (i : Instr) (n w : ℕ) → operation i n ≡ Some (CaseKind.Recv w) → NamesRightly script i → IsTrue (is_wg script w) → IsPlain i (Instr.Wait w) n
+waits-instr script (Instr.Recv o) zero w e names wg =
+    let is : o ≡ w = cc in
+    absurd (no-value_wg (what_at script w) (subst (λ o. IsTrue (gives_values script o)) is names) wg)
+waits-instr script (Instr.Recv o) (suc k) w e names wg = cc
+waits-instr script (Instr.Send c v) zero w e names wg = cc
+waits-instr script (Instr.Send c v) (suc k) w e names wg = cc
+waits-instr script (Instr.Select cases default_to) zero w e names wg = cc
+waits-instr script (Instr.Select cases default_to) (suc k) w e names wg = absurd (no-value_wg (what_at script w) (gives-case script cases k w names.each e) wg)
+waits-instr script (Instr.Lock m) zero w e names wg = let is : m ≡ w = cc in absurd (no-mutex_wg (what_at script w) (subst (λ m. IsTrue (is_mutex script m)) is names) wg)
+waits-instr script (Instr.Lock m) (suc j) w e names wg = cc
+waits-instr script (Instr.Wait k) zero w e names wg = let is : k ≡ w = cc in record { instr = ap Instr.Wait is; plain = refl }
+waits-instr script (Instr.Wait k) (suc j) w e names wg = cc
+waits-instr script _ n w e names wg = cc
 
 receives-kind : (t : ℕ) (kind : CaseKind) → receives_from t kind ≡ true → kind ≡ CaseKind.Recv t
 receives-kind t (CaseKind.Recv o) h = ap CaseKind.Recv (eqb-true o t h)
@@ -280,7 +358,7 @@ at_operation script s p kind e =
 pub operates-Does : (script : Script) (s : State) (p : Party) (kind : CaseKind) (at : AtOperation script s p kind) → Operates script s p kind → Does script s p.g at.instr
 operates-Does script s p kind at h = record { stands = at.stands; calm = h.calm }
 
-pub names-Operates : (script : Script) (s : State) (p : Party) (kind : CaseKind) → IsGood script → Operates script s p kind → OperatesRightly script kind
+pub names-Operates : (script : Script) (s : State) (p : Party) (kind : CaseKind) → IsGood script → Operates script s p kind → NamesObject script kind
 names-Operates script s p kind good h =
     let at : AtOperation script s p kind = at_operation script s p kind h.stands in
     names-operation script at.instr p.case_no kind at.has (names-Does script s p.g at.instr good (operates-Does script s p kind at h))
@@ -290,3 +368,20 @@ pub does-Operates : (script : Script) (s : State) (p : Party) (i : Instr) (kind 
 does-Operates script s p i kind has does =
     let there : operation_at script s p ≡ operation i p.case_no = ap (λ (o : Option Instr). elim o as (λ o. Option CaseKind) [ None ↦ None | Some i ↦ operation i p.case_no ]) does.stands in
     record { stands = there ∙ has; calm = does.calm }
+
+-- who receives from a mutex locks it, and who receives from a WaitGroup waits for it
+pub locks-Operates : (script : Script) (s : State) (p : Party) (m : ℕ) → IsGood script → Operates script s p (CaseKind.Recv m) → IsTrue (is_mutex script m)
+    → Does script s p.g (Instr.Lock m) × (p.case_no ≡ 0)
+locks-Operates script s p m good h mutex =
+    let at : AtOperation script s p (CaseKind.Recv m) = at_operation script s p (CaseKind.Recv m) h.stands in
+    let does : Does script s p.g at.instr = operates-Does script s p (CaseKind.Recv m) at h in
+    let is : IsPlain at.instr (Instr.Lock m) p.case_no = locks-instr script at.instr p.case_no m at.has (names-Does script s p.g at.instr good does) mutex in
+    (subst (λ (i : Instr). Does script s p.g i) is.instr does, is.plain)
+
+pub waits-Operates : (script : Script) (s : State) (p : Party) (w : ℕ) → IsGood script → Operates script s p (CaseKind.Recv w) → IsTrue (is_wg script w)
+    → Does script s p.g (Instr.Wait w) × (p.case_no ≡ 0)
+waits-Operates script s p w good h wg =
+    let at : AtOperation script s p (CaseKind.Recv w) = at_operation script s p (CaseKind.Recv w) h.stands in
+    let does : Does script s p.g at.instr = operates-Does script s p (CaseKind.Recv w) at h in
+    let is : IsPlain at.instr (Instr.Wait w) p.case_no = waits-instr script at.instr p.case_no w at.has (names-Does script s p.g at.instr good does) wg in
+    (subst (λ (i : Instr). Does script s p.g i) is.instr does, is.plain)

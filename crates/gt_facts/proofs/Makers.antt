@@ -1,5 +1,5 @@
 -- Who makes an entry that may come next, and what the entry changes: of what is shown here alone each kind of entry, and of instruction, has a clause.
-use Rattle.std.proofs.Common.{◌≡◌, ℕ, zero, suc, ◌<◌, ◌≤◌, List, [], ◌∷◌, length, refl, sym, ap, subst, ◌∙◌, arith, Option, None, Some, Bool, true, false, not, ◌&&◌, ◌||◌, ◌==◌, ◌≢◌, nat_lt, slice_get, is_some, is_none, IsTrue, IfSome, IsSomeAnd, MatchOption, option_map, get_or, ◌+◌, ◌*◌, min, ◌-◌}
+use Rattle.std.proofs.Common.{◌≡◌, ℕ, zero, suc, ◌<◌, ◌≤◌, List, [], ◌∷◌, length, refl, sym, ap, subst, ◌∙◌, arith, Option, None, Some, Bool, true, false, not, ◌&&◌, ◌||◌, ◌==◌, ◌≢◌, nat_lt, slice_get, is_some, is_none, IsTrue, IfSome, IsSomeAnd, MatchOption, option_map, get_or, ◌+◌, ◌*◌, min}
 use Rattle.std.specs.List.{list_any}
 use Rattle.std.proofs.Math.Nat.{min-le_left}
 use Rattle.std.proofs.lemmas.Bool.{and_parts, eqb-true, leb-true, lt-ltb, ltb-true, or_left, or_right}
@@ -14,10 +14,10 @@ use Rattle.gt_model.specs.Times.{greatest_time}
 use Rattle.gt_model.specs.declared.script.Case.{Case}
 use Rattle.gt_model.specs.declared.script.CaseKind.{CaseKind}
 use Rattle.gt_model.specs.declared.script.What.{What}
-use Rattle.gt_model.specs.Script.{what_at, names_timer, names_chan, is_func, is_timer, is_chan, capacity_of, is_ticker}
+use Rattle.gt_model.specs.Script.{what_at, names_timer, names_chan, names_mutex, names_wg, is_func, is_timer, is_chan, capacity_of, is_ticker}
 use Rattle.gt_model.specs.Good.{IsGood, is_finish, is_setting}
 use Rattle.gt_model.proofs.Declared.{timer_setting, func_setting}
-use Rattle.gt_rules.specs.State.{State, Channel, goroutine_at, stands, world_of, clock, clock_of, sleeps_until, next_number, timer_at, due_of, period_at, channel_at, items_of, item_count, is_closed, is_open}
+use Rattle.gt_rules.specs.State.{is_locked, counter_of, State, Channel, goroutine_at, stands, world_of, clock, clock_of, sleeps_until, next_number, timer_at, due_of, period_at, channel_at, items_of, item_count, is_closed, is_open}
 use Rattle.gt_rules.specs.Panics.{panic_of, fault, fault_at, fault_case, case_fault, choice_fault, when, or_else, open_fault, zero_ticker}
 use Rattle.gt_rules.specs.Ready.{is_due, is_ready_instr, is_ready_case, is_ready_alone, is_ready_recv, has_partner, partner_waits, has_come, everyone}
 use Rattle.gt_rules.specs.Operations.{operation, polls, receives_from, sends_to}
@@ -28,7 +28,7 @@ use Rattle.gt_rules.specs.declared.change.Start.{Start}
 use Rattle.gt_rules.specs.Change.{change_of, sleeps, takes, goes_on}
 use Rattle.gt_rules.specs.Legal.{May, MayPanic, ChoosesClosed, Does, Operates, operation_at, is_polling, Gives, due_at, sleep_end, was_set, LeavesBy}
 use Rattle.gt_rules.specs.Finish.{IsIdle}
-use Rattle.gt_facts.proofs.Lookups.{names-Does, names-Operates, operates-Does, does-Operates, AtOperation, at_operation, HasAny, any-has, IsCase, is-case, ReceivesFrom, receives-recv, SendsTo, sends-send}
+use Rattle.gt_facts.proofs.Lookups.{locks-Operates, waits-Operates, names-Does, names-Operates, operates-Does, does-Operates, AtOperation, at_operation, HasAny, any-has, IsCase, is-case, ReceivesFrom, receives-recv, SendsTo, sends-send}
 use Rattle.gt_facts.proofs.Partners.{Partner, partner}
 
 -- ---- times
@@ -82,6 +82,8 @@ chan-ready s c v (What.Chan cap) h gives timed = gives-some s c v gives
 chan-ready s c v What.Timer h gives timed = cc
 chan-ready s c v What.Ticker h gives timed = cc
 chan-ready s c v (What.AfterFunc func) h gives timed = cc
+chan-ready s c v What.Mutex h gives timed = cc
+chan-ready s c v What.Wg h gives timed = cc
 chan-ready s c v What.Function h gives timed = cc
 
 -- what is received from a channel makes the receive ready by itself
@@ -91,6 +93,15 @@ gives-ready script s c v chan gives timed =
       | None ↦ λ h. cc
       | Some what ↦ λ h. chan-ready s c v what h gives timed
     ] chan
+
+-- a mutex that is free, and a WaitGroup at 0
+pub free-ready : (s : State) (m : ℕ) (w : Option What) → IsTrue (names_mutex w) → is_locked s m ≡ false → (timed : ℕ → Bool) → is_ready_recv s timed m w ≡ true
+free-ready s m (Some What.Mutex) mutex free timed = ap not free
+free-ready s m _ mutex free timed = cc
+
+pub done-ready : (s : State) (w : ℕ) (o : Option What) → IsTrue (names_wg o) → counter_of s w ≡ 0 → (timed : ℕ → Bool) → is_ready_recv s timed w o ≡ true
+done-ready s w (Some What.Wg) wg done timed = ap (λ n. n == 0) done
+done-ready s w _ wg done timed = cc
 
 pub maker : (script : Script) (s : State) (e : Entry) → May script s e → Maker script s (change_of e).mover (change_of e).partner (change_of e).clock
 maker script s (Entry.Say g n) may = calls g (Instr.Say n) (Move.GoesOn 0) may (λ timed counts me. refl) refl
@@ -113,6 +124,14 @@ maker script s (Entry.Pair from to c v) may =
     pairs from to c v may.0 may.1 (λ good. names-Operates script s from (CaseKind.Send c v) good may.0) may.3 may.4 may.5
 maker script s (Entry.Close g c) may = calls g (Instr.Close c) (Move.GoesOn 0) may (λ timed counts me. refl) refl
 maker script s (Entry.Default g) may = calls g (Instr.Select may.cases (Some may.to)) (Move.GoesOn 0) may.does (λ timed counts me. refl) refl
+maker script s (Entry.Lock g m) may =
+    calls g (Instr.Lock m) (Move.GoesOn 0) may.0
+    (λ timed counts me. or_left (is_ready_alone script s timed (CaseKind.Recv m)) _ (free-ready s m (what_at script m) may.1 may.2 timed)) refl
+maker script s (Entry.Unlock g m) may = calls g (Instr.Unlock m) (Move.GoesOn 0) may (λ timed counts me. refl) refl
+maker script s (Entry.Add g w n) may = calls g (Instr.Add w n) (Move.GoesOn 0) may (λ timed counts me. refl) refl
+maker script s (Entry.WgWait g w) may =
+    calls g (Instr.Wait w) (Move.GoesOn 0) may.0
+    (λ timed counts me. or_left (is_ready_alone script s timed (CaseKind.Recv w)) _ (done-ready s w (what_at script w) may.1 may.2 timed)) refl
 maker script s (Entry.Clock zero to) may = ticks to may.0 may.1
 maker script s (Entry.Clock (suc world) to) may = absurd may
 maker script s (Entry.Panic p reason) may = panics p reason may
@@ -137,7 +156,7 @@ pub record Sets (script : Script) (s : State) (t : ℕ) (x : Setting) : Type 0 w
   pub made : is_some (timer_at s t) ≡ was_made x
   pub time : IfSome (next_due x) (λ due. due ≤ greatest_time)
 
-none-when : (b : Bool) (reason : Reason) → when b reason ≡ None → b ≡ false
+pub none-when : (b : Bool) (reason : Reason) → when b reason ≡ None → b ≡ false
 none-when true reason h = cc
 none-when false reason h = refl
 
@@ -328,20 +347,30 @@ keeps-not : (script : Script) (s : State) (p : Party) (c : ℕ) (items : List �
 keeps-not script s p c [] idle gets chan is ready = idle (Entry.Recv p c None) (gets, chan, (is, ready))
 keeps-not script s p c (v ∷ rest) idle gets chan is ready = idle (Entry.Recv p c (Some v)) (gets, chan, ap (λ (items : List ℕ). slice_get items 0) is)
 
-gives-not : (script : Script) (s : State) (p : Party) (w o : ℕ) (what : What) → IsIdle script s → clock_of s p.g ≡ clock s w → Operates script s p (CaseKind.Recv o)
+gives-not : (script : Script) (s : State) (p : Party) (w o : ℕ) (what : What) → IsGood script → IsIdle script s → clock_of s p.g ≡ clock s w → Operates script s p (CaseKind.Recv o)
     → what_at script o ≡ Some what → is_ready_recv s (has_come s w) o (Some what) ≡ true → ⊥
-gives-not script s p w o What.Timer idle now gets is ready = timer-not script s p w o idle now gets (ap names_timer is) ready
-gives-not script s p w o What.Ticker idle now gets is ready = timer-not script s p w o idle now gets (ap names_timer is) ready
-gives-not script s p w o (What.AfterFunc func) idle now gets is ready = cc
-gives-not script s p w o (What.Chan cap) idle now gets is ready = keeps-not script s p o (items_of s o) idle gets (ap names_chan is) refl ready
-gives-not script s p w o What.Function idle now gets is ready = cc
+gives-not script s p w o What.Timer good idle now gets is ready = timer-not script s p w o idle now gets (ap names_timer is) ready
+gives-not script s p w o What.Ticker good idle now gets is ready = timer-not script s p w o idle now gets (ap names_timer is) ready
+gives-not script s p w o (What.AfterFunc func) good idle now gets is ready = cc
+gives-not script s p w o (What.Chan cap) good idle now gets is ready = keeps-not script s p o (items_of s o) idle gets (ap names_chan is) refl ready
+gives-not script s p w o What.Mutex good idle now gets is ready =
+    let locks = locks-Operates script s p o good gets (ap names_mutex is) in
+    idle (Entry.Lock p.g o) (locks.0, ap names_mutex is, unlocked (is_locked s o) ready)
+  where
+    unlocked : (b : Bool) → not b ≡ true → b ≡ false
+    unlocked true h = cc
+    unlocked false h = refl
+gives-not script s p w o What.Wg good idle now gets is ready =
+    let waits = waits-Operates script s p o good gets (ap names_wg is) in
+    idle (Entry.WgWait p.g o) (waits.0, ap names_wg is, eqb-true (counter_of s o) 0 ready)
+gives-not script s p w o What.Function good idle now gets is ready = cc
 
-recv-not : (script : Script) (s : State) (p : Party) (w o : ℕ) → IsIdle script s → clock_of s p.g ≡ clock s w → Operates script s p (CaseKind.Recv o)
+recv-not : (script : Script) (s : State) (p : Party) (w o : ℕ) → IsGood script → IsIdle script s → clock_of s p.g ≡ clock s w → Operates script s p (CaseKind.Recv o)
     → is_ready_alone script s (has_come s w) (CaseKind.Recv o) ≡ true → ⊥
-recv-not script s p w o idle now gets ready =
+recv-not script s p w o good idle now gets ready =
     elim (what_at script o) as (λ q. what_at script o ≡ q → is_ready_recv s (has_come s w) o q ≡ true → ⊥) [
       | None ↦ λ is h. cc
-      | Some what ↦ λ is h. gives-not script s p w o what idle now gets is h
+      | Some what ↦ λ is h. gives-not script s p w o what good idle now gets is h
     ] refl ready
 
 -- the channel of a send was made: else it is a misuse
@@ -371,6 +400,10 @@ operation-fault script s (Instr.Select cases default_to) zero c v none e = cc
 operation-fault script s (Instr.Select cases default_to) (suc k) c v none e =
     let one : IsCase cases k (CaseKind.Send c v) = is-case cases k (CaseKind.Send c v) e in
     send-fault s c v (subst (λ kind. case_fault s kind ≡ None) one.its (no-case_fault s cases k one.item none one.there))
+operation-fault script s (Instr.Lock m) zero c v none e = cc
+operation-fault script s (Instr.Lock m) (suc k) c v none e = cc
+operation-fault script s (Instr.Wait w) zero c v none e = cc
+operation-fault script s (Instr.Wait w) (suc k) c v none e = cc
 operation-fault script s _ n c v none e = cc
 
 send-made : (script : Script) (s : State) (p : Party) (c v : ℕ) → Operates script s p (CaseKind.Send c v) → is_some (channel_at s c) ≡ true
@@ -440,46 +473,46 @@ send-partner-not script s p c v idle sends ready =
     (not-and_right (is_polling script s p.g) (is_polling script s q.number) (waits-polling script s q.number q.instr q.does q.waits))
 
 -- an operation that is ready has its entry
-alone-not : (script : Script) (s : State) (p : Party) (w : ℕ) (kind : CaseKind) → IsIdle script s → clock_of s p.g ≡ clock s w → Operates script s p kind
+alone-not : (script : Script) (s : State) (p : Party) (w : ℕ) (kind : CaseKind) → IsGood script → IsIdle script s → clock_of s p.g ≡ clock s w → Operates script s p kind
     → is_ready_alone script s (has_come s w) kind ≡ true → ⊥
-alone-not script s p w (CaseKind.Recv o) idle now gets ready = recv-not script s p w o idle now gets ready
-alone-not script s p w (CaseKind.Send c v) idle now sends ready = send-not script s p c v idle sends ready
+alone-not script s p w (CaseKind.Recv o) good idle now gets ready = recv-not script s p w o good idle now gets ready
+alone-not script s p w (CaseKind.Send c v) good idle now sends ready = send-not script s p c v idle sends ready
 
 partner-not : (script : Script) (s : State) (p : Party) (kind : CaseKind) → IsIdle script s → Operates script s p kind → has_partner script s everyone p.g kind ≡ true → ⊥
 partner-not script s p (CaseKind.Recv o) idle gets ready = recv-partner-not script s p o idle gets ready
 partner-not script s p (CaseKind.Send c v) idle sends ready = send-partner-not script s p c v idle sends ready
 
-operation-not : (script : Script) (s : State) (p : Party) (w : ℕ) (kind : CaseKind) → IsIdle script s → clock_of s p.g ≡ clock s w → Operates script s p kind
+operation-not : (script : Script) (s : State) (p : Party) (w : ℕ) (kind : CaseKind) → IsGood script → IsIdle script s → clock_of s p.g ≡ clock s w → Operates script s p kind
     → is_ready_case script s (has_come s w) everyone p.g kind ≡ true → ⊥
-operation-not script s p w kind idle now h ready =
-    either-not (is_ready_alone script s (has_come s w) kind) (has_partner script s everyone p.g kind) ready (alone-not script s p w kind idle now h) (partner-not script s p kind idle h)
+operation-not script s p w kind good idle now h ready =
+    either-not (is_ready_alone script s (has_come s w) kind) (has_partner script s everyone p.g kind) ready (alone-not script s p w kind good idle now h) (partner-not script s p kind idle h)
 
 -- who stands at a plain operation, and at a case of a choice
-plain-not : (script : Script) (s : State) (g w : ℕ) (i : Instr) (kind : CaseKind) → IsIdle script s → clock_of s g ≡ clock s w → Does script s g i → operation i 0 ≡ Some kind
+plain-not : (script : Script) (s : State) (g w : ℕ) (i : Instr) (kind : CaseKind) → IsGood script → IsIdle script s → clock_of s g ≡ clock s w → Does script s g i → operation i 0 ≡ Some kind
     → is_ready_case script s (has_come s w) everyone g kind ≡ true → ⊥
-plain-not script s g w i kind idle now does has ready =
+plain-not script s g w i kind good idle now does has ready =
     let p : Party = record { g = g; case_no = 0 } in
-    operation-not script s p w kind idle now (does-Operates script s p i kind has does) ready
+    operation-not script s p w kind good idle now (does-Operates script s p i kind has does) ready
 
-case-not : (script : Script) (s : State) (g w : ℕ) (cases : List Case) (default_to : Option ℕ) → IsIdle script s → clock_of s g ≡ clock s w → Does script s g (Instr.Select cases default_to)
+case-not : (script : Script) (s : State) (g w : ℕ) (cases : List Case) (default_to : Option ℕ) → IsGood script → IsIdle script s → clock_of s g ≡ clock s w → Does script s g (Instr.Select cases default_to)
     → list_any (λ (c : Case). is_ready_case script s (has_come s w) everyone g c.kind) cases ≡ true → ⊥
-case-not script s g w cases default_to idle now does ready =
+case-not script s g w cases default_to good idle now does ready =
     let one : HasAny (λ (c : Case). is_ready_case script s (has_come s w) everyone g c.kind) cases = any-has (λ (c : Case). is_ready_case script s (has_come s w) everyone g c.kind) cases ready in
     let p : Party = record { g = g; case_no = suc one.place } in
-    operation-not script s p w one.item.kind idle now
+    operation-not script s p w one.item.kind good idle now
     (does-Operates script s p (Instr.Select cases default_to) one.item.kind (ap (option_map (λ (c : Case). c.kind)) one.there) does) one.passes
 
 -- a choice with a default takes it where no case could go on but by a partner
-default-not : (script : Script) (s : State) (g : ℕ) (cases : List Case) (default_to : Option ℕ) → IsIdle script s → Does script s g (Instr.Select cases default_to) → is_some default_to ≡ true → ⊥
-default-not script s g cases None idle does h = cc
-default-not script s g cases (Some to) idle does h =
+default-not : (script : Script) (s : State) (g : ℕ) (cases : List Case) (default_to : Option ℕ) → IsGood script → IsIdle script s → Does script s g (Instr.Select cases default_to) → is_some default_to ≡ true → ⊥
+default-not script s g cases None good idle does h = cc
+default-not script s g cases (Some to) good idle does h =
     idle (Entry.Default g) (record {
       cases = cases;
       to = to;
       does = does;
       none = λ k d below.
           not_true (is_ready_alone script s (has_come s (world_of s g)) (get_or cases k d).kind)
-          (alone-not script s (record { g = g; case_no = suc k }) (world_of s g) (get_or cases k d).kind idle refl
+          (alone-not script s (record { g = g; case_no = suc k }) (world_of s g) (get_or cases k d).kind good idle refl
           (does-Operates script s (record { g = g; case_no = suc k }) (Instr.Select cases (Some to)) (get_or cases k d).kind
           (ap (option_map (λ (c : Case). c.kind)) (slice_get-get_or cases k d below)) does));
     })
@@ -495,15 +528,19 @@ idle-not script s g w (Instr.New t d) good idle now does ready = idle (Entry.New
 idle-not script s g w (Instr.Stop t) good idle now does ready = idle (Entry.Stop g t (was_set script s t)) (does, refl)
 idle-not script s g w (Instr.Reset t d) good idle now does ready = idle (Entry.Reset g t (was_set script s t) (due_at (clock_of s g) d)) (d, does, refl, refl)
 idle-not script s g w (Instr.Recv o) good idle now does ready =
-    plain-not script s g w (Instr.Recv o) (CaseKind.Recv o) idle now does refl ready
+    plain-not script s g w (Instr.Recv o) (CaseKind.Recv o) good idle now does refl ready
 idle-not script s g w (Instr.Make c) good idle now does ready = idle (Entry.Make g c) does
 idle-not script s g w (Instr.Send c v) good idle now does ready =
-    plain-not script s g w (Instr.Send c v) (CaseKind.Send c v) idle now does refl ready
+    plain-not script s g w (Instr.Send c v) (CaseKind.Send c v) good idle now does refl ready
 idle-not script s g w (Instr.Close c) good idle now does ready = idle (Entry.Close g c) does
+idle-not script s g w (Instr.Lock m) good idle now does ready = plain-not script s g w (Instr.Lock m) (CaseKind.Recv m) good idle now does refl ready
+idle-not script s g w (Instr.Unlock m) good idle now does ready = idle (Entry.Unlock g m) does
+idle-not script s g w (Instr.Add k n) good idle now does ready = idle (Entry.Add g k n) does
+idle-not script s g w (Instr.Wait k) good idle now does ready = plain-not script s g w (Instr.Wait k) (CaseKind.Recv k) good idle now does refl ready
 idle-not script s g w Instr.Finish good idle now does ready = idle (Entry.End g) does
 idle-not script s g w (Instr.LoopTop depth count past) good idle now does ready = cc
 idle-not script s g w (Instr.LoopEnd depth top) good idle now does ready = cc
 idle-not script s g w (Instr.Jump to) good idle now does ready = cc
 idle-not script s g w (Instr.Select cases default_to) good idle now does ready =
     either-not (is_some default_to) (list_any (λ (c : Case). is_ready_case script s (has_come s w) everyone g c.kind) cases) ready
-    (default-not script s g cases default_to idle does) (case-not script s g w cases default_to idle now does)
+    (default-not script s g cases default_to good idle does) (case-not script s g w cases default_to good idle now does)

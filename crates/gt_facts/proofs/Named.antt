@@ -65,6 +65,10 @@ named-May script s (Entry.Pair from to c v) good may =
         (one-operation_at script s to.g to.case_no (CaseKind.Recv c) gets.stands, (chan, (tt, tt))),
       ),
     )
+named-May script s (Entry.Lock g m) good may = (tt, (one-stands_at script s g (Instr.Lock m) may.0.stands, (may.1, tt)))
+named-May script s (Entry.Unlock g m) good may = (tt, (one-stands_at script s g (Instr.Unlock m) may.stands, (names-Does script s g (Instr.Unlock m) good may, tt)))
+named-May script s (Entry.Add g w n) good may = (tt, (one-stands_at script s g (Instr.Add w n) may.stands, ((names-Does script s g (Instr.Add w n) good may).0, (tt, tt))))
+named-May script s (Entry.WgWait g w) good may = (tt, (one-stands_at script s g (Instr.Wait w) may.0.stands, (may.1, tt)))
 named-May script s e good may =
     assumption (
       one-Maker script s (change_of e).mover (change_of e).partner (change_of e).clock (maker script s e may),

@@ -1,5 +1,5 @@
 -- Each ticker that was made has a time between its ticks, and no other timer has one.
-use Rattle.std.proofs.Common.{◌≡◌, ℕ, zero, suc, ◌<◌, ◌&&◌, ◌==◌, cond, List, [], ◌∷◌, set, map, refl, sym, ap, subst, ◌∙◌, arith, Option, None, Some, IfSome, Bool, true, false, inl, inr}
+use Rattle.std.proofs.Common.{◌≡◌, ℕ, zero, suc, ◌&&◌, ◌==◌, cond, List, [], ◌∷◌, set, map, refl, sym, ap, subst, ◌∙◌, arith, Option, None, Some, IfSome, Bool, true, false, inl, inr}
 use Rattle.std.proofs.lemmas.Bool.{cases_eq}
 use Rattle.gt_model.specs.declared.script.Script.{Script}
 use Rattle.gt_model.specs.declared.script.Decl.{Decl}
@@ -10,7 +10,7 @@ use Rattle.gt_model.specs.declared.entry.Reason.{Reason}
 use Rattle.gt_model.specs.Script.{is_ticker}
 use Rattle.gt_model.specs.Tables.{at, change}
 use Rattle.gt_model.proofs.Items.{at-set_other, at-change_other}
-use Rattle.gt_rules.specs.State.{State, stands_at, timer_at, world_of}
+use Rattle.gt_rules.specs.State.{State, stands_at, world_of}
 use Rattle.gt_rules.specs.After.{first_state, duration_of, new_period, number_of, retimed, set_again, set_due, with_retimed}
 use Rattle.gt_rules.specs.Change.{change_of}
 use Rattle.gt_rules.specs.Legal.{May}
@@ -29,7 +29,7 @@ BringsPeriod script s m t (Setting.Made due) = IsPeriod (is_ticker script t) (ne
 BringsPeriod script s m t (Setting.SetAnew due) = IsPeriod (is_ticker script t) (new_period script s (number_of m) t)
 BringsPeriod script s m t (Setting.Ended next) = Unit {0}
 
-no-zero : (ticker : Bool) (d : ℕ) → when (ticker && d == 0) Reason.Ticker ≡ None → IsPeriod ticker (cond ticker d 0)
+pub no-zero : (ticker : Bool) (d : ℕ) → when (ticker && d == 0) Reason.Ticker ≡ None → IsPeriod ticker (cond ticker d 0)
 no-zero true zero h = cc
 no-zero true (suc d) h = omega arith
 no-zero false d h = refl

@@ -116,6 +116,8 @@ recv_not s timed t (Some What.Timer) later h = later
 recv_not s timed t (Some What.Ticker) later h = later
 recv_not s timed t (Some (What.AfterFunc func)) later h = refl
 recv_not s timed t (Some (What.Chan cap)) later h = h
+recv_not s timed t (Some What.Mutex) later h = h
+recv_not s timed t (Some What.Wg) later h = h
 recv_not s timed t (Some What.Function) later h = refl
 
 -- so it is with each operation of who stands there
@@ -151,6 +153,8 @@ ready_instr_not script s g (Instr.Select cases default_to) quiet on stays =
 ready_instr_not script s g (Instr.LoopTop depth count past) quiet on stays = refl
 ready_instr_not script s g (Instr.LoopEnd depth top) quiet on stays = refl
 ready_instr_not script s g (Instr.Jump to) quiet on stays = refl
+ready_instr_not script s g (Instr.Lock m) quiet on stays = ready_case_not script s g (Instr.Lock m) 0 (CaseKind.Recv m) quiet on refl stays
+ready_instr_not script s g (Instr.Wait w) quiet on stays = ready_case_not script s g (Instr.Wait w) 0 (CaseKind.Recv w) quiet on refl stays
 ready_instr_not script s g _ quiet on stays = cc
 
 -- who stands at an instruction is not ready: it is no misuse, it has no partner, and it waits for a time that is still to come

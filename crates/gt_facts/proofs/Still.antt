@@ -75,6 +75,8 @@ timer-ready s timed t (Some What.Timer) timer come = come
 timer-ready s timed t (Some What.Ticker) timer come = come
 timer-ready s timed t (Some (What.AfterFunc func)) timer come = cc
 timer-ready s timed t (Some (What.Chan cap)) timer come = cc
+timer-ready s timed t (Some What.Mutex) timer come = cc
+timer-ready s timed t (Some What.Wg) timer come = cc
 timer-ready s timed t (Some What.Function) timer come = cc
 timer-ready s timed t None timer come = cc
 
@@ -92,6 +94,14 @@ operation-ready script s timed counts me (suc n) (Instr.Send c v) kind e h = cc
 operation-ready script s timed counts me zero (Instr.Select cases default_to) kind e h = cc
 operation-ready script s timed counts me (suc k) (Instr.Select cases default_to) kind e h =
     or_right (is_some default_to) _ (operation-any (is_ready_case script s timed counts me) cases k kind e h)
+operation-ready script s timed counts me zero (Instr.Lock m) kind e h =
+    let is : CaseKind.Recv m ≡ kind = cc in
+    subst (λ (k : CaseKind). is_ready_case script s timed counts me k ≡ true) (sym is) h
+operation-ready script s timed counts me (suc n) (Instr.Lock m) kind e h = cc
+operation-ready script s timed counts me zero (Instr.Wait w) kind e h =
+    let is : CaseKind.Recv w ≡ kind = cc in
+    subst (λ (k : CaseKind). is_ready_case script s timed counts me k ≡ true) (sym is) h
+operation-ready script s timed counts me (suc n) (Instr.Wait w) kind e h = cc
 operation-ready script s timed counts me n _ kind e h = cc
 
 receives_not : (script : Script) (s : State) (p : Party) (t due : ℕ) → IsStill script s → Operates script s p (CaseKind.Recv t) → IsTrue (is_timer script t) → due_of s t ≡ Some due

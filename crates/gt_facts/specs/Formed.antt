@@ -1,5 +1,5 @@
 -- What the states keep that a run reaches.
-use Rattle.std.specs.Prelude.{ℕ, ◌+◌, ◌<◌, ◌≤◌, ◌≡◌, Bool, true, false, IfSome, IsTrue, List, [], ◌∷◌, length, slice_get}
+use Rattle.std.specs.Prelude.{ℕ, ◌*◌, ◌+◌, ◌<◌, ◌≤◌, ◌≡◌, Bool, true, false, IfSome, IsTrue, List, [], ◌∷◌, length, slice_get}
 use Rattle.std.specs.declared.option.Option.TheVariants.{None, Some}
 use Rattle.gt_model.specs.declared.script.Script.{Script}
 use Rattle.gt_model.specs.declared.script.Instr.{Instr}
@@ -8,7 +8,8 @@ use Rattle.gt_model.specs.declared.state.Goroutine.{Goroutine}
 use Rattle.gt_model.specs.declared.state.Timer.{Timer}
 use Rattle.gt_model.specs.declared.state.Mode.{Mode}
 use Rattle.gt_model.specs.Times.{greatest_time}
-use Rattle.gt_rules.specs.State.{State, Channel, clock, goroutine_at, timer_at, channel_at, until_of}
+use Rattle.gt_rules.specs.State.{State, Channel, clock, goroutine_at, timer_at, channel_at, counter_of, until_of}
+use Rattle.gt_model.specs.Good.{most_added}
 use Rattle.gt_model.specs.Script.{code_of, is_ticker, is_chan, capacity_of}
 use Rattle.gt_rules.specs.Places.{silent_at}
 use Rattle.gt_facts.specs.Quiet.{IsOneWorld}
@@ -55,4 +56,8 @@ pub record IsFormed (script : Script) (s : State) : Type 0 where
   pub periods : (t : ℕ) (r : Timer) → timer_at s t ≡ Some r → IsPeriod (is_ticker script t) r.period
   -- there is a channel or none for each declaration
   pub channels : length s.channels ≡ length script.decls
+  -- there is what is kept of mutexes and WaitGroups for each declaration
+  pub syncs : length s.syncs ≡ length script.decls
+  -- each entry has added a million to a counter at most
+  pub counters : (w : ℕ) → counter_of s w ≤ most_added * s.entries
   pub chans : (c : ℕ) (r : Channel) → channel_at s c ≡ Some r → IsFormedChannel script c r

@@ -36,6 +36,8 @@ what-func : (what : What) → kind_of_what what ≡ Some RecKind.Func → names_
 what-func What.Timer h = cc
 what-func What.Ticker h = cc
 what-func (What.AfterFunc f) h = refl
+what-func What.Mutex h = cc
+what-func What.Wg h = cc
 what-func What.Function h = cc
 what-func (What.Chan cap) h = cc
 
@@ -51,6 +53,8 @@ what-no_sleep : (what : What) → kind_of_what what ≡ Some RecKind.Sleep → �
 what-no_sleep What.Timer h = cc
 what-no_sleep What.Ticker h = cc
 what-no_sleep (What.AfterFunc f) h = cc
+what-no_sleep What.Mutex h = cc
+what-no_sleep What.Wg h = cc
 what-no_sleep What.Function h = cc
 what-no_sleep (What.Chan cap) h = cc
 
@@ -71,6 +75,8 @@ what-no_deadline : (what : What) → kind_of_what what ≡ Some RecKind.Deadline
 what-no_deadline What.Timer h = cc
 what-no_deadline What.Ticker h = cc
 what-no_deadline (What.AfterFunc f) h = cc
+what-no_deadline What.Mutex h = cc
+what-no_deadline What.Wg h = cc
 what-no_deadline What.Function h = cc
 what-no_deadline (What.Chan cap) h = cc
 

@@ -13,10 +13,10 @@ use Rattle.gt_model.specs.declared.script.What.{What}
 use Rattle.gt_model.specs.declared.script.Instr.{Instr}
 use Rattle.gt_model.specs.declared.script.Case.{Case}
 use Rattle.gt_model.specs.declared.script.CaseKind.{CaseKind}
-use Rattle.gt_model.specs.Script.{what_at, names_timer, names_func, names_chan, is_chan as model_is_chan, is_timer as model_is_timer}
+use Rattle.gt_model.specs.Script.{what_at, names_timer, names_func, names_chan, names_mutex, names_wg, is_chan as model_is_chan, is_timer as model_is_timer, is_mutex as model_is_mutex, is_wg as model_is_wg}
 use Rattle.gt_model.specs.Good.{is_setting as model_is_setting, gives_values as model_gives_values, awaits_timer as model_awaits, OperatesRightly, IsGoodChoice, is_finish, is_line, NamesRightly, DeclaresRightly, IsGoodInstr, IsGoodCode, IsGood, function_name}
 use Rattle.gt_table.specs.declared.form.Kind.{Kind}
-use Rattle.gt_table.specs.Forms.{is_kind_function, is_kind_setting, is_kind_timer, is_kind_chan, is_kind_source}
+use Rattle.gt_table.specs.Forms.{is_kind_function, is_kind_setting, is_kind_timer, is_kind_chan, is_kind_source, is_kind_mutex, is_kind_wg}
 use Rattle.gt_names.specs.declared.names.Declared.{Declared}
 use Rattle.gt_names.specs.Names.{Names, find}
 use Rattle.gt_grammar.specs.declared.progress.OpenBlock.{OpenBlock}
@@ -78,6 +78,12 @@ names-chan names script known c p = names-object names script known is_kind_chan
 names-source : (names : Names) (script : Script) → AllKnown names script → (o : ℕ) → IsPlace names is_kind_source o → model_gives_values script o ≡ true
 names-source names script known o p = names-object names script known is_kind_source (λ w. names_timer w || names_chan w) (λ what. (is_of_kind what).source) o p
 
+names-mutex : (names : Names) (script : Script) → AllKnown names script → (m : ℕ) → IsPlace names is_kind_mutex m → model_is_mutex script m ≡ true
+names-mutex names script known m p = names-object names script known is_kind_mutex names_mutex (λ what. (is_of_kind what).mutex) m p
+
+names-wg : (names : Names) (script : Script) → AllKnown names script → (w : ℕ) → IsPlace names is_kind_wg w → model_is_wg script w ≡ true
+names-wg names script known w p = names-object names script known is_kind_wg names_wg (λ what. (is_of_kind what).wg) w p
+
 -- what stands last is of each instruction that sets a timer
 names_rightly-by : (names : Names) (script : Script) → AllKnown names script → (i : Instr) → Refers names i → NamesRightly script i
 names_rightly-by names script known (Instr.Sleep d) r = r
@@ -87,6 +93,10 @@ names_rightly-by names script known (Instr.Recv o) r = names-source names script
 names_rightly-by names script known (Instr.Make c) r = names-chan names script known c r
 names_rightly-by names script known (Instr.Send c v) r = names-chan names script known c r
 names_rightly-by names script known (Instr.Close c) r = names-chan names script known c r
+names_rightly-by names script known (Instr.Lock m) r = names-mutex names script known m r
+names_rightly-by names script known (Instr.Unlock m) r = names-mutex names script known m r
+names_rightly-by names script known (Instr.Add w n) r = (names-wg names script known w r.0, r.1)
+names_rightly-by names script known (Instr.Wait w) r = names-wg names script known w r
 names_rightly-by names script known (Instr.LoopTop depth count past) r = absurd r
 names_rightly-by names script known (Instr.LoopEnd depth top) r = absurd r
 names_rightly-by names script known (Instr.Select cases default_to) r = absurd r

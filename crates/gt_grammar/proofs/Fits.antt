@@ -1,10 +1,10 @@
 -- What a line does fits where it stands, and refers to what is declared.
-use Rattle.std.proofs.Common.{◌≡◌, ℕ, ◌≤◌, Bool, true, false, cond, List, Option, Some, None, IfSome, Result, Ok, Err, refl, subst, arith, codes, leb, eqb, length}
+use Rattle.std.proofs.Common.{◌≡◌, ℕ, suc, ◌+◌, ◌-◌, ◌≤◌, pos, negsuc, ◌-ℤ◌, Bool, true, false, cond, List, [], ◌∷◌, Option, Some, None, IfSome, Result, Ok, Err, refl, subst, arith, codes, leb, ltb, eqb, length}
 use Rattle.std.specs.Option.{option_map, option_and_then}
 use Rattle.std.specs.Result.{result_ok}
 use Rattle.std.specs.Str.{bytes_eq, is_utf8}
 use Rattle.std.proofs.lemmas.Bool.{leb-true, cond_both}
-use Rattle.gt_model.specs.Good.{most_capacity}
+use Rattle.gt_model.specs.Good.{most_capacity, most_added, IsAddable}
 use Rattle.gt_model.specs.Times.{greatest_time}
 use Rattle.gt_model.specs.declared.script.CaseKind.{CaseKind}
 use Rattle.gt_lines.specs.Number.{number_of}
@@ -15,12 +15,12 @@ use Rattle.gt_table.specs.declared.form.Kind.{Kind}
 use Rattle.gt_table.specs.declared.form.Role.{Role}
 use Rattle.gt_table.specs.declared.form.Step.{Step}
 use Rattle.gt_table.specs.declared.table.Keyword.{Keyword}
-use Rattle.gt_table.specs.Forms.{is_kind_function, is_kind_setting, is_kind_chan, is_kind_source}
+use Rattle.gt_table.specs.Forms.{is_kind_function, is_kind_setting, is_kind_chan, is_kind_source, is_kind_mutex, is_kind_wg}
 use Rattle.gt_table.specs.Table.{form_of, step_of}
 use Rattle.gt_names.specs.declared.names.Declared.{Declared}
 use Rattle.gt_names.specs.Names.{Names, is_free_name}
 use Rattle.gt_grammar.specs.Duration.{duration_of}
-use Rattle.gt_grammar.specs.Statements.{function_place, source_place, number_to, value_of, is_ticking, awaits_timer, command}
+use Rattle.gt_grammar.specs.Statements.{function_place, source_place, number_to, added_of, value_of, is_ticking, awaits_timer, command}
 use Rattle.gt_grammar.proofs.Rightly.{kind_in, Ref, IsPlace, Refers, RefersCase, Starts}
 
 -- ---- a duration is at most the greatest time
@@ -76,6 +76,12 @@ channel-at names q v h = place-by names is_kind_chan q v (names q) refl h
 source-at : (names : Names) (q : List ℕ) (v : ℕ) → value_of names Arg.Source q ≡ Some v → IsPlace names is_kind_source v
 source-at names q v h = place-by names is_kind_source q v (names q) refl h
 
+mutex-at : (names : Names) (q : List ℕ) (v : ℕ) → value_of names Arg.Mutex q ≡ Some v → IsPlace names is_kind_mutex v
+mutex-at names q v h = place-by names is_kind_mutex q v (names q) refl h
+
+wg-at : (names : Names) (q : List ℕ) (v : ℕ) → value_of names Arg.WaitGroup q ≡ Some v → IsPlace names is_kind_wg v
+wg-at names q v h = place-by names is_kind_wg q v (names q) refl h
+
 function-by : (names : Names) (q : List ℕ) (v : ℕ) (o : Option Declared) → names q ≡ o → option_and_then function_place o ≡ Some v → (r : Ref names) × (is_kind_function r.declared.kind ≡ true) × (v ≡ r.declared.func)
 function-by names q v None e h = cc
 function-by names q v (Some d) e h = let both = if-Some (is_kind_function d.kind) d.func v h in (ref names q d e, both.0, both.1)
@@ -87,6 +93,37 @@ number-by most (Some n) v h = let both = if-Some (leb n most) n v h in omega (ar
 
 number-most : (most : ℕ) (word : List ℕ) (v : ℕ) → number_to most word ≡ Some v → v ≤ most
 number-most most word v h = number-by most (number_of word) v h
+
+-- and what is added is at most the greatest of it, and not below the least
+plus-by : (o : Option ℕ) (v : ℕ) → IfSome o (λ n. n ≤ most_added) → option_map (λ n. most_added + n) o ≡ Some v → v ≤ most_added + most_added
+plus-by None v few h = cc
+plus-by (Some n) v few h = let e : v ≡ most_added + n = cc in omega (arith, e, few)
+
+minus-by : (o : Option ℕ) (v : ℕ) → option_map (λ n. most_added - n) o ≡ Some v → v ≤ most_added + most_added
+minus-by None v h = cc
+minus-by (Some n) v h = let e : v ≡ most_added - n = cc in omega (arith, e)
+
+few-to : (most : ℕ) (word : List ℕ) → IfSome (number_to most word) (λ n. n ≤ most)
+few-to most word = by (number_to most word) refl
+  where
+    by : (o : Option ℕ) → number_to most word ≡ o → IfSome o (λ n. n ≤ most)
+    by None e = tt
+    by (Some n) e = number-most most word n e
+
+added-most : (word : List ℕ) (v : ℕ) → added_of word ≡ Some v → v ≤ most_added + most_added
+added-most [] v h = cc
+added-most (b ∷ bs) v h = by (eqb b 45) h
+  where
+    by : (less : Bool) → cond less (option_map (λ n. most_added - n) (number_to most_added bs)) (option_map (λ n. most_added + n) (number_to most_added (b ∷ bs))) ≡ Some v → v ≤ most_added + most_added
+    by true k = minus-by (number_to most_added bs) v k
+    by false k = plus-by (number_to most_added (b ∷ bs)) v (few-to most_added (b ∷ bs)) k
+
+addable : (v : ℕ) → v ≤ most_added + most_added → IsAddable (pos v -ℤ pos most_added)
+addable v h = by (ltb v most_added)
+  where
+    by : (less : Bool) → IsAddable (cond less (negsuc (most_added - suc v)) (pos (v - most_added)))
+    by true = omega arith
+    by false = omega (arith, h)
 
 -- a new name is spelled rightly, and declared
 pub record IsFree (names : Names) (q : List ℕ) (v : ℕ) : Type 0 where
@@ -129,6 +166,8 @@ fits names Keyword.Timer w u a b first second = (refl, refl, tt)
 fits names Keyword.Ticker w u a b first second = (refl, refl, tt)
 fits names Keyword.AfterFunc w u a b first second = (refl, refl, function-by names u b (names u) refl second)
 fits names Keyword.Chan w u a b first second = (refl, refl, number-most most_capacity u b second)
+fits names Keyword.Mutex w u a b first second = (refl, refl, tt)
+fits names Keyword.Wg w u a b first second = (refl, refl, tt)
 fits names Keyword.Func w u a b first second = (refl, refl, refl)
 fits names Keyword.Loop w u a b first second = (refl, refl, number-most 1000000 w a first)
 fits names Keyword.CaseRecv w u a b first second = ticks-by names w a (names w) refl first
@@ -140,6 +179,11 @@ fits names Keyword.Recv w u a b first second = source-at names w a first
 fits names Keyword.Make w u a b first second = channel-at names w a first
 fits names Keyword.Send w u a b first second = channel-at names w a first
 fits names Keyword.Close w u a b first second = channel-at names w a first
+fits names Keyword.Lock w u a b first second = mutex-at names w a first
+fits names Keyword.Unlock w u a b first second = mutex-at names w a first
+fits names Keyword.Add w u a b first second = (wg-at names w a first, addable b (added-most u b second))
+fits names Keyword.Done w u a b first second = (wg-at names w a first, omega arith)
+fits names Keyword.Wait w u a b first second = wg-at names w a first
 fits names Keyword.New w u a b first second = (setting-at names w a first, duration-value u b second)
 fits names Keyword.Reset w u a b first second = (setting-at names w a first, duration-value u b second)
 fits names _ w u a b first second = tt

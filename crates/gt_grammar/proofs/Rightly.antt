@@ -3,10 +3,10 @@ use Rattle.std.proofs.Common.{◌≡◌, ℕ, ◌+◌, ◌<◌, ◌≤◌, Bool,
 use Rattle.gt_model.specs.declared.script.What.{What}
 use Rattle.gt_model.specs.declared.script.Instr.{Instr}
 use Rattle.gt_model.specs.declared.script.CaseKind.{CaseKind}
-use Rattle.gt_model.specs.Good.{most_capacity}
+use Rattle.gt_model.specs.Good.{most_capacity, IsAddable}
 use Rattle.gt_model.specs.Times.{greatest_time}
 use Rattle.gt_table.specs.declared.form.Kind.{Kind}
-use Rattle.gt_table.specs.Forms.{is_kind_function, is_kind_setting, is_kind_timer, is_kind_chan, is_kind_source}
+use Rattle.gt_table.specs.Forms.{is_kind_function, is_kind_setting, is_kind_timer, is_kind_chan, is_kind_source, is_kind_mutex, is_kind_wg}
 use Rattle.gt_names.specs.declared.names.Declared.{Declared}
 use Rattle.gt_names.specs.Names.{Names, Naming, is_free_name, Declaration, declaration}
 use Rattle.gt_grammar.specs.declared.progress.OpenBlock.{OpenBlock}
@@ -19,6 +19,8 @@ kind_in What.Timer = Kind.Timer
 kind_in What.Ticker = Kind.Ticker
 kind_in (What.AfterFunc func) = Kind.AfterFunc
 kind_in (What.Chan cap) = Kind.Chan
+kind_in What.Mutex = Kind.Mutex
+kind_in What.Wg = Kind.Wg
 kind_in What.Function = Kind.Function
 
 -- the place of a declared name, and whether it is among the first ones
@@ -67,6 +69,10 @@ Refers names (Instr.Recv o) = IsPlace names is_kind_source o
 Refers names (Instr.Make c) = IsPlace names is_kind_chan c
 Refers names (Instr.Send c v) = IsPlace names is_kind_chan c
 Refers names (Instr.Close c) = IsPlace names is_kind_chan c
+Refers names (Instr.Lock m) = IsPlace names is_kind_mutex m
+Refers names (Instr.Unlock m) = IsPlace names is_kind_mutex m
+Refers names (Instr.Add w n) = IsPlace names is_kind_wg w × IsAddable n
+Refers names (Instr.Wait w) = IsPlace names is_kind_wg w
 Refers names (Instr.LoopTop depth count past) = ⊥
 Refers names (Instr.LoopEnd depth top) = ⊥
 Refers names (Instr.Select cases default_to) = ⊥
@@ -85,6 +91,8 @@ Starts names What.Timer = Unit {0}
 Starts names What.Ticker = Unit {0}
 Starts names (What.AfterFunc f) = (r : Ref names) × (is_kind_function r.declared.kind ≡ true) × (f ≡ r.declared.func)
 Starts names (What.Chan cap) = cap ≤ most_capacity
+Starts names What.Mutex = Unit {0}
+Starts names What.Wg = Unit {0}
 Starts names What.Function = ⊥
 
 -- a name that is spelled rightly and declared by none of the first n declarations

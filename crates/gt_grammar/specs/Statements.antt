@@ -1,16 +1,16 @@
 -- The script language: what its lines say.
-use Rattle.std.specs.Prelude.{ℕ, nat_le, Bool, true, false, ◌&&◌, if◌then◌else◌, List, [], ◌∷◌, codes}
+use Rattle.std.specs.Prelude.{ℕ, ◌+◌, ◌-◌, ◌==◌, nat_le, Bool, true, false, ◌&&◌, if◌then◌else◌, List, [], ◌∷◌, codes}
 use Rattle.std.specs.Option.{option_map, option_and_then}
 use Rattle.std.specs.Str.{bytes_eq}
 use Rattle.std.specs.declared.option.Option.{Option}
 use Rattle.std.specs.declared.option.Option.TheVariants.{None, Some}
-use Rattle.gt_model.specs.Good.{most_passes, most_capacity}
+use Rattle.gt_model.specs.Good.{most_passes, most_capacity, most_added}
 use Rattle.gt_lines.specs.Words.{Words}
 use Rattle.gt_lines.specs.Number.{number_of}
 use Rattle.gt_table.specs.declared.form.Arg.{Arg}
 use Rattle.gt_table.specs.declared.form.Step.{Step}
 use Rattle.gt_table.specs.declared.table.Keyword.{Keyword}
-use Rattle.gt_table.specs.Forms.{is_wanted, is_kind_function, is_kind_setting, is_kind_timer, is_kind_chan, is_kind_source}
+use Rattle.gt_table.specs.Forms.{is_wanted, is_kind_function, is_kind_setting, is_kind_timer, is_kind_chan, is_kind_source, is_kind_mutex, is_kind_wg}
 use Rattle.gt_table.specs.Table.{keyword_of, case_keyword_of, form_of, step_of}
 use Rattle.gt_names.specs.declared.names.Declared.{Declared}
 use Rattle.gt_names.specs.Names.{Names, is_free_name}
@@ -81,6 +81,12 @@ channel_place d = if is_kind_chan d.kind then Some d.place else None
 abbrev pub source_place : Declared → Option ℕ
 source_place d = if is_kind_source d.kind then Some d.place else None
 
+abbrev pub mutex_place : Declared → Option ℕ
+mutex_place d = if is_kind_mutex d.kind then Some d.place else None
+
+abbrev pub wg_place : Declared → Option ℕ
+wg_place d = if is_kind_wg d.kind then Some d.place else None
+
 abbrev pub function_place : Declared → Option ℕ
 function_place d = if is_kind_function d.kind then Some d.func else None
 
@@ -92,18 +98,28 @@ number_to most word = elim (number_of word) [ None ↦ None | Some n ↦ if nat_
 abbrev pub passes_of : List ℕ → Option ℕ
 passes_of word = number_to most_passes word
 
--- The value of a word: for a name the place at which it is declared first, for an amount the amount. None where the word is wrong
+-- what a word adds to a counter: a number, with `-` in front where it is taken off. It counts from the least that is
+abbrev pub added_of : List ℕ → Option ℕ
+added_of [] = None
+added_of (b ∷ bs) =
+    if b == 45 then option_map (λ n. most_added - n) (number_to most_added bs) else option_map (λ n. most_added + n) (number_to most_added (b ∷ bs))
+
+-- The value of a word: for a name the place at which it is declared first, for an amount the amount, and for what is added how far it lies above the least
+-- that is. None where the word is wrong
 abbrev pub value_of : Names → Arg → List ℕ → Option ℕ
 value_of names Arg.Nothing word = Some 0
 value_of names Arg.NewName word = if is_free_name word then option_map (λ (d : Declared). d.place) (names word) else None
 value_of names Arg.Setting word = option_and_then setting_place (names word)
 value_of names Arg.Channel word = option_and_then channel_place (names word)
 value_of names Arg.Source word = option_and_then source_place (names word)
+value_of names Arg.Mutex word = option_and_then mutex_place (names word)
+value_of names Arg.WaitGroup word = option_and_then wg_place (names word)
 value_of names Arg.Function word = option_and_then function_place (names word)
 value_of names Arg.Duration word = duration_of word
 value_of names Arg.Number word = number_of word
 value_of names Arg.Passes word = passes_of word
 value_of names Arg.Capacity word = number_to most_capacity word
+value_of names Arg.Added word = added_of word
 
 -- whether a name is declared as a channel timer
 abbrev pub is_ticking : Option Declared → Bool

@@ -17,7 +17,7 @@ use Rattle.gt_model.specs.Good.{IsGood}
 use Rattle.gt_model.specs.Script.{instr_at, what_at, is_func, is_chan, capacity_of}
 use Rattle.gt_model.specs.Tables.{flatten}
 use Rattle.gt_rules.specs.State.{State, clock, goroutine_at, timer_at, due_of, stands, channel_at, item_count, is_closed, is_made}
-use Rattle.gt_rules.specs.Panics.{fault, fault_at, fault_case, case_fault, choice_fault, faulty_case, open_fault, or_else, when, zero_ticker}
+use Rattle.gt_rules.specs.Panics.{fault, fault_at, fault_case, falls_below, case_fault, choice_fault, faulty_case, open_fault, or_else, when, zero_ticker}
 use Rattle.gt_rules.specs.Ready.{is_due, is_ready, is_ready_in, is_ready_at, is_ready_instr, is_ready_case, is_ready_alone, is_ready_recv, is_partner, partner_waits, has_partner, has_come, everyone}
 use Rattle.gt_rules.specs.Operations.{receives_from, sends_to, offers, polls}
 use Rattle.gt_rules.specs.Counted.{sleep_of, awaits, is_awaited, counted_timer, counted}
@@ -28,6 +28,7 @@ use Rattle.gt_laws.specs.Told.{world_in, place_of, wait_of, ToldGoroutine, Every
 use Rattle.gt_laws.specs.GoesOn.{case_misuse, choice_misuse, misused_from, misuse_told, misused_case, meets_at, is_partner_told, partner_told, gives_told, alone_told, meets_told, can_operate, can_be_done, goes_on_at, goes_on_in, goes_on_told, IsStillTold, waits_at, waited_told, sleep_in, due_counted, counted_told, IsStuckTold}
 use Rattle.gt_laws.proofs.Shown.{clock-told, due-told, made-told}
 use Rattle.gt_laws.proofs.Channels.{opened-told, closed-told, count-told}
+use Rattle.gt_laws.proofs.Syncs.{held-told, counter-told}
 use Rattle.gt_laws.proofs.Everyone.{shown, place_in, wait_in, timer_in, until-shown, stands-shown, everyone-told, goroutine-told, owner-told}
 
 abbrev pub reached : Script → List Entry → State
@@ -88,6 +89,8 @@ misuse-told script limits h (Instr.Recv o) good legal = ap (λ b. when (not b) R
 misuse-told script limits h (Instr.Make c) good legal = ap (λ b. when b Reason.Twice) (opened-told script limits c h good legal)
 misuse-told script limits h (Instr.Send c v) good legal = unopened-told script limits h c good legal
 misuse-told script limits h (Instr.Close c) good legal = unopened-told script limits h c good legal
+misuse-told script limits h (Instr.Unlock m) good legal = ap (λ b. when (not b) Reason.Unlocked) (held-told script limits m h good legal)
+misuse-told script limits h (Instr.Add w n) good legal = ap (λ counter. when (falls_below counter n) Reason.Negative) (counter-told script limits w h good legal)
 misuse-told script limits h (Instr.Select cases default_to) good legal = choice-told script limits h cases good legal
 misuse-told script limits h _ good legal = refl
 
@@ -185,6 +188,8 @@ gives-told script limits h w o (Some (What.AfterFunc func)) good legal = refl
 gives-told script limits h w o (Some (What.Chan cap)) good legal =
     ap (λ b. b || is_closed (reached script h) o) (some-told script limits h o good legal)
     ∙ ap (λ b. nat_lt (taken_told o h) (length (sent_told o h)) || b) (closed-told script limits o h good legal)
+gives-told script limits h w o (Some What.Mutex) good legal = ap not (held-told script limits o h good legal)
+gives-told script limits h w o (Some What.Wg) good legal = ap (λ n. n == 0) (counter-told script limits o h good legal)
 gives-told script limits h w o (Some What.Function) good legal = refl
 
 pub alone-told : (script : Script) (limits : Limits) (h : List Entry) (w : ℕ) (kind : CaseKind) → IsGood script → AllLegal script limits (first_state script) h
@@ -218,6 +223,8 @@ done-told script limits h g w (Instr.Select cases default_to) good legal =
     ap (λ b. is_some default_to || b)
     (any-same (λ (c : Case). is_ready_case script (reached script h) (has_come (reached script h) w) everyone g c.kind)
     (λ (c : Case). can_operate script h g (clock_told w h) c.kind) cases (λ c. operate-told script limits h g w c.kind good legal))
+done-told script limits h g w (Instr.Lock m) good legal = operate-told script limits h g w (CaseKind.Recv m) good legal
+done-told script limits h g w (Instr.Wait o) good legal = operate-told script limits h g w (CaseKind.Recv o) good legal
 done-told script limits h g w (Instr.LoopTop depth count past) good legal = refl
 done-told script limits h g w (Instr.LoopEnd depth top) good legal = refl
 done-told script limits h g w (Instr.Jump to) good legal = refl

@@ -1,6 +1,7 @@
 pub mod Numbers
 pub mod Shown
 pub mod Channels
+pub mod Syncs
 pub mod Everyone
 pub mod GoesOn
 pub mod Rows

@@ -1,5 +1,5 @@
 -- At each entry but a finish the laws ask what the machine's rules ask, no more and no less: of what is shown of the laws here alone each kind of entry has a clause.
-use Rattle.std.proofs.Common.{◌≡◌, ℕ, zero, suc, ◌+◌, ◌<◌, ◌≤◌, List, [], ◌∷◌, ◌&&◌, length, slice_get, refl, sym, ap, subst, ◌∙◌, arith, cond, Option, None, Some, Bool, true, false, not, is_some, IsSome, IsSomeAnd, IsTrue}
+use Rattle.std.proofs.Common.{◌≡◌, ℕ, ℤ, zero, suc, ◌+◌, ◌<◌, ◌≤◌, List, [], ◌∷◌, ◌&&◌, length, slice_get, refl, sym, ap, subst, ◌∙◌, arith, cond, Option, None, Some, Bool, true, false, not, is_some, IsSome, IsSomeAnd, IsTrue}
 use Rattle.std.proofs.lemmas.Bool.{leb-true, le-leb, or_parts, or_from}
 use Rattle.std.specs.List.{All, list_any}
 use Rattle.std.proofs.lemmas.List.{drop_all}
@@ -16,7 +16,7 @@ use Rattle.gt_model.specs.Good.{IsGood}
 use Rattle.gt_model.specs.Script.{is_ticker, capacity_of}
 use Rattle.gt_rules.specs.State.{State, Channel, clock, clock_of, world_of, stands_at, sleeps_until, timer_at, due_of, period_at, next_number, channel_at, items_of, item_count, is_closed, is_open}
 use Rattle.gt_rules.specs.Operations.{polls}
-use Rattle.gt_rules.specs.Panics.{panic_at, when, or_else}
+use Rattle.gt_rules.specs.Panics.{panic_at, when, or_else, falls_below}
 use Rattle.gt_rules.specs.Ready.{is_due, is_ready_alone}
 use Rattle.gt_rules.specs.Ready as ready
 use Rattle.gt_rules.specs.declared.change.Setting.{Setting}
@@ -24,12 +24,13 @@ use Rattle.gt_rules.specs.declared.change.Trade.{Trade}
 use Rattle.gt_rules.specs.After.{first_state, timer_world}
 use Rattle.gt_rules.specs.Legal.{May, Does, Defaults, Operates, is_polling, due_at, sleep_end, was_set, LeavesBy}
 use Rattle.gt_rules.specs.History.{AllLegal}
-use Rattle.gt_facts.proofs.Makers.{Sets, sets, was_made, Trades, trades-May, IsOpened, is_open-IsOpened}
-use Rattle.gt_laws.specs.Told.{clock_told, due_told, made_told, opened_told, closed_told, sent_told, taken_told, now_told, owner_told, period_told, started_told, stands_told, operation_told, polls_in, polls_told, until_told}
+use Rattle.gt_facts.proofs.Makers.{Sets, sets, was_made, none-when, Trades, trades-May, IsOpened, is_open-IsOpened}
+use Rattle.gt_laws.specs.Told.{clock_told, due_told, made_told, opened_told, closed_told, sent_told, taken_told, held_told, counter_told, now_told, owner_told, period_told, started_told, stands_told, operation_told, polls_in, polls_told, until_told}
 use Rattle.gt_laws.specs.GoesOn.{alone_told, misuse_in, misuse_told}
-use Rattle.gt_laws.specs.Laws.{InOrder, InTime, IsFresh, PassesOn, UsesRightly, ChoosesRightly, IsNoMisuse, answer_told, gives_some}
+use Rattle.gt_laws.specs.Laws.{InOrder, InTime, IsFresh, PassesOn, UsesRightly, ChoosesRightly, IsAlone, AddsUp, IsNoMisuse, answer_told, gives_some}
 use Rattle.gt_laws.proofs.Shown.{clock-told, due-told, made-told, started-told}
 use Rattle.gt_laws.proofs.Channels.{closed_in, opened-told, closed-told, kept-told, count-told, drop-first}
+use Rattle.gt_laws.proofs.Syncs.{held-told, counter-told}
 use Rattle.gt_laws.proofs.Everyone.{now-told, owner-told, period-told, stands-told, until-told, world-told}
 use Rattle.gt_laws.proofs.GoesOn.{reached, alone-told}
 use Rattle.gt_laws.proofs.Panics.{panic-told, operation-told, calm-in, in-calm, Misuses, may-told, told-may}
@@ -47,6 +48,8 @@ pub record Obeys (script : Script) (front : List Entry) (e : Entry) : Type 0 whe
   pub uses : UsesRightly script front e
   pub passes : PassesOn script front e
   pub chooses : ChoosesRightly script front e
+  pub alone : IsAlone front e
+  pub adds_up : AddsUp front e
 
 -- the rule of an entry: that of a finish is no row of May
 abbrev pub Rule : Script → State → Entry → Type 0
@@ -205,6 +208,10 @@ not-true : (b : Bool) → not b ≡ true → b ≡ false
 not-true true h = cc
 not-true false h = refl
 
+not-false : (b : Bool) → not b ≡ false → b ≡ true
+not-false true h = refl
+not-false false h = cc
+
 -- a choice with a default
 record HasDefault (o : Option Instr) : Type 0 where
   cases : List Case
@@ -245,6 +252,8 @@ defaults-told {script} {limits} {front} b g d =
       passes = tt;
       chooses = ap (λ (o : Option Instr). gives_some script front (now_told script g front) o) on
           ∙ none-any (λ (c : Case). alone_told script front (now_told script g front) c.kind) d.cases (λ k x h. sym (alone b g _) ∙ d.none k x h);
+      alone = tt;
+      adds_up = tt;
     }
 
 told-defaults : {script : Script} {limits : Limits} {front : List Entry} (b : Behind script limits front) (g : ℕ) → Obeys script front (Entry.Default g) → Defaults script (reached script front) g
@@ -258,6 +267,30 @@ told-defaults {script} {limits} {front} b g o =
       does = record { stands = stands-told script limits g front b.good b.before ∙ has.is; calm = told-calm b g o.uses };
       none = λ k x h. alone b g _ ∙ any-none (λ (c : Case). alone_told script front (now_told script g front) c.kind) has.cases none k x h;
     }
+
+-- ---- who unlocks a mutex or adds to a counter, without a misuse
+
+held-there : {script : Script} {limits : Limits} {front : List Entry} (b : Behind script limits front) (g m : ℕ) → Does script (reached script front) g (Instr.Unlock m)
+    → held_told m front ≡ true
+held-there {script} {limits} {front} b g m may =
+    not-false (held_told m front) (none-when (not (held_told m front)) Reason.Unlocked (no-misuse b g (Instr.Unlock m) (told b g (Instr.Unlock m) may.stands) (calm-told b g may.calm)))
+
+unlock-told : {script : Script} {limits : Limits} {front : List Entry} (b : Behind script limits front) (g m : ℕ) → Does script (reached script front) g (Instr.Unlock m)
+    → Obeys script front (Entry.Unlock g m)
+unlock-told {script} {limits} {front} b g m may =
+    let held : held_told m front ≡ true = held-there b g m may in
+    record { order = told b g (Instr.Unlock m) may.stands; time = tt; fresh = tt; uses = held; passes = tt; chooses = tt; alone = held; adds_up = tt }
+
+above-there : {script : Script} {limits : Limits} {front : List Entry} (b : Behind script limits front) (g w : ℕ) (n : ℤ) → Does script (reached script front) g (Instr.Add w n)
+    → falls_below (counter_told w front) n ≡ false
+above-there {script} {limits} {front} b g w n may =
+    none-when (falls_below (counter_told w front) n) Reason.Negative (no-misuse b g (Instr.Add w n) (told b g (Instr.Add w n) may.stands) (calm-told b g may.calm))
+
+add-told : {script : Script} {limits : Limits} {front : List Entry} (b : Behind script limits front) (g w : ℕ) (n : ℤ) → Does script (reached script front) g (Instr.Add w n)
+    → Obeys script front (Entry.Add g w n)
+add-told {script} {limits} {front} b g w n may =
+    let above : falls_below (counter_told w front) n ≡ false = above-there b g w n may in
+    record { order = told b g (Instr.Add w n) may.stands; time = tt; fresh = tt; uses = above; passes = tt; chooses = tt; alone = tt; adds_up = above }
 
 -- ---- whose time has come
 
@@ -336,9 +369,9 @@ Row script front e = (Rule script (reached script front) e → Obeys script fron
 pub row : {script : Script} {limits : Limits} {front : List Entry} (b : Behind script limits front) (e : Entry) → Row script front e
 row b (Entry.Say g n) = (λ may. assumption (told b g (Instr.Say n) may.stands), λ o. does b g (Instr.Say n) o.order refl)
 row b (Entry.Now g at) =
-    (λ may. record { order = told b g Instr.Now may.0.stands; time = may.1 ∙ now b g; fresh = tt; uses = tt; passes = tt; chooses = tt }, λ o. (does b g Instr.Now o.order refl, o.time ∙ sym (now b g)))
+    (λ may. record { order = told b g Instr.Now may.0.stands; time = may.1 ∙ now b g; fresh = tt; uses = tt; passes = tt; chooses = tt; alone = tt; adds_up = tt }, λ o. (does b g Instr.Now o.order refl, o.time ∙ sym (now b g)))
 row b (Entry.Go g child f) = (
-  λ may. record { order = (told b g (Instr.Go f) may.0.stands, may.1 ∙ next b); time = tt; fresh = tt; uses = tt; passes = tt; chooses = tt },
+  λ may. record { order = (told b g (Instr.Go f) may.0.stands, may.1 ∙ next b); time = tt; fresh = tt; uses = tt; passes = tt; chooses = tt; alone = tt; adds_up = tt },
   λ o. (does b g (Instr.Go f) o.order.0 refl, o.order.1 ∙ sym (next b)),
 )
 row b (Entry.End g) = (λ may. assumption (told b g Instr.Finish may.stands), λ o. does b g Instr.Finish o.order refl)
@@ -350,11 +383,13 @@ row b (Entry.Sleep g until) = (
     uses = tt;
     passes = tt;
     chooses = tt;
+    alone = tt;
+    adds_up = tt;
   },
   λ o. (o.order.0, does b g (Instr.Sleep o.order.0) o.order.1 refl, o.order.2 ∙ ap (λ time. sleep_end time o.order.0) (sym (now b g))),
 )
 row {script} {limits} {front} b (Entry.Wake g) = (
-  λ may. record { order = some-and (until_told script g front) _ (wakes-told b g may); time = wakes-told b g may; fresh = tt; uses = tt; passes = tt; chooses = tt },
+  λ may. record { order = some-and (until_told script g front) _ (wakes-told b g may); time = wakes-told b g may; fresh = tt; uses = tt; passes = tt; chooses = tt; alone = tt; adds_up = tt },
   λ o. told-wakes b g o.time,
 )
 row {script} {limits} {front} b (Entry.New g t due) = (
@@ -365,6 +400,8 @@ row {script} {limits} {front} b (Entry.New g t due) = (
     uses = (made b t (Setting.Made due) (sets script (reached script front) (Entry.New g t due) b.good may), calm-told b g may.1.calm);
     passes = tt;
     chooses = tt;
+    alone = tt;
+    adds_up = tt;
   },
   λ o. (o.order.0, does b g (Instr.New t o.order.0) o.order.1 (no-misuse b g _ o.order.1 o.uses.1), o.order.2 ∙ ap (λ time. due_at time o.order.0) (sym (now b g))),
 )
@@ -376,6 +413,8 @@ row {script} {limits} {front} b (Entry.Stop g t answer) = (
     uses = made b t (Setting.Ended None) (sets script (reached script front) (Entry.Stop g t answer) b.good may);
     passes = tt;
     chooses = tt;
+    alone = tt;
+    adds_up = tt;
   },
   λ o. (does b g (Instr.Stop t) o.order (used-made front t o.uses), o.fresh ∙ sym (was b t)),
 )
@@ -387,6 +426,8 @@ row {script} {limits} {front} b (Entry.Reset g t answer due) = (
     uses = (made b t (Setting.SetAnew due) (sets script (reached script front) (Entry.Reset g t answer due) b.good may), calm-told b g may.1.calm);
     passes = tt;
     chooses = tt;
+    alone = tt;
+    adds_up = tt;
   },
   λ o. (
     o.order.0,
@@ -403,6 +444,8 @@ row {script} {limits} {front} b (Entry.TRecv p t due later) = (
     uses = (made b t (Setting.Ended later) (sets script (reached script front) (Entry.TRecv p t due later) b.good may), calm-told b p.g may.0.calm);
     passes = tt;
     chooses = tt;
+    alone = tt;
+    adds_up = tt;
   },
   λ o. (
     told-operates b p (CaseKind.Recv t) o.uses.1 o.order.0,
@@ -420,6 +463,8 @@ row {script} {limits} {front} b (Entry.FireFunc t child) = (
     uses = made b t (Setting.Ended None) (sets script (reached script front) (Entry.FireFunc t child) b.good may);
     passes = tt;
     chooses = tt;
+    alone = tt;
+    adds_up = tt;
   },
   λ o. (o.order.0, told-fires b t o.time, o.order.1 ∙ sym (next b)),
 )
@@ -433,6 +478,8 @@ row {script} {limits} {front} b (Entry.Make g c) = (
         uses = sym (opened-told script limits c front b.good b.before) ∙ new.has;
         passes = tt;
         chooses = tt;
+        alone = tt;
+        adds_up = tt;
       },
   λ o. does b g (Instr.Make c) o.order (ap (λ b. when b Reason.Twice) o.uses),
 )
@@ -447,6 +494,8 @@ row {script} {limits} {front} b (Entry.Send p c v) = (
         uses = (opened-there b c is.made, unshut, calm-told b p.g may.0.calm);
         passes = (unshut, room-told b c may.2);
         chooses = tt;
+        alone = tt;
+        adds_up = tt;
       },
   λ o. (told-operates b p (CaseKind.Send c v) o.uses.2 o.order, open-there b c o.uses.0 o.uses.1, told-room b c o.passes.1),
 )
@@ -460,6 +509,8 @@ row {script} {limits} {front} b (Entry.Recv p c (Some v)) = (
         uses = (opened-there b c takes.has.0, calm-told b p.g may.0.calm);
         passes = sym (next-told b c) ∙ may.2;
         chooses = tt;
+        alone = tt;
+        adds_up = tt;
       },
   λ o. (told-operates b p (CaseKind.Recv c) o.uses.1 o.order.0, o.order.1, next-told b c ∙ o.passes),
 )
@@ -471,6 +522,8 @@ row {script} {limits} {front} b (Entry.Recv p c None) = (
     uses = (opened-there b c (closed-made (channel_at (reached script front) c) may.2.1), calm-told b p.g may.0.calm);
     passes = (closed-there b c true may.2.1, drained-told b c may.2.0);
     chooses = tt;
+    alone = tt;
+    adds_up = tt;
   },
   λ o. (
     told-operates b p (CaseKind.Recv c) o.uses.1 o.order.0,
@@ -489,6 +542,8 @@ row {script} {limits} {front} b (Entry.Pair from to c v) = (
         uses = (opened-there b c is.made, unshut, calm-told b from.g may.0.calm, calm-told b to.g may.1.calm);
         passes = (unshut, may.3);
         chooses = sym (both-told b from.g to.g) ∙ not-true _ may.5;
+        alone = tt;
+        adds_up = tt;
       },
   λ o. (
     told-operates b from (CaseKind.Send c v) o.uses.2 o.order.0,
@@ -509,19 +564,49 @@ row {script} {limits} {front} b (Entry.Close g c) = (
         uses = (opened-there b c shuts.has.0, closed-there b c false shuts.has.1);
         passes = tt;
         chooses = tt;
+        alone = tt;
+        adds_up = tt;
       },
   λ o. does b g (Instr.Close c) o.order (used-open front c o.uses.0 o.uses.1),
 )
 row b (Entry.Default g) = (λ may. defaults-told b g may, λ o. told-defaults b g o)
+row {script} {limits} {front} b (Entry.Lock g m) = (
+  λ may. record {
+    order = (told b g (Instr.Lock m) may.0.stands, may.1);
+    time = tt;
+    fresh = tt;
+    uses = tt;
+    passes = tt;
+    chooses = tt;
+    alone = sym (held-told script limits m front b.good b.before) ∙ may.2;
+    adds_up = tt;
+  },
+  λ o. (does b g (Instr.Lock m) o.order.0 refl, o.order.1, held-told script limits m front b.good b.before ∙ o.alone),
+)
+row b (Entry.Unlock g m) = (λ may. unlock-told b g m may, λ o. does b g (Instr.Unlock m) o.order (ap (λ h. when (not h) Reason.Unlocked) o.uses))
+row b (Entry.Add g w n) = (λ may. add-told b g w n may, λ o. does b g (Instr.Add w n) o.order (ap (λ below. when below Reason.Negative) o.uses))
+row {script} {limits} {front} b (Entry.WgWait g w) = (
+  λ may. record {
+    order = (told b g (Instr.Wait w) may.0.stands, may.1);
+    time = tt;
+    fresh = tt;
+    uses = tt;
+    passes = tt;
+    chooses = tt;
+    alone = tt;
+    adds_up = sym (counter-told script limits w front b.good b.before) ∙ may.2;
+  },
+  λ o. (does b g (Instr.Wait w) o.order.0 refl, o.order.1, counter-told script limits w front b.good b.before ∙ o.adds_up),
+)
 row {script} {limits} {front} b (Entry.Clock zero to) = (
-  λ may. record { order = tt; time = (subst (λ time. time < to) (clock-told script limits 0 front b.good b.before) may.0, may.1); fresh = tt; uses = tt; passes = tt; chooses = tt },
+  λ may. record { order = tt; time = (subst (λ time. time < to) (clock-told script limits 0 front b.good b.before) may.0, may.1); fresh = tt; uses = tt; passes = tt; chooses = tt; alone = tt; adds_up = tt },
   λ o. (subst (λ time. time < to) (sym (clock-told script limits 0 front b.good b.before)) o.time.0, o.time.1),
 )
 row b (Entry.Clock (suc world) to) = (λ may. absurd may, λ o. o.time)
 row {script} {limits} {front} b (Entry.Panic p reason) = (
   λ may.
       let at : Misuses script front (stands_told script p.g front) p.case_no reason = may-told script limits p reason front b.good b.before may in
-      record { order = ap (λ (o : Option Instr). is_some o) at.stands; time = tt; fresh = tt; uses = (at.instr, at.stands, at.is); passes = tt; chooses = tt },
+      record { order = ap (λ (o : Option Instr). is_some o) at.stands; time = tt; fresh = tt; uses = (at.instr, at.stands, at.is); passes = tt; chooses = tt; alone = tt; adds_up = tt },
   λ o. told-may script limits p reason front b.good b.before (record { instr = o.uses.0; stands = o.uses.1; is = o.uses.2 }),
 )
-row b (Entry.Finish outcome) = (λ may. record { order = tt; time = tt; fresh = tt; uses = tt; passes = tt; chooses = tt }, λ o. tt)
+row b (Entry.Finish outcome) = (λ may. record { order = tt; time = tt; fresh = tt; uses = tt; passes = tt; chooses = tt; alone = tt; adds_up = tt }, λ o. tt)

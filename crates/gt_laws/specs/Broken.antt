@@ -1,5 +1,5 @@
 -- Lists of entries that break a law.
-use Rattle.std.specs.Prelude.{List, [], ◌∷◌, ◌++◌, true, false, codes}
+use Rattle.std.specs.Prelude.{pos, negsuc, List, [], ◌∷◌, ◌++◌, true, false, codes}
 use Rattle.std.specs.declared.option.Option.TheVariants.{None, Some}
 use Rattle.gt_model.specs.declared.script.Script.{Script}
 use Rattle.gt_model.specs.declared.script.Instr.{Instr}
@@ -368,3 +368,19 @@ for_another_case = Entry.Make 1 1 ∷ Entry.Panic (record { g = 1; case_no = 1 }
 
 abbrev pub for_no_close : List Entry
 for_no_close = Entry.Make 1 1 ∷ Entry.Go 1 2 1 ∷ Entry.Panic (record { g = 2; case_no = 1 }) Reason.Closed ∷ []
+
+-- ---- mutexes and WaitGroups: their laws look at the entries alone
+
+-- mutex 1 is locked by two; and unlocked where it is free
+abbrev pub two_hold : List Entry
+two_hold = Entry.Go 1 2 1 ∷ Entry.Lock 1 1 ∷ Entry.Lock 2 1 ∷ []
+
+abbrev pub unlocked_free : List Entry
+unlocked_free = Entry.Lock 1 1 ∷ Entry.Unlock 1 1 ∷ Entry.Unlock 1 1 ∷ []
+
+-- a wait for WaitGroup 1 goes on at 1; and -1 is added to it at 0
+abbrev pub above_zero : List Entry
+above_zero = Entry.Add 1 1 (pos 1) ∷ Entry.WgWait 1 1 ∷ []
+
+abbrev pub below_zero : List Entry
+below_zero = Entry.Add 1 1 (pos 1) ∷ Entry.Add 1 1 (negsuc 0) ∷ Entry.Add 1 1 (negsuc 0) ∷ []

@@ -1,19 +1,20 @@
 -- What each complete history keeps, read from its entries and its script alone. Each law says of each kind of entry, or of call, what it asks: Unit {0}
 -- where nothing.
-use Rattle.std.specs.Prelude.{ℕ, zero, suc, ◌+◌, ◌≡◌, ◌≢◌, ◌<◌, ◌≤◌, List, ◌∷◌, ◌++◌, length, slice_get, Bool, true, false, ◌&&◌, cond, is_some, IsTrue, IsSome, IsSomeAnd}
+use Rattle.std.specs.Prelude.{ℕ, ℤ, zero, suc, ◌+◌, ◌≡◌, ◌≢◌, ◌<◌, ◌≤◌, List, ◌∷◌, ◌++◌, length, slice_get, Bool, true, false, ◌&&◌, cond, is_some, IsTrue, IsSome, IsSomeAnd}
 use Rattle.std.specs.declared.option.Option.{Option}
 use Rattle.std.specs.declared.option.Option.TheVariants.{None, Some}
 use Rattle.gt_model.specs.declared.script.Script.{Script}
 use Rattle.gt_model.specs.declared.script.Instr.{Instr}
 use Rattle.gt_model.specs.declared.entry.Entry.{Entry}
 use Rattle.gt_model.specs.declared.entry.Party.{Party}
-use Rattle.gt_model.specs.Script.{is_timer, is_ticker, is_func, is_chan, capacity_of}
+use Rattle.gt_model.specs.Script.{is_timer, is_ticker, is_func, is_chan, is_mutex, is_wg, capacity_of}
 use Rattle.gt_model.specs.Times.{greatest_time}
 use Rattle.gt_rules.specs.Legal.{due_at, sleep_end, LeavesBy}
-use Rattle.gt_laws.specs.Told.{clock_told, due_told, made_told, opened_told, closed_told, sent_told, taken_told, now_told, owner_told, period_told, stands_told, operation_told, polls_told, started_told, until_told}
+use Rattle.gt_laws.specs.Told.{clock_told, due_told, made_told, opened_told, closed_told, sent_told, taken_told, held_told, counter_told, now_told, owner_told, period_told, stands_told, operation_told, polls_told, started_told, until_told}
 use Rattle.gt_model.specs.declared.entry.Reason.{Reason}
 use Rattle.gt_model.specs.declared.script.CaseKind.{CaseKind}
 use Rattle.gt_rules.specs.Operations.{operation, offers}
+use Rattle.gt_rules.specs.Panics.{falls_below}
 use Rattle.gt_laws.specs.GoesOn.{misuse_in, misuse_told, misused_case, alone_told}
 
 -- it holds of each entry of a history, with the entries before it
@@ -40,6 +41,10 @@ InTime script front (Entry.Recv p c v) = Unit {0}
 InTime script front (Entry.Pair from to c v) = Unit {0}
 InTime script front (Entry.Close g c) = Unit {0}
 InTime script front (Entry.Default g) = Unit {0}
+InTime script front (Entry.Lock g m) = Unit {0}
+InTime script front (Entry.Unlock g m) = Unit {0}
+InTime script front (Entry.Add g w n) = Unit {0}
+InTime script front (Entry.WgWait g w) = Unit {0}
 InTime script front (Entry.Clock zero to) = (clock_told 0 front < to) × (to ≤ greatest_time)
 InTime script front (Entry.Clock (suc world) to) = ⊥
 InTime script front (Entry.Panic p reason) = Unit {0}
@@ -71,6 +76,10 @@ IsFresh script front (Entry.Recv p c v) = Unit {0}
 IsFresh script front (Entry.Pair from to c v) = Unit {0}
 IsFresh script front (Entry.Close g c) = Unit {0}
 IsFresh script front (Entry.Default g) = Unit {0}
+IsFresh script front (Entry.Lock g m) = Unit {0}
+IsFresh script front (Entry.Unlock g m) = Unit {0}
+IsFresh script front (Entry.Add g w n) = Unit {0}
+IsFresh script front (Entry.WgWait g w) = Unit {0}
 IsFresh script front (Entry.Clock world to) = Unit {0}
 IsFresh script front (Entry.Panic p reason) = Unit {0}
 IsFresh script front (Entry.Finish outcome) = Unit {0}
@@ -78,8 +87,8 @@ IsFresh script front (Entry.Finish outcome) = Unit {0}
 -- Each goroutine's calls, once and in order: an entry is the call of the instruction to which the goroutine's earlier entries have led it, made by one
 -- that is awake, and who wakes was asleep. Only AfterFunc timers fire. Who is started has the next number, so no number is given twice. A sleep ends,
 -- and a setting is due, as long after the goroutine's clock as the instruction says. A plain call has the case number 0, and the call of a case the number
--- of the case, from 1. A default is that of a choice. The value of a timer comes from a timer, that of a channel from a channel. Where a value passes from
--- one goroutine to another, these are two, who stand at the send and at the receive
+-- of the case, from 1. A default is that of a choice. The value of a timer comes from a timer, that of a channel from a channel; what is locked is a mutex, and
+-- what is waited for a WaitGroup. Where a value passes from one goroutine to another, these are two, who stand at the send and at the receive
 abbrev pub InOrder : Script → List Entry → Entry → Type 0
 InOrder script front (Entry.Say g n) = stands_told script g front ≡ Some (Instr.Say n)
 InOrder script front (Entry.Now g at) = stands_told script g front ≡ Some Instr.Now
@@ -99,6 +108,10 @@ InOrder script front (Entry.Pair from to c v) =
     (operation_told script from front ≡ Some (CaseKind.Send c v)) × (operation_told script to front ≡ Some (CaseKind.Recv c)) × (from.g ≢ to.g)
 InOrder script front (Entry.Close g c) = stands_told script g front ≡ Some (Instr.Close c)
 InOrder script front (Entry.Default g) = IsTrue (polls_told script g front)
+InOrder script front (Entry.Lock g m) = (stands_told script g front ≡ Some (Instr.Lock m)) × IsTrue (is_mutex script m)
+InOrder script front (Entry.Unlock g m) = stands_told script g front ≡ Some (Instr.Unlock m)
+InOrder script front (Entry.Add g w n) = stands_told script g front ≡ Some (Instr.Add w n)
+InOrder script front (Entry.WgWait g w) = (stands_told script g front ≡ Some (Instr.Wait w)) × IsTrue (is_wg script w)
 InOrder script front (Entry.Clock world to) = Unit {0}
 InOrder script front (Entry.Panic p reason) = IsSome (stands_told script p.g front)
 InOrder script front (Entry.Finish outcome) = Unit {0}
@@ -120,7 +133,8 @@ IsNoMisuse script front g = misuse_in script front (stands_told script g front) 
 
 -- A call is no misuse, and a panic is one: its goroutine stands at an instruction that is a misuse for this reason, or chooses a case that sends to a
 -- closed channel. So a timer and a channel are made once, and used where they were made; a ticker has a time between its ticks; a channel is closed once, and
--- nothing is sent to it then. Where a choice goes on, each of its cases names what was made
+-- nothing is sent to it then; a mutex is unlocked where it is locked, and nothing brings the counter of a WaitGroup below 0. Where a choice goes on, each of
+-- its cases names what was made
 abbrev pub UsesRightly : Script → List Entry → Entry → Type 0
 UsesRightly script front (Entry.Say g n) = Unit {0}
 UsesRightly script front (Entry.Now g at) = Unit {0}
@@ -140,6 +154,10 @@ UsesRightly script front (Entry.Pair from to c v) =
     (opened_told c front ≡ true) × (closed_told c front ≡ false) × IsNoMisuse script front from.g × IsNoMisuse script front to.g
 UsesRightly script front (Entry.Close g c) = (opened_told c front ≡ true) × (closed_told c front ≡ false)
 UsesRightly script front (Entry.Default g) = IsNoMisuse script front g
+UsesRightly script front (Entry.Lock g m) = Unit {0}
+UsesRightly script front (Entry.Unlock g m) = held_told m front ≡ true
+UsesRightly script front (Entry.Add g w n) = falls_below (counter_told w front) n ≡ false
+UsesRightly script front (Entry.WgWait g w) = Unit {0}
 UsesRightly script front (Entry.Clock world to) = Unit {0}
 UsesRightly script front (Entry.Panic p reason) =
     (i : Instr) × (stands_told script p.g front ≡ Some i) × IsMisuse front i p.case_no reason (misuse_told script front i)
@@ -157,6 +175,13 @@ pub data Call : Type 0 where
   closes : ℕ → Call
   -- a goroutine goes on at the default of its choice
   defaults : ℕ → Call
+  -- a mutex is locked, and unlocked
+  locks : ℕ → Call
+  unlocks : ℕ → Call
+  -- a number is added to the counter of a WaitGroup
+  adds_to : ℕ → ℤ → Call
+  -- a goroutine goes on behind its wait for a WaitGroup
+  ends_wait : ℕ → Call
   -- none of these
   other : Call
 
@@ -178,6 +203,10 @@ call_of (Entry.Recv p c v) = receives c v
 call_of (Entry.Pair from to c v) = hands_over from to c v
 call_of (Entry.Close g c) = closes c
 call_of (Entry.Default g) = defaults g
+call_of (Entry.Lock g m) = locks m
+call_of (Entry.Unlock g m) = unlocks m
+call_of (Entry.Add g w n) = adds_to w n
+call_of (Entry.WgWait g w) = ends_wait w
 call_of (Entry.Clock world to) = other
 call_of (Entry.Panic p reason) = other
 call_of (Entry.Finish outcome) = other
@@ -192,6 +221,10 @@ CallPassesOn script front (receives c None) = (closed_told c front ≡ true) × 
 CallPassesOn script front (hands_over from to c v) = (closed_told c front ≡ false) × (capacity_of script c ≡ 0)
 CallPassesOn script front (closes c) = Unit {0}
 CallPassesOn script front (defaults g) = Unit {0}
+CallPassesOn script front (locks m) = Unit {0}
+CallPassesOn script front (unlocks m) = Unit {0}
+CallPassesOn script front (adds_to w n) = Unit {0}
+CallPassesOn script front (ends_wait w) = Unit {0}
 CallPassesOn script front other = Unit {0}
 
 abbrev pub PassesOn : Script → List Entry → Entry → Type 0
@@ -209,7 +242,43 @@ CallChoosesRightly script front (receives c v) = Unit {0}
 CallChoosesRightly script front (hands_over from to c v) = (polls_told script from.g front && polls_told script to.g front) ≡ false
 CallChoosesRightly script front (closes c) = Unit {0}
 CallChoosesRightly script front (defaults g) = gives_some script front (now_told script g front) (stands_told script g front) ≡ false
+CallChoosesRightly script front (locks m) = Unit {0}
+CallChoosesRightly script front (unlocks m) = Unit {0}
+CallChoosesRightly script front (adds_to w n) = Unit {0}
+CallChoosesRightly script front (ends_wait w) = Unit {0}
 CallChoosesRightly script front other = Unit {0}
 
 abbrev pub ChoosesRightly : Script → List Entry → Entry → Type 0
 ChoosesRightly script front e = CallChoosesRightly script front (call_of e)
+
+-- A mutex is locked only where nobody has it, and unlocked only where it is held. So between a lock and the next unlock nobody else locks it
+abbrev pub CallIsAlone : List Entry → Call → Type 0
+CallIsAlone front (sends c v) = Unit {0}
+CallIsAlone front (receives c v) = Unit {0}
+CallIsAlone front (hands_over from to c v) = Unit {0}
+CallIsAlone front (closes c) = Unit {0}
+CallIsAlone front (defaults g) = Unit {0}
+CallIsAlone front (locks m) = held_told m front ≡ false
+CallIsAlone front (unlocks m) = held_told m front ≡ true
+CallIsAlone front (adds_to w n) = Unit {0}
+CallIsAlone front (ends_wait w) = Unit {0}
+CallIsAlone front other = Unit {0}
+
+abbrev pub IsAlone : List Entry → Entry → Type 0
+IsAlone front e = CallIsAlone front (call_of e)
+
+-- An add does not bring the counter of a WaitGroup below 0, and a wait goes on only where the sum of the adds is 0
+abbrev pub CallAddsUp : List Entry → Call → Type 0
+CallAddsUp front (sends c v) = Unit {0}
+CallAddsUp front (receives c v) = Unit {0}
+CallAddsUp front (hands_over from to c v) = Unit {0}
+CallAddsUp front (closes c) = Unit {0}
+CallAddsUp front (defaults g) = Unit {0}
+CallAddsUp front (locks m) = Unit {0}
+CallAddsUp front (unlocks m) = Unit {0}
+CallAddsUp front (adds_to w n) = falls_below (counter_told w front) n ≡ false
+CallAddsUp front (ends_wait w) = counter_told w front ≡ 0
+CallAddsUp front other = Unit {0}
+
+abbrev pub AddsUp : List Entry → Entry → Type 0
+AddsUp front e = CallAddsUp front (call_of e)

@@ -15,11 +15,12 @@ use Rattle.gt_model.specs.Script.{instr_at, func_of}
 use Rattle.gt_model.specs.declared.script.CaseKind.{CaseKind}
 use Rattle.gt_model.specs.declared.entry.Party.{Party}
 use Rattle.gt_rules.specs.Places.{first_place, place_after}
-use Rattle.gt_rules.specs.After.{duration_of, period_of}
+use Rattle.gt_rules.specs.After.{added, duration_of, period_of}
 use Rattle.gt_rules.specs.Operations.{operation, polls}
 use Rattle.gt_rules.specs.declared.change.Move.{Move}
 use Rattle.gt_rules.specs.declared.change.Setting.{Setting}
 use Rattle.gt_rules.specs.declared.change.Start.{Start}
+use Rattle.gt_rules.specs.declared.change.SyncStep.{SyncStep}
 use Rattle.gt_rules.specs.declared.change.Trade.{Trade}
 use Rattle.gt_rules.specs.Change.{Change, change_of}
 
@@ -109,6 +110,30 @@ closed_by k was c = elim c.channel [ None ↦ was | Some x ↦ if x.0 == k then 
 
 abbrev pub closed_told : ℕ → List Entry → Bool
 closed_told k h = told (closed_by k) false h
+
+-- whether somebody has mutex m
+abbrev pub holds : SyncStep → Bool → Bool
+holds SyncStep.Locks was = true
+holds SyncStep.Unlocks was = false
+holds (SyncStep.Adds n) was = was
+
+abbrev pub held_by : ℕ → Bool → Change → Bool
+held_by m was c = elim c.sync [ None ↦ was | Some x ↦ if x.0 == m then holds x.1 was else was ]
+
+abbrev pub held_told : ℕ → List Entry → Bool
+held_told m h = told (held_by m) false h
+
+-- the sum of what was added to WaitGroup w
+abbrev pub adds : SyncStep → ℕ → ℕ
+adds SyncStep.Locks counter = counter
+adds SyncStep.Unlocks counter = counter
+adds (SyncStep.Adds n) counter = added counter n
+
+abbrev pub counter_by : ℕ → ℕ → Change → ℕ
+counter_by w counter c = elim c.sync [ None ↦ counter | Some x ↦ if x.0 == w then adds x.1 counter else counter ]
+
+abbrev pub counter_told : ℕ → List Entry → ℕ
+counter_told w h = told (counter_by w) 0 h
 
 -- how a run ends: with main's function, with a panic, or with a finish that gives its outcome
 abbrev pub ending_by : Ending → Change → Ending

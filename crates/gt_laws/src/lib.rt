@@ -19,7 +19,7 @@ ghost use Rattle.gt_facts.specs.Quiet.{IsQuiet};
 ghost use Rattle.gt_rules.specs.Finish.{IsIdle};
 ghost use Rattle.gt_facts.specs.Still.{IsStill};
 ghost use Rattle.gt_laws.specs.Told.{ending_told};
-ghost use Rattle.gt_laws.specs.Laws.{AtEach, InOrder, InTime, IsFresh, PassesOn, UsesRightly, ChoosesRightly};
+ghost use Rattle.gt_laws.specs.Laws.{AtEach, InOrder, InTime, IsFresh, PassesOn, UsesRightly, ChoosesRightly, IsAlone, AddsUp};
 ghost use Rattle.gt_laws.specs.Unrolled.{InTurn, turn_of};
 ghost use Rattle.gt_laws.specs.Ends.{EndsRightly, EndsWhereStuck, JumpsToLeast};
 ghost use Rattle.gt_laws.specs.GoesOn.{counted_told, IsStillTold, IsStuckTold};
@@ -50,8 +50,8 @@ pub fn no_value_is_stale()
         → IsGood script → History script limits h outcome → AtEach (IsFresh script) h }
 {}
 
-/// A timer or a channel is made once and used where it was made, and a channel is closed once, with nothing sent to it after: a call that would be a misuse
-/// is never made, and each panic is one, for the reason that it gives. A choice is a misuse where a case of it is, and so is the choice of a case that sends to
+/// A timer or a channel is made once and used where it was made, a channel is closed once, with nothing sent to it after, a mutex is unlocked where it is
+/// locked, and nothing brings a counter below 0: a call that would be a misuse is never made, and each panic is one, for the reason that it gives. A choice is a misuse where a case of it is, and so is the choice of a case that sends to
 /// a closed channel.
 pub fn a_panic_is_a_misuse()
     ensures { (script : Script) (limits : Limits) (h : List Entry) (outcome : Outcome)
@@ -71,6 +71,18 @@ pub fn values_pass_in_order()
 pub fn defaults_are_taken_rightly()
     ensures { (script : Script) (limits : Limits) (h : List Entry) (outcome : Outcome)
         → IsGood script → History script limits h outcome → AtEach (ChoosesRightly script) h }
+{}
+
+/// A mutex is locked only where nobody has it, and unlocked only where it is held. So between a lock and the next unlock nobody else locks it.
+pub fn a_mutex_is_held_alone()
+    ensures { (script : Script) (limits : Limits) (h : List Entry) (outcome : Outcome)
+        → IsGood script → History script limits h outcome → AtEach IsAlone h }
+{}
+
+/// An add does not bring the counter of a WaitGroup below 0, and a wait goes on only where the sum of the adds is 0.
+pub fn a_wait_ends_at_zero()
+    ensures { (script : Script) (limits : Limits) (h : List Entry) (outcome : Outcome)
+        → IsGood script → History script limits h outcome → AtEach AddsUp h }
 {}
 
 /// A run ends for its cause: with an exit after the end of main's function, with a panic after a misuse, at its limit, or with a deadlock where
@@ -99,7 +111,8 @@ pub fn a_clock_jumps_to_the_least_time()
 pub fn what_keeps_the_laws_is_a_history()
     ensures { (script : Script) (limits : Limits) (h : List Entry) (outcome : Outcome)
         → IsGood script → AtEach (InOrder script) h → AtEach (InTime script) h → AtEach (IsFresh script) h → AtEach (UsesRightly script) h
-        → AtEach (PassesOn script) h → AtEach (ChoosesRightly script) h → AtEach (EndsRightly script limits) h → ending_told h ≡ Ending.Finished outcome → History script limits h outcome }
+        → AtEach (PassesOn script) h → AtEach (ChoosesRightly script) h → AtEach IsAlone h → AtEach AddsUp h → AtEach (EndsRightly script limits) h
+        → ending_told h ≡ Ending.Finished outcome → History script limits h outcome }
 {}
 
 /// Where nothing can go on is told by the entries and the script alone: it is where the machine's state after them stands still and counts no time.
@@ -196,6 +209,18 @@ pub fn a_default_over_a_value_breaks_the_law()
     ensures over_a_value { ¬ AtEach (ChoosesRightly broken.one_choice) broken.over_a_value }
     ensures over_a_close { ¬ AtEach (ChoosesRightly broken.one_shut) broken.over_a_close }
     ensures neither_waits { ¬ AtEach (ChoosesRightly broken.two_polls) broken.neither_waits }
+{}
+
+/// A mutex that two have at once is none of a history, nor is one that is unlocked where it is free.
+pub fn a_mutex_of_two_breaks_the_law()
+    ensures two_hold { ¬ AtEach IsAlone broken.two_hold }
+    ensures unlocked_free { ¬ AtEach IsAlone broken.unlocked_free }
+{}
+
+/// A wait that goes on above 0 is none of a history, nor is a counter that falls below 0.
+pub fn a_wait_above_zero_breaks_the_law()
+    ensures above_zero { ¬ AtEach AddsUp broken.above_zero }
+    ensures below_zero { ¬ AtEach AddsUp broken.below_zero }
 {}
 
 /// A timer that is made twice or stopped before it was made, a ticker without a time between its ticks that goes on, a panic without a misuse, for another

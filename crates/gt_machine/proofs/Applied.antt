@@ -9,8 +9,9 @@ use Rattle.gt_rules.specs.declared.change.Move.{Move}
 use Rattle.gt_rules.specs.declared.change.Setting.{Setting}
 use Rattle.gt_rules.specs.declared.change.Start.{Start}
 use Rattle.gt_rules.specs.declared.change.Trade.{Trade}
+use Rattle.gt_rules.specs.declared.change.SyncStep.{SyncStep}
 use Rattle.gt_rules.specs.Change.{Change, change_of, started}
-use Rattle.gt_rules.specs.After.{after, changed, with_mover, with_starts, started_by, with_retimed, with_traded, with_clock, option_or}
+use Rattle.gt_rules.specs.After.{after, changed, with_mover, with_starts, started_by, with_retimed, with_traded, with_stepped, with_clock, option_or}
 use Rattle.gt_rules.specs.Legal.{May}
 use Rattle.gt_machine.specs.Machine.{with_new}
 
@@ -25,41 +26,44 @@ new-started script s gs None = refl
 new-started script s gs (Some start) = refl
 
 -- what the code reads of a change is the change
-pub record IsRead (c : Change) (m p : Option (ℕ × Move)) (t : Option (ℕ × Setting)) (ch : Option (ℕ × Trade)) (st : Option Start) (k : Option (ℕ × ℕ)) (how : Option Ending) : Type 0 where
+pub record IsRead (c : Change) (m p : Option (ℕ × Move)) (t : Option (ℕ × Setting)) (ch : Option (ℕ × Trade)) (sy : Option (ℕ × SyncStep)) (st : Option Start) (k : Option (ℕ × ℕ)) (how : Option Ending) : Type 0 where
   pub mover : m ≡ c.mover
   pub partner : p ≡ c.partner
   pub timer : t ≡ c.timer
   pub channel : ch ≡ c.channel
+  pub sync : sy ≡ c.sync
   pub starts : c.starts ≡ started st
   pub clock : k ≡ c.clock
   pub ending : how ≡ c.ending
 
 -- the change, part by part
-pub all_changed : (script : Script) (s : State) (mover partner : Option (ℕ × Move)) (timer : Option (ℕ × Setting)) (channel : Option (ℕ × Trade)) (start : Option Start)
-    (clock : Option (ℕ × ℕ)) (ending : Option Ending) (c : Change) → IsRead c mover partner timer channel start clock ending → c.counted ≡ 1
+pub all_changed : (script : Script) (s : State) (mover partner : Option (ℕ × Move)) (timer : Option (ℕ × Setting)) (channel : Option (ℕ × Trade)) (sync : Option (ℕ × SyncStep)) (start : Option Start)
+    (clock : Option (ℕ × ℕ)) (ending : Option Ending) (c : Change) → IsRead c mover partner timer channel sync start clock ending → c.counted ≡ 1
     → record {
       clocks = with_clock s.clocks clock;
       entries = s.entries + 1;
       goroutines = with_new (with_mover script (with_mover script s.goroutines mover) partner) (option_map (started_by script s) start);
       timers = with_retimed script s mover s.timers timer;
       channels = with_traded s mover s.channels channel;
+      syncs = with_stepped s mover s.syncs sync;
       ending = option_or s.ending ending;
     } ≡ changed script s c
-all_changed script s mover partner timer channel start clock ending c is one =
-    rw (is.mover, is.partner, is.timer, is.channel, is.clock, is.ending, is.starts, one, new-started) refl
+all_changed script s mover partner timer channel sync start clock ending c is one =
+    rw (is.mover, is.partner, is.timer, is.channel, is.sync, is.clock, is.ending, is.starts, one, new-started) refl
 
 -- the state after an entry, by the states between its changes
-pub applied : (script : Script) (e : Entry) (s s1 s2 s3 s4 s5 s6 s7 : State) (mover partner : Option (ℕ × Move)) (timer : Option (ℕ × Setting)) (channel : Option (ℕ × Trade))
+pub applied : (script : Script) (e : Entry) (s s1 s2 t2 s3 s4 s5 s6 s7 : State) (mover partner : Option (ℕ × Move)) (timer : Option (ℕ × Setting)) (channel : Option (ℕ × Trade)) (sync : Option (ℕ × SyncStep))
     (start : Option Start) (begins : Option Goroutine) (clock : Option (ℕ × ℕ)) (ending : Option Ending) → May script s e
-    → IsRead (change_of e) mover partner timer channel start clock ending
+    → IsRead (change_of e) mover partner timer channel sync start clock ending
     → begins ≡ option_map (started_by script s) start
     → s1 ≡ record s { timers = with_retimed script s mover s.timers timer }
     → s2 ≡ record s1 { channels = with_traded s1 mover s1.channels channel }
-    → s3 ≡ record s2 { goroutines = with_mover script s2.goroutines mover }
+    → t2 ≡ record s2 { syncs = with_stepped s2 mover s2.syncs sync }
+    → s3 ≡ record t2 { goroutines = with_mover script t2.goroutines mover }
     → s4 ≡ record s3 { goroutines = with_mover script s3.goroutines partner }
     → s5 ≡ record s4 { goroutines = with_new s4.goroutines begins }
     → s6 ≡ record s5 { clocks = with_clock s5.clocks clock }
     → s7 ≡ record s6 { ending = option_or s6.ending ending }
     → record s7 { entries = s7.entries + 1 } ≡ after script s e
-applied script e s s1 s2 s3 s4 s5 s6 s7 mover partner timer channel start begins clock ending may is new e1 e2 e3 e4 e5 e6 e7 =
-    rw (e7, e6, e5, e4, e3, e2, e1, new) (all_changed script s mover partner timer channel start clock ending (change_of e) is (counted-May script s e may))
+applied script e s s1 s2 t2 s3 s4 s5 s6 s7 mover partner timer channel sync start begins clock ending may is new e1 e2 f2 e3 e4 e5 e6 e7 =
+    rw (e7, e6, e5, e4, e3, f2, e2, e1, new) (all_changed script s mover partner timer channel sync start clock ending (change_of e) is (counted-May script s e may))

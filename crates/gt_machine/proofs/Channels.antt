@@ -67,6 +67,8 @@ channels-kept script m n same kept = record { declared = same ∙ kept.declared 
 capacity_declared : (what : What) → capacity_in what ≡ elim what [ What.Chan cap ↦ cap | _ ↦ 0 ]
 capacity_declared What.Timer = refl
 capacity_declared What.Ticker = refl
+capacity_declared What.Mutex = refl
+capacity_declared What.Wg = refl
 capacity_declared (What.AfterFunc func) = refl
 capacity_declared (What.Chan cap) = refl
 capacity_declared What.Function = refl

@@ -9,12 +9,14 @@ use Rattle.gt_model.specs.declared.script.What.{What}
 use Rattle.gt_model.specs.declared.script.Instr.{Instr}
 use Rattle.gt_model.specs.declared.script.Case.{Case}
 use Rattle.gt_model.specs.declared.entry.Reason.{Reason}
-use Rattle.gt_model.specs.Good.{most_cases}
+use Rattle.gt_model.specs.Good.{most_cases, IsAddable}
 use Rattle.gt_rules.specs.Panics.{case_fault}
 use Rattle.gt_model.specs.declared.state.Goroutine.{Goroutine}
 use Rattle.gt_model.specs.declared.state.Timer.{Timer}
 use Rattle.gt_rules.specs.declared.change.Setting.{Setting}
 use Rattle.gt_rules.specs.declared.change.Trade.{Trade}
+use Rattle.gt_rules.specs.declared.change.SyncStep.{SyncStep}
+use Rattle.gt_model.specs.declared.state.SyncState.{SyncState}
 use Rattle.gt_rules.specs.After.{set_due, set_again}
 use Rattle.gt_model.specs.Tables.{numbered, flatten}
 use Rattle.gt_rules.specs.State.{State, Channel}
@@ -36,6 +38,7 @@ state_of m = record {
   goroutines = m.goroutines.items;
   timers = m.timers.items;
   channels = map channel_of m.channels.items;
+  syncs = m.syncs.items;
   ending = m.ending;
 }
 
@@ -76,6 +79,16 @@ MayTrade Trade.Shut ch = IsSome ch.world
 -- the channel at this place is one
 abbrev pub IsTradable : List chan.Channel → ℕ → Trade → Type 0
 IsTradable chs c trade = IsSomeAnd (slice_get chs c) (MayTrade trade)
+
+-- what may be added to a counter: a million entries' worth is far below its greatest value
+abbrev pub MayStep : SyncStep → ℕ → Type 0
+MayStep SyncStep.Locks counter = Unit {0}
+MayStep SyncStep.Unlocks counter = Unit {0}
+MayStep (SyncStep.Adds n) counter = (counter ≤ 200000000000) × IsAddable n
+
+-- the mutex or the WaitGroup at this place is one
+abbrev pub IsSteppable : List SyncState → ℕ → SyncStep → Type 0
+IsSteppable syncs o step = IsSomeAnd (slice_get syncs o) (λ s. MayStep step s.counter)
 
 -- the channel that a look-up found, if it is made
 abbrev pub made_in : Option chan.Channel → Option Channel

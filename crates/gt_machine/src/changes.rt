@@ -1,14 +1,21 @@
-//! What becomes of one goroutine, of one timer, and of one channel.
+//! What becomes of one goroutine, of one timer, of one channel, and of one mutex or WaitGroup.
 
-ghost use Rattle.std.specs.Prelude.{◌≡◌, ◌<◌, ◌-◌, ◌^◌, Some};
+ghost use Rattle.std.specs.Prelude.{◌≡◌, ◌<◌, ◌≤◌, ◌-◌, ◌^◌, Some, nat_abs};
 ghost use Rattle.gt_model.specs.Good.{IsGood};
 ghost use Rattle.gt_rules.specs.After as after;
-ghost use Rattle.gt_machine.specs.Machine.{retimed_in, channel_of, MayTrade};
+ghost use Rattle.gt_machine.specs.Machine.{retimed_in, channel_of, MayTrade, MayStep};
 
 use crate::places::{first_place, place_after};
 use gt_chan::Chan;
-use gt_model::{Goroutine, Mode, Script, Timer};
-use gt_rules::{Move, Setting, Trade};
+use gt_model::{Goroutine, Mode, Script, SyncState, Timer};
+use gt_rules::{Move, Setting, SyncStep, Trade};
+
+/// What there is of a mutex or a WaitGroup that nobody has used.
+pub const UNUSED: SyncState = SyncState {
+    locked: false,
+    counter: 0,
+    world: None,
+};
 
 /// A goroutine of a world at the beginning of a function.
 pub fn begun(script: &Script, world: u32, f: u32) -> Goroutine
@@ -87,5 +94,40 @@ pub fn trade_channel(world: u32, ch: &mut Chan, how: Trade)
         Trade::Shut => {
             let _step = ch.close();
         }
+    }
+}
+
+/// A counter to which a number is added, where that does not bring it below 0.
+fn added(counter: u64, n: i64) -> u64
+    requires few { counter ≤ 200000000000 }
+    requires addable { nat_abs n ≤ 1000000 }
+    ensures { result ≡ after.added counter n }
+{
+    if n < 0 {
+        counter.saturating_sub(n.unsigned_abs())
+    } else {
+        counter + n.unsigned_abs()
+    }
+}
+
+/// What becomes of a mutex or a WaitGroup, by somebody of a world.
+pub fn stepped(world: u32, was: SyncState, step: SyncStep) -> SyncState
+    requires { MayStep step was.counter }
+    ensures { result ≡ after.stepped world step was }
+{
+    match step {
+        SyncStep::Locks => SyncState {
+            locked: true,
+            ..was
+        },
+        SyncStep::Unlocks => SyncState {
+            locked: false,
+            ..was
+        },
+        SyncStep::Adds { n } => SyncState {
+            counter: added(was.counter, n),
+            world: Some(was.world.unwrap_or(world)),
+            ..was
+        },
     }
 }

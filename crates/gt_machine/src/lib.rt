@@ -1,4 +1,4 @@
-//! The state of the one-thread machine in tables whose memory is taken once: clocks, goroutines, timers and channels, found by their places, and how far
+//! The state of the one-thread machine in tables whose memory is taken once: clocks, goroutines, timers, channels, mutexes and WaitGroups, found by their places, and how far
 //! the run is. Each entry does to the tables what it does to the state.
 #![tactic(auto)]
 
@@ -7,5 +7,5 @@ mod lookups;
 mod machine;
 mod places;
 
-pub use lookups::{capacity, is_chan};
+pub use lookups::{capacity, is_chan, what_at};
 pub use machine::Machine;

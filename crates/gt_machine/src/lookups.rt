@@ -1,6 +1,6 @@
 //! What is looked up in a script.
 
-ghost use Rattle.std.specs.Prelude.{◌≡◌, MatchOption, None, slice_get};
+ghost use Rattle.std.specs.Prelude.{◌≡◌, MatchOption, IsSome, None, slice_get};
 ghost use Rattle.std.specs.Option.{option_copied, option_map};
 ghost use Rattle.gt_model.specs.Script.{code_of, instr_at, func_of, capacity_of};
 ghost use Rattle.gt_model.specs.Script as names;
@@ -10,7 +10,7 @@ use gt_model::{Decl, Instr, Place, Script, What};
 
 /// The code of a function; None exactly where no function has that place.
 pub fn code_of(script: &Script, f: u32) -> Option<&[Instr]>
-    ensures { MatchOption result (slice_get script.now.funcs f ≡ None) (λ code. code.now ≡ code_of script.now f) }
+    ensures { MatchOption result (slice_get script.now.funcs f ≡ None) (λ code. IsSome (slice_get script.now.funcs f) × (code.now ≡ code_of script.now f)) }
 {
     match script.funcs.as_slice().get(f as usize) {
         Some(func) => Some(func.code.as_slice()),
@@ -60,6 +60,16 @@ pub fn declared_capacity(what: What) -> u32
     match what {
         What::Chan { cap } => cap,
         _ => 0,
+    }
+}
+
+/// What a name is declared as; none where no declaration has that place.
+pub fn what_at(script: &Script, o: u32) -> Option<What>
+    ensures { result ≡ names.what_at script.now o }
+{
+    match script.decls.as_slice().get(o as usize) {
+        Some(decl) => Some(decl.what),
+        None => None,
     }
 }
 

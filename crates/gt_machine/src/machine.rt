@@ -13,21 +13,21 @@ ghost use Rattle.gt_rules.specs.Legal.{May};
 ghost use Rattle.gt_rules.specs.Change.{started};
 ghost use Rattle.gt_facts.specs.Formed.{IsFormed};
 ghost use Rattle.gt_chan.specs.Channel as chan;
-ghost use Rattle.gt_machine.specs.Machine.{state_of, IsInside, IsTradable, HasChannels, with_new, made_in, capacity_in, capacities, HasFewCases, first_fault};
+ghost use Rattle.gt_machine.specs.Machine.{state_of, IsInside, IsTradable, IsSteppable, HasChannels, with_new, made_in, capacity_in, capacities, HasFewCases, first_fault};
 ghost use Rattle.gt_machine.specs.Outcomes as outcomes;
 ghost use Rattle.gt_machine.specs.Places.{placed_at};
 
-use crate::changes::{begun, move_goroutine, retimed, trade_channel};
+use crate::changes::{UNUSED, begun, move_goroutine, retimed, stepped, trade_channel};
 use crate::lookups::{capacity, declared_capacity, function_of, instr_at, is_ticker};
 use gt_chan::Chan;
 use gt_model::{
     Case, CaseKind, Decl, Ending, Entry, Goroutine, Instr, Limits, Mode, NoMemory, Outcome, Reason,
-    Script, Timer,
+    Script, SyncState, Timer,
 };
 use gt_room::Room;
 use gt_rules::{
-    Move, Setting, Start, Trade, channel_of, clock_of, ending_of, mover_of, partner_of, start_of,
-    timer_of,
+    Move, Setting, Start, SyncStep, Trade, channel_of, clock_of, ending_of, mover_of, partner_of,
+    start_of, sync_of, timer_of,
 };
 use std::alloc::Global;
 
@@ -44,6 +44,8 @@ pub struct Machine {
     pub timers: Vec<Option<Timer>>,
     /// The channels by declaration, with room for as many values as they keep at most; what is no channel stays unmade.
     pub channels: Vec<Chan>,
+    /// What there is of mutexes and WaitGroups, by declaration; nothing becomes of what is neither.
+    pub syncs: Vec<SyncState>,
     /// How far the run is.
     pub ending: Ending,
 }
@@ -53,6 +55,13 @@ fn unmade(alloc: Global, n: usize) -> Result<Vec<Option<Timer>>, NoMemory>
     ensures { IfOk result (λ timers. timers.items ≡ replicate n None) }
 {
     vec![in alloc; None; n].map_err(|_| NoMemory)
+}
+
+/// So many mutexes or WaitGroups that nobody has used.
+fn unused(alloc: Global, n: usize) -> Result<Vec<SyncState>, NoMemory>
+    ensures { IfOk result (λ syncs. syncs.items ≡ replicate n at.unused) }
+{
+    vec![in alloc; UNUSED; n].map_err(|_| NoMemory)
 }
 
 /// A channel for each declaration, none of them made. Who waits is found in the goroutines, and not in lists, so the number of each one's list is 0.
@@ -84,12 +93,14 @@ impl Machine {
         goroutines.put(begun(script, 0, script.main));
         let timers = unmade(alloc, script.decls.as_slice().len())?;
         let channels = unmade_channels(alloc, script.decls.as_slice())?;
+        let syncs = unused(alloc, script.decls.as_slice().len())?;
         Ok(Machine {
             clocks,
             entries: 0,
             goroutines,
             timers,
             channels,
+            syncs,
             ending: Ending::Running,
         })
     }
@@ -111,6 +122,7 @@ impl Machine {
         let begins = self.started(script, start_of(entry));
         self.retime(script, mover, timer_of(entry));
         self.trade(mover, channel_of(entry));
+        self.step_sync(mover, sync_of(entry));
         self.move_on(script, mover);
         self.move_on(script, partner_of(entry));
         self.start(begins);
@@ -175,6 +187,22 @@ impl Machine {
         };
         let world = self.mover_world(mover);
         trade_channel(world, &mut self.channels[c as usize], how);
+    }
+
+    /// What becomes of a mutex or a WaitGroup, by who makes the entry.
+    fn step_sync(&mut self, mover: Option<(u32, Move)>, change: Option<(u32, SyncStep)>)
+        requires { IfSome change (λ x. IsSteppable self.old.syncs.items x.0 x.1) }
+        ensures state { state_of self.new ≡ record (state_of self.old) {
+          syncs = after.with_stepped (state_of self.old) mover (state_of self.old).syncs change;
+        } }
+        ensures room { self.new.goroutines ≡ self.old.goroutines }
+        ensures channels { self.new.channels ≡ self.old.channels }
+    {
+        let Some((o, step)) = change else {
+            return;
+        };
+        let world = self.mover_world(mover);
+        self.syncs[o as usize] = stepped(world, self.syncs[o as usize], step);
     }
 
     /// What becomes of one who makes the entry.
@@ -311,6 +339,30 @@ impl Machine {
         self.item_count(c) < capacity(script, c) as usize
     }
 
+    /// What there is of a mutex or a WaitGroup.
+    fn sync(&self, o: u32) -> SyncState
+        ensures { result ≡ at.sync_at (state_of self.now) o }
+    {
+        match self.syncs.get(o as usize) {
+            Some(sync) => *sync,
+            None => UNUSED,
+        }
+    }
+
+    /// Whether mutex m is locked.
+    pub fn is_locked(&self, m: u32) -> bool
+        ensures { result ≡ at.is_locked (state_of self.now) m }
+    {
+        self.sync(m).locked
+    }
+
+    /// Whether the counter of WaitGroup w is 0.
+    pub fn is_done(&self, w: u32) -> bool
+        ensures { result ≡ at.is_done (state_of self.now) w }
+    {
+        self.sync(w).counter == 0
+    }
+
     /// The world of goroutine g; 0 where no goroutine has that number.
     fn world_of(&self, g: u32) -> u32
         ensures { result ≡ at.world_of (state_of self.now) g }
@@ -412,6 +464,8 @@ impl Machine {
             Instr::Recv { o } => when(!self.is_made(o), Reason::Unmade),
             Instr::Make { c } => when(self.channel(c).is_some(), Reason::Twice),
             Instr::Send { c, .. } | Instr::Close { c } => self.open_fault(c),
+            Instr::Unlock { m } => when(!self.is_locked(m), Reason::Unlocked),
+            Instr::Add { w, n } => when(falls_below(self.sync(w).counter, n), Reason::Negative),
             Instr::Select { ref cases, .. } => match self.faulty_case(cases.as_slice()) {
                 Some((_, reason)) => Some(reason),
                 None => None,
@@ -549,6 +603,13 @@ fn zero_ticker(script: &Script, t: u32, d: u64) -> Option<Reason>
     ensures { result ≡ panics.zero_ticker script.now t d }
 {
     when(is_ticker(script, t) && d == 0, Reason::Ticker)
+}
+
+/// Whether a number that is added brings a counter below 0.
+fn falls_below(counter: u64, n: i64) -> bool
+    ensures { result ≡ panics.falls_below counter n }
+{
+    n < 0 && counter < n.unsigned_abs()
 }
 
 /// The duration of a setting; 0 of any other instruction.

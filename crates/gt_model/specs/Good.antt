@@ -1,5 +1,5 @@
 -- What a script keeps to that the reader accepts.
-use Rattle.std.specs.Prelude.{ℕ, zero, suc, ◌+◌, ◌-◌, ◌^◌, ◌<◌, ◌≤◌, ◌≡◌, ◌≢◌, ◌==◌, nat_le, Bool, true, false, cond, if◌then◌else◌, ◌&&◌, ◌||◌, IsTrue, List, [], ◌∷◌, ◌++◌, length, map, filter, slice_get, sum_by, codes, IsSome, IfSome}
+use Rattle.std.specs.Prelude.{ℤ, nat_abs, ℕ, zero, suc, ◌+◌, ◌-◌, ◌^◌, ◌<◌, ◌≤◌, ◌≡◌, ◌≢◌, ◌==◌, nat_le, Bool, true, false, cond, if◌then◌else◌, ◌&&◌, ◌||◌, IsTrue, List, [], ◌∷◌, ◌++◌, length, map, filter, slice_get, sum_by, codes, IsSome, IfSome}
 use Rattle.std.specs.List.{All, list_all}
 use Rattle.std.specs.Option.{option_map, option_and_then}
 use Rattle.std.specs.declared.option.Option.{Option}
@@ -13,7 +13,7 @@ use Rattle.gt_model.specs.declared.script.Case.{Case}
 use Rattle.gt_model.specs.declared.script.CaseKind.{CaseKind}
 use Rattle.gt_model.specs.Times.{greatest_time}
 use Rattle.gt_model.specs.declared.entry.Limits.{Limits}
-use Rattle.gt_model.specs.Script.{is_timer, is_func, is_chan}
+use Rattle.gt_model.specs.Script.{is_timer, is_func, is_chan, is_mutex, is_wg}
 
 -- a timer that is set and stopped: a channel timer or an AfterFunc timer
 abbrev pub is_setting : Script → ℕ → Bool
@@ -71,6 +71,13 @@ pub record IsGoodChoice (script : Script) (cases : List Case) (default_to : Opti
   pub each : All (λ (c : Case). OperatesRightly script c.kind) cases
   pub polls : IsSome default_to → length (filter (λ (c : Case). awaits_timer script c.kind) cases) ≤ 1
 
+-- how much is added to a counter at most, or taken from it
+abbrev pub most_added : ℕ
+most_added = 1000000
+
+abbrev pub IsAddable : ℤ → Type 0
+IsAddable n = nat_abs n ≤ most_added
+
 -- What an instruction names is declared as such, and its times are at most the greatest
 abbrev pub NamesRightly : Script → Instr → Type 0
 NamesRightly script (Instr.Say n) = Unit {0}
@@ -84,6 +91,10 @@ NamesRightly script (Instr.Recv o) = OperatesRightly script (CaseKind.Recv o)
 NamesRightly script (Instr.Make c) = IsTrue (is_chan script c)
 NamesRightly script (Instr.Send c v) = OperatesRightly script (CaseKind.Send c v)
 NamesRightly script (Instr.Close c) = IsTrue (is_chan script c)
+NamesRightly script (Instr.Lock m) = IsTrue (is_mutex script m)
+NamesRightly script (Instr.Unlock m) = IsTrue (is_mutex script m)
+NamesRightly script (Instr.Add w n) = IsTrue (is_wg script w) × IsAddable n
+NamesRightly script (Instr.Wait w) = IsTrue (is_wg script w)
 NamesRightly script (Instr.LoopTop depth count past) = count ≤ most_passes
 NamesRightly script (Instr.LoopEnd depth top) = Unit {0}
 NamesRightly script (Instr.Select cases default_to) = IsGoodChoice script cases default_to
@@ -157,6 +168,8 @@ DeclaresRightly script What.Timer = Unit {0}
 DeclaresRightly script What.Ticker = Unit {0}
 DeclaresRightly script (What.AfterFunc func) = func < length script.funcs
 DeclaresRightly script (What.Chan cap) = cap ≤ most_capacity
+DeclaresRightly script What.Mutex = Unit {0}
+DeclaresRightly script What.Wg = Unit {0}
 DeclaresRightly script What.Function = Unit {0}
 
 -- the greatest numbers of names, of functions among them, and of instructions that a script may have
@@ -191,6 +204,8 @@ is_function What.Timer = false
 is_function What.Ticker = false
 is_function (What.AfterFunc func) = false
 is_function (What.Chan cap) = false
+is_function What.Mutex = false
+is_function What.Wg = false
 is_function What.Function = true
 
 -- the places of the functions among declarations, the first of which has the place i

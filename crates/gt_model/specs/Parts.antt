@@ -1,5 +1,5 @@
 -- What an entry is made of, part by part: the line of an entry says its parts in this order.
-use Rattle.std.specs.Prelude.{ℕ, Bool, List, [], ◌∷◌, codes}
+use Rattle.std.specs.Prelude.{ℕ, ℤ, Bool, List, [], ◌∷◌, codes}
 use Rattle.std.specs.declared.option.Option.{Option}
 use Rattle.gt_model.specs.declared.entry.Entry.{Entry}
 use Rattle.gt_model.specs.declared.entry.Outcome.{Outcome}
@@ -14,11 +14,15 @@ pub data Part : Type 0 where
   -- a number, a time or a value; the second may be missing
   number : ℕ → Part
   maybe_number : Option ℕ → Part
-  -- what is named: a channel timer, an AfterFunc timer, a timer of either kind, a channel, a function
+  -- a number that may be below 0
+  signed : ℤ → Part
+  -- what is named: a channel timer, an AfterFunc timer, a timer of either kind, a channel, a mutex, a WaitGroup, a function
   timer : ℕ → Part
   after_func : ℕ → Part
   setting : ℕ → Part
   channel : ℕ → Part
+  mutex : ℕ → Part
+  wait_group : ℕ → Part
   function : ℕ → Part
   -- whether a timer was set, where that is told
   flag : Option Bool → Part
@@ -44,6 +48,10 @@ parts_of (Entry.Recv p c v) = keyword (codes "recv") ∷ party p ∷ channel c �
 parts_of (Entry.Pair from to c v) = keyword (codes "pair") ∷ party from ∷ party to ∷ channel c ∷ number v ∷ []
 parts_of (Entry.Close g c) = keyword (codes "close") ∷ goroutine g ∷ channel c ∷ []
 parts_of (Entry.Default g) = keyword (codes "default") ∷ goroutine g ∷ []
+parts_of (Entry.Lock g m) = keyword (codes "lock") ∷ goroutine g ∷ mutex m ∷ []
+parts_of (Entry.Unlock g m) = keyword (codes "unlock") ∷ goroutine g ∷ mutex m ∷ []
+parts_of (Entry.Add g w n) = keyword (codes "add") ∷ goroutine g ∷ wait_group w ∷ signed n ∷ []
+parts_of (Entry.WgWait g w) = keyword (codes "wait") ∷ goroutine g ∷ wait_group w ∷ []
 parts_of (Entry.Clock world at) = keyword (codes "clock") ∷ number world ∷ number at ∷ []
 parts_of (Entry.Panic p why) = keyword (codes "panic") ∷ party p ∷ reason why ∷ []
 parts_of (Entry.Finish how) = outcome how ∷ []

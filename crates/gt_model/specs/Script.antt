@@ -39,6 +39,14 @@ abbrev pub names_chan : Option What → Bool
 names_chan (Some (What.Chan cap)) = true
 names_chan _ = false
 
+abbrev pub names_mutex : Option What → Bool
+names_mutex (Some What.Mutex) = true
+names_mutex _ = false
+
+abbrev pub names_wg : Option What → Bool
+names_wg (Some What.Wg) = true
+names_wg _ = false
+
 abbrev pub is_timer : Script → ℕ → Bool
 is_timer script t = names_timer (what_at script t)
 
@@ -54,6 +62,13 @@ is_chan script c = names_chan (what_at script c)
 
 abbrev pub capacity_of : Script → ℕ → ℕ
 capacity_of script c = elim (what_at script c) [ None ↦ 0 | Some what ↦ elim what [ What.Chan cap ↦ cap | _ ↦ 0 ] ]
+
+-- a mutex, and a WaitGroup
+abbrev pub is_mutex : Script → ℕ → Bool
+is_mutex script m = names_mutex (what_at script m)
+
+abbrev pub is_wg : Script → ℕ → Bool
+is_wg script w = names_wg (what_at script w)
 
 -- the function that an AfterFunc timer starts
 abbrev pub func_of : Script → ℕ → ℕ

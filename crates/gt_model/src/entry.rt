@@ -104,6 +104,27 @@ pub enum Entry {
     Default {
         g: u32,
     },
+    /// A goroutine locked a mutex.
+    Lock {
+        g: u32,
+        m: u32,
+    },
+    /// A goroutine unlocked a mutex.
+    Unlock {
+        g: u32,
+        m: u32,
+    },
+    /// A goroutine added a number to the counter of a WaitGroup.
+    Add {
+        g: u32,
+        w: u32,
+        n: i64,
+    },
+    /// A goroutine found the counter of a WaitGroup at 0, or waited until it was.
+    WgWait {
+        g: u32,
+        w: u32,
+    },
     /// The clock of a world moved to a time. The program is world 0.
     Clock {
         world: u32,
@@ -144,6 +165,10 @@ pub enum Reason {
     Closed,
     /// A ticker was set with a period of 0.
     Ticker,
+    /// The counter of the WaitGroup would be below 0.
+    Negative,
+    /// The mutex was not locked.
+    Unlocked,
 }
 
 /// The most entries that a run may have, its end not counted.

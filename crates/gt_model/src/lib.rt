@@ -10,7 +10,7 @@ mod time;
 pub use entry::{Entry, Limits, MOST_ENTRIES, Outcome, Party, Reason, Verdict};
 pub use lists::{Cases, Code, Decls, Funcs, Text};
 pub use script::{Case, CaseKind, Decl, Func, Instr, Place, Script, What};
-pub use state::{Ending, Goroutine, Mode, Timer};
+pub use state::{Ending, Goroutine, Mode, SyncState, Timer};
 pub use time::{CAP, due_after};
 
 /// Memory ran out.

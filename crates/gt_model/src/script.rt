@@ -31,6 +31,9 @@ pub enum What {
     AfterFunc { func: u32 },
     /// A channel that keeps so many values at most: 0 to 1,024.
     Chan { cap: u32 },
+    Mutex,
+    /// A WaitGroup: a counter, and goroutines that wait until it is 0.
+    Wg,
     Function,
 }
 
@@ -91,6 +94,23 @@ pub enum Instr {
     Close {
         c: u32,
     },
+    /// Lock a mutex.
+    Lock {
+        m: u32,
+    },
+    /// Unlock a mutex.
+    Unlock {
+        m: u32,
+    },
+    /// Add `n` to the counter of a WaitGroup: -1,000,000 to 1,000,000.
+    Add {
+        w: u32,
+        n: i64,
+    },
+    /// Wait until the counter of a WaitGroup is 0.
+    Wait {
+        w: u32,
+    },
     /// Choose one of 1 to 16 cases that can go on; where none can, go on at the index `default_to`, if there is one. The numbers of the cases count from 1.
     Select {
         cases: Cases,
@@ -127,7 +147,7 @@ pub struct Case {
 /// What a goroutine wants of an object, alone or as a case of its choice. The first number is the place of the object's declaration.
 #[derive(Clone, Copy)]
 pub enum CaseKind {
-    /// To receive from it.
+    /// To receive from it. To lock a mutex and to wait for a WaitGroup count as receives: they take what the object gives when it is free, or at 0.
     Recv(u32),
     /// To send this value to it.
     Send(u32, u32),

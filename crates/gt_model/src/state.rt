@@ -34,6 +34,17 @@ pub struct Timer {
     pub period: u64,
 }
 
+/// What there is of a mutex or of a WaitGroup: the fields of the other kind stay as they begin.
+#[derive(Clone, Copy)]
+pub struct SyncState {
+    /// Whether a mutex is locked.
+    pub locked: bool,
+    /// The counter of a WaitGroup.
+    pub counter: u64,
+    /// The world of a WaitGroup's first `add`; none before it.
+    pub world: Option<u32>,
+}
+
 /// How far a run is.
 #[derive(Clone, Copy, Debug, PartialEq, Eq)]
 pub enum Ending {

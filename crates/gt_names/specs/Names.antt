@@ -42,6 +42,8 @@ functions_with Kind.Timer functions = functions
 functions_with Kind.Ticker functions = functions
 functions_with Kind.AfterFunc functions = functions
 functions_with Kind.Chan functions = functions
+functions_with Kind.Mutex functions = functions
+functions_with Kind.Wg functions = functions
 
 -- a declared name
 pub record Declaration : Type 0 where

@@ -81,6 +81,10 @@ woken-is script s m (Entry.Send p c v) h woken = woken-goes script s m _ p.g (Mo
 woken-is script s m (Entry.Recv p c v) h woken = woken-goes script s m _ p.g (Move.GoesOn p.case_no) tt refl refl refl refl refl woken.0
 woken-is script s m (Entry.Close g c) h woken = woken-goes script s m _ g (Move.GoesOn 0) tt refl refl refl refl refl woken.0
 woken-is script s m (Entry.Default g) h woken = woken-goes script s m _ g (Move.GoesOn 0) tt refl refl refl refl refl woken.0
+woken-is script s m (Entry.Lock g k) h woken = woken-goes script s m _ g (Move.GoesOn 0) tt refl refl refl refl refl woken.0
+woken-is script s m (Entry.Unlock g k) h woken = woken-goes script s m _ g (Move.GoesOn 0) tt refl refl refl refl refl woken.0
+woken-is script s m (Entry.Add g w n) h woken = woken-goes script s m _ g (Move.GoesOn 0) tt refl refl refl refl refl woken.0
+woken-is script s m (Entry.WgWait g w) h woken = woken-goes script s m _ g (Move.GoesOn 0) tt refl refl refl refl refl woken.0
 woken-is script s m (Entry.Panic p reason) h woken = woken-goes script s m _ p.g Move.Panics tt refl refl refl refl refl woken.0
 woken-is script s m _ h woken = absurd woken.0
 

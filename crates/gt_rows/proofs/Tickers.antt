@@ -30,6 +30,8 @@ ticker-what What.Timer kind h = let is : RecKind.Timer ≡ kind = cc in ap is_ti
 ticker-what What.Ticker kind h = let is : RecKind.Ticker ≡ kind = cc in ap is_ticking is
 ticker-what (What.AfterFunc f) kind h = let is : RecKind.Func ≡ kind = cc in ap is_ticking is
 ticker-what (What.Chan cap) kind h = cc
+ticker-what What.Mutex kind h = cc
+ticker-what What.Wg kind h = cc
 ticker-what What.Function kind h = cc
 
 pub ticker-kind : (script : Script) (id : ℕ) (kind : RecKind) → kind_by script id ≡ Some kind → is_ticker script id ≡ is_ticking kind

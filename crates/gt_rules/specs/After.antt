@@ -1,5 +1,5 @@
 -- The state after an entry.
-use Rattle.std.specs.Prelude.{ℕ, ◌+◌, cond, true, false, List, [], ◌∷◌, ◌++◌, drop, map, set}
+use Rattle.std.specs.Prelude.{ℕ, suc, ℤ, pos, negsuc, ◌-◌, ◌+◌, cond, true, false, List, [], ◌∷◌, ◌++◌, drop, map, set}
 use Rattle.std.specs.declared.option.Option.{Option}
 use Rattle.std.specs.declared.option.Option.TheVariants.{None, Some}
 use Rattle.gt_model.specs.declared.script.Script.{Script}
@@ -11,13 +11,15 @@ use Rattle.gt_model.specs.declared.state.Mode.{Mode}
 use Rattle.gt_model.specs.declared.state.Timer.{Timer}
 use Rattle.gt_model.specs.declared.state.Ending.{Ending}
 use Rattle.gt_model.specs.Tables.{change, change_numbered}
-use Rattle.gt_rules.specs.State.{State, Channel, stands_at, world_of, timer_at}
+use Rattle.gt_rules.specs.State.{State, Channel, stands_at, world_of, timer_at, unused}
 use Rattle.gt_model.specs.Script.{func_of, is_ticker}
 use Rattle.gt_rules.specs.Places.{first_place, place_after}
 use Rattle.gt_rules.specs.declared.change.Move.{Move}
 use Rattle.gt_rules.specs.declared.change.Setting.{Setting}
 use Rattle.gt_rules.specs.declared.change.Start.{Start}
 use Rattle.gt_rules.specs.declared.change.Trade.{Trade}
+use Rattle.gt_rules.specs.declared.change.SyncStep.{SyncStep}
+use Rattle.gt_model.specs.declared.state.SyncState.{SyncState}
 use Rattle.gt_rules.specs.Change.{Change, change_of}
 
 abbrev pub in_mode : Mode → Goroutine → Goroutine
@@ -73,6 +75,10 @@ retimed script s mover t timers (Setting.Made due) =
 retimed script s mover t timers (Setting.SetAnew due) = change timers t (set_again due (new_period script s (number_of mover) t))
 retimed script s mover t timers (Setting.Ended due) = change timers t (set_due due)
 
+abbrev pub option_or : {X : Type 0} → X → Option X → X
+option_or x None = x
+option_or x (Some y) = y
+
 abbrev pub with_items : (List ℕ → List ℕ) → Option Channel → Option Channel
 with_items f None = None
 with_items f (Some r) = Some (record r { items = f r.items })
@@ -87,6 +93,17 @@ traded w Trade.Opened was = Some (record { world = w; items = []; closed = false
 traded w (Trade.Puts v) was = with_items (λ items. items ++ v ∷ []) was
 traded w Trade.Takes was = with_items (drop 1) was
 traded w Trade.Shut was = shut was
+
+-- a counter to which a number is added, where that does not bring it below 0
+abbrev pub added : ℕ → ℤ → ℕ
+added counter (pos n) = counter + n
+added counter (negsuc n) = counter - suc n
+
+-- what becomes of a mutex or a WaitGroup, by somebody of world w: a WaitGroup belongs to the world of its first `add`
+abbrev pub stepped : ℕ → SyncStep → SyncState → SyncState
+stepped w SyncStep.Locks was = record was { locked = true }
+stepped w SyncStep.Unlocks was = record was { locked = false }
+stepped w (SyncStep.Adds n) was = record was { counter = added was.counter n; world = Some (option_or w was.world) }
 
 abbrev pub with_mover : Script → List Goroutine → Option (ℕ × Move) → List Goroutine
 with_mover script gs None = gs
@@ -109,13 +126,13 @@ abbrev pub with_traded : State → Option (ℕ × Move) → List (Option Channel
 with_traded s mover channels None = channels
 with_traded s mover channels (Some c) = change channels c.0 (traded (world_of s (number_of mover)) c.1)
 
+abbrev pub with_stepped : State → Option (ℕ × Move) → List SyncState → Option (ℕ × SyncStep) → List SyncState
+with_stepped s mover syncs None = syncs
+with_stepped s mover syncs (Some c) = change syncs c.0 (stepped (world_of s (number_of mover)) c.1)
+
 abbrev pub with_clock : List ℕ → Option (ℕ × ℕ) → List ℕ
 with_clock clocks None = clocks
 with_clock clocks (Some c) = set clocks c.0 c.1
-
-abbrev pub option_or : {X : Type 0} → X → Option X → X
-option_or x None = x
-option_or x (Some y) = y
 
 -- the state after a change
 abbrev pub changed : Script → State → Change → State
@@ -125,6 +142,7 @@ changed script s c = record {
   goroutines = with_starts script s (with_mover script (with_mover script s.goroutines c.mover) c.partner) c.starts;
   timers = with_retimed script s c.mover s.timers c.timer;
   channels = with_traded s c.mover s.channels c.channel;
+  syncs = with_stepped s c.mover s.syncs c.sync;
   ending = option_or s.ending c.ending;
 }
 
@@ -140,5 +158,6 @@ first_state script = record {
   goroutines = begun script 0 script.main ∷ [];
   timers = map (λ (d : Decl). None) script.decls;
   channels = map (λ (d : Decl). None) script.decls;
+  syncs = map (λ (d : Decl). unused) script.decls;
   ending = Ending.Running;
 }

@@ -8,6 +8,7 @@ use Rattle.gt_model.specs.declared.state.Ending.{Ending}
 use Rattle.gt_rules.specs.declared.change.Move.{Move}
 use Rattle.gt_rules.specs.declared.change.Setting.{Setting}
 use Rattle.gt_rules.specs.declared.change.Start.{Start}
+use Rattle.gt_rules.specs.declared.change.SyncStep.{SyncStep}
 use Rattle.gt_rules.specs.declared.change.Trade.{Trade}
 
 pub record Change : Type 0 where
@@ -15,13 +16,14 @@ pub record Change : Type 0 where
   pub partner : Option (ℕ × Move)  -- the receiver, where two make the entry
   pub timer : Option (ℕ × Setting)  -- a timer by its declaration, and what becomes of it
   pub channel : Option (ℕ × Trade)  -- a channel by its declaration, and what becomes of it
+  pub sync : Option (ℕ × SyncStep)  -- a mutex or a WaitGroup by its declaration, and what becomes of it
   pub starts : List Start  -- who are started, in the order of their numbers
   pub clock : Option (ℕ × ℕ)  -- a world, and the time of its clock
   pub ending : Option Ending  -- how far the run is, where the entry says it
   pub counted : ℕ  -- how much of the limit it takes
 
 abbrev pub nothing : Change
-nothing = record { mover = None; partner = None; timer = None; channel = None; starts = []; clock = None; ending = None; counted = 1 }
+nothing = record { mover = None; partner = None; timer = None; channel = None; sync = None; starts = []; clock = None; ending = None; counted = 1 }
 
 -- a goroutine goes on after its plain instruction; a party goes on after its operation
 abbrev pub on : ℕ → Change
@@ -68,6 +70,10 @@ change_of (Entry.Recv p c v) = record nothing { mover = Some (goes_on p); channe
 change_of (Entry.Pair from to c v) = record nothing { mover = Some (goes_on from); partner = Some (goes_on to) }
 change_of (Entry.Close g c) = record (on g) { channel = Some (c, Trade.Shut) }
 change_of (Entry.Default g) = on g
+change_of (Entry.Lock g m) = record (on g) { sync = Some (m, SyncStep.Locks) }
+change_of (Entry.Unlock g m) = record (on g) { sync = Some (m, SyncStep.Unlocks) }
+change_of (Entry.Add g w n) = record (on g) { sync = Some (w, SyncStep.Adds n) }
+change_of (Entry.WgWait g w) = on g
 change_of (Entry.Clock world at) = record nothing { clock = Some (world, at) }
 change_of (Entry.Panic p reason) = record nothing { mover = Some (p.g, Move.Panics); ending = Some Ending.Panicked }
 change_of (Entry.Finish outcome) = record nothing { ending = Some (Ending.Finished outcome); counted = 0 }

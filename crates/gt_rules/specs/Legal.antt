@@ -12,9 +12,9 @@ use Rattle.gt_model.specs.declared.entry.Reason.{Reason}
 use Rattle.gt_model.specs.declared.state.Timer.{Timer}
 use Rattle.gt_model.specs.declared.script.Case.{Case}
 use Rattle.gt_model.specs.declared.script.CaseKind.{CaseKind}
-use Rattle.gt_rules.specs.State.{State, stands_at, clock, clock_of, world_of, sleeps_until, next_number, timer_at, due_of, period_at, items_of, item_count, is_open, is_closed}
+use Rattle.gt_rules.specs.State.{State, stands_at, clock, clock_of, world_of, sleeps_until, next_number, timer_at, due_of, period_at, items_of, item_count, is_open, is_closed, is_locked, counter_of}
 use Rattle.gt_rules.specs.Operations.{operation, polls}
-use Rattle.gt_model.specs.Script.{is_timer, is_ticker, is_func, is_chan, capacity_of}
+use Rattle.gt_model.specs.Script.{is_timer, is_ticker, is_func, is_chan, is_mutex, is_wg, capacity_of}
 use Rattle.gt_rules.specs.Panics.{panic_at}
 use Rattle.gt_rules.specs.Ready.{is_due, is_ready_alone, has_come}
 
@@ -117,6 +117,10 @@ May script s (Entry.Pair from to c v) =
     × IsTrue (not (is_polling script s from.g && is_polling script s to.g))
 May script s (Entry.Close g c) = Does script s g (Instr.Close c)
 May script s (Entry.Default g) = Defaults script s g
+May script s (Entry.Lock g m) = Does script s g (Instr.Lock m) × IsTrue (is_mutex script m) × (is_locked s m ≡ false)
+May script s (Entry.Unlock g m) = Does script s g (Instr.Unlock m)
+May script s (Entry.Add g w n) = Does script s g (Instr.Add w n)
+May script s (Entry.WgWait g w) = Does script s g (Instr.Wait w) × IsTrue (is_wg script w) × (counter_of s w ≡ 0)
 May script s (Entry.Clock world to) = MovesClock s world to
 May script s (Entry.Panic p reason) = MayPanic script s p reason
 May script s (Entry.Finish outcome) = ⊥

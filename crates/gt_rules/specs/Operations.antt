@@ -8,10 +8,13 @@ use Rattle.gt_model.specs.declared.script.Instr.{Instr}
 use Rattle.gt_model.specs.declared.script.Case.{Case}
 use Rattle.gt_model.specs.declared.script.CaseKind.{CaseKind}
 
--- the operation at which an instruction stands under a case number: 0 is a plain one, and the cases of a choice count from 1
+-- The operation at which an instruction stands under a case number: 0 is a plain one, and the cases of a choice count from 1. A lock takes its mutex, and a wait
+-- the end of what its WaitGroup counts, as a receive takes a value
 abbrev pub operation : Instr → ℕ → Option CaseKind
 operation (Instr.Recv o) zero = Some (CaseKind.Recv o)
 operation (Instr.Send c v) zero = Some (CaseKind.Send c v)
+operation (Instr.Lock m) zero = Some (CaseKind.Recv m)
+operation (Instr.Wait w) zero = Some (CaseKind.Recv w)
 operation (Instr.Select cases default_to) (suc k) = option_map (λ (c : Case). c.kind) (slice_get cases k)
 operation _ _ = None
 
@@ -28,6 +31,8 @@ sends_to o (CaseKind.Send c v) = c == o
 abbrev pub offers : (CaseKind → Bool) → Instr → Bool
 offers test (Instr.Recv o) = test (CaseKind.Recv o)
 offers test (Instr.Send c v) = test (CaseKind.Send c v)
+offers test (Instr.Lock m) = test (CaseKind.Recv m)
+offers test (Instr.Wait w) = test (CaseKind.Recv w)
 offers test (Instr.Select cases default_to) = list_any (λ (c : Case). test c.kind) cases
 offers test _ = false
 

@@ -1,5 +1,5 @@
 -- What ends a run: the misuse of an object.
-use Rattle.std.specs.Prelude.{ℕ, ◌+◌, ◌==◌, ◌&&◌, Bool, true, false, not, cond, is_some, is_none, List, [], ◌∷◌}
+use Rattle.std.specs.Prelude.{ℕ, suc, ℤ, pos, negsuc, nat_lt, ◌+◌, ◌==◌, ◌&&◌, Bool, true, false, not, cond, is_some, is_none, List, [], ◌∷◌}
 use Rattle.std.specs.declared.option.Option.{Option}
 use Rattle.std.specs.declared.option.Option.TheVariants.{None, Some}
 use Rattle.gt_model.specs.declared.script.Script.{Script}
@@ -9,7 +9,7 @@ use Rattle.gt_model.specs.declared.script.Case.{Case}
 use Rattle.gt_model.specs.declared.script.CaseKind.{CaseKind}
 use Rattle.gt_model.specs.declared.entry.Reason.{Reason}
 use Rattle.gt_model.specs.declared.state.Goroutine.{Goroutine}
-use Rattle.gt_rules.specs.State.{State, stands, goroutine_at, timer_at, channel_at, is_made, is_closed}
+use Rattle.gt_rules.specs.State.{State, stands, goroutine_at, timer_at, channel_at, is_made, is_closed, is_locked, counter_of}
 
 -- the reason, if the test says so
 abbrev pub when : Bool → Reason → Option Reason
@@ -43,6 +43,15 @@ faulty_case s n (c ∷ cases) = cond (is_some (case_fault s c.kind)) n (faulty_c
 abbrev pub zero_ticker : Script → ℕ → ℕ → Option Reason
 zero_ticker script t d = when (is_ticker script t && d == 0) Reason.Ticker
 
+-- whether a number that is added brings a counter below 0
+abbrev pub falls_below : ℕ → ℤ → Bool
+falls_below counter (pos n) = false
+falls_below counter (negsuc n) = nat_lt counter (suc n)
+
+-- a counter below 0 (Go 1.23, package sync: "If the counter goes negative, Add panics")
+abbrev pub negative : State → ℕ → ℤ → Option Reason
+negative s w n = when (falls_below (counter_of s w) n) Reason.Negative
+
 -- the first misuse of an instruction
 abbrev pub fault : Script → State → Instr → Option Reason
 fault script s (Instr.New t d) = or_else (when (is_some (timer_at s t)) Reason.Twice) (zero_ticker script t d)
@@ -52,6 +61,8 @@ fault script s (Instr.Recv o) = when (not (is_made s o)) Reason.Unmade
 fault script s (Instr.Make c) = when (is_some (channel_at s c)) Reason.Twice
 fault script s (Instr.Send c v) = open_fault s c
 fault script s (Instr.Close c) = open_fault s c
+fault script s (Instr.Unlock m) = when (not (is_locked s m)) Reason.Unlocked
+fault script s (Instr.Add w n) = negative s w n
 fault script s (Instr.Select cases default_to) = choice_fault s cases
 fault script s _ = None
 

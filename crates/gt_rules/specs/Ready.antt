@@ -11,7 +11,7 @@ use Rattle.gt_model.specs.declared.script.What.{What}
 use Rattle.gt_model.specs.declared.state.Goroutine.{Goroutine}
 use Rattle.gt_model.specs.declared.state.Mode.{Mode}
 use Rattle.gt_model.specs.Script.{instr_at, what_at, is_chan, capacity_of}
-use Rattle.gt_rules.specs.State.{State, clock, due_of, stands, item_count, is_closed}
+use Rattle.gt_rules.specs.State.{State, clock, due_of, stands, item_count, is_closed, is_locked, is_done}
 use Rattle.gt_rules.specs.Operations.{receives_from, sends_to, offers, polls}
 use Rattle.gt_rules.specs.Panics.{fault, panic_of}
 
@@ -41,6 +41,8 @@ is_ready_recv s timed o (Some What.Timer) = timed o
 is_ready_recv s timed o (Some What.Ticker) = timed o
 is_ready_recv s timed o (Some (What.AfterFunc func)) = false
 is_ready_recv s timed o (Some (What.Chan cap)) = nat_lt 0 (item_count s o) || is_closed s o
+is_ready_recv s timed o (Some What.Mutex) = not (is_locked s o)
+is_ready_recv s timed o (Some What.Wg) = is_done s o
 is_ready_recv s timed o (Some What.Function) = false
 
 abbrev pub is_ready_alone : Script → State → (ℕ → Bool) → CaseKind → Bool
@@ -54,6 +56,8 @@ is_ready_case script s timed counts me kind = is_ready_alone script s timed kind
 abbrev pub is_ready_instr : Script → State → (ℕ → Bool) → (ℕ → Bool) → ℕ → Instr → Bool
 is_ready_instr script s timed counts me (Instr.Recv o) = is_ready_case script s timed counts me (CaseKind.Recv o)
 is_ready_instr script s timed counts me (Instr.Send c v) = is_ready_case script s timed counts me (CaseKind.Send c v)
+is_ready_instr script s timed counts me (Instr.Lock m) = is_ready_case script s timed counts me (CaseKind.Recv m)
+is_ready_instr script s timed counts me (Instr.Wait w) = is_ready_case script s timed counts me (CaseKind.Recv w)
 is_ready_instr script s timed counts me (Instr.LoopTop depth count past) = false
 is_ready_instr script s timed counts me (Instr.LoopEnd depth top) = false
 is_ready_instr script s timed counts me (Instr.Jump to) = false

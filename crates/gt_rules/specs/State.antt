@@ -1,5 +1,5 @@
 -- The state of the one-thread timer machine, and what is looked up in it.
-use Rattle.std.specs.Prelude.{ℕ, ◌+◌, Bool, false, not, is_some, ◌||◌, List, [], length, slice_index}
+use Rattle.std.specs.Prelude.{ℕ, ◌==◌, ◌+◌, Bool, false, not, is_some, ◌||◌, List, [], length, slice_index, slice_index_or}
 use Rattle.std.specs.Option.{option_map}
 use Rattle.std.specs.declared.option.Option.{Option}
 use Rattle.std.specs.declared.option.Option.TheVariants.{None, Some}
@@ -9,6 +9,7 @@ use Rattle.gt_model.specs.declared.state.Goroutine.{Goroutine}
 use Rattle.gt_model.specs.declared.state.Mode.{Mode}
 use Rattle.gt_model.specs.declared.state.Timer.{Timer}
 use Rattle.gt_model.specs.declared.state.Ending.{Ending}
+use Rattle.gt_model.specs.declared.state.SyncState.{SyncState}
 use Rattle.gt_model.specs.Tables.{numbered, at}
 use Rattle.gt_model.specs.Script.{instr_at}
 
@@ -24,6 +25,7 @@ pub record State : Type 0 where
   pub goroutines : List Goroutine  -- by number, from 1
   pub timers : List (Option Timer)  -- by declaration; none is unmade
   pub channels : List (Option Channel)  -- by declaration; none is unmade
+  pub syncs : List SyncState  -- by declaration: what there is of a mutex or of a WaitGroup
   pub ending : Ending
 
 abbrev pub goroutine_at : State → ℕ → Option Goroutine
@@ -88,6 +90,23 @@ is_closed s c = elim (channel_at s c) [ None ↦ false | Some r ↦ r.closed ]
 
 abbrev pub is_open : State → ℕ → Bool
 is_open s c = elim (channel_at s c) [ None ↦ false | Some r ↦ not r.closed ]
+
+-- what there is of a mutex or a WaitGroup before the first call: its zero value is ready for use
+abbrev pub unused : SyncState
+unused = record { locked = false; counter = 0; world = None }
+
+abbrev pub sync_at : State → ℕ → SyncState
+sync_at s o = slice_index_or s.syncs o unused
+
+abbrev pub is_locked : State → ℕ → Bool
+is_locked s m = (sync_at s m).locked
+
+abbrev pub counter_of : State → ℕ → ℕ
+counter_of s w = (sync_at s w).counter
+
+-- nobody has to wait for the WaitGroup
+abbrev pub is_done : State → ℕ → Bool
+is_done s w = counter_of s w == 0
 
 -- a timer or a channel that was made
 abbrev pub is_made : State → ℕ → Bool

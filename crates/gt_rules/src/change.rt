@@ -42,6 +42,17 @@ pub enum Trade {
     Shut,
 }
 
+/// What becomes of a mutex or of a WaitGroup.
+#[derive(Clone, Copy)]
+pub enum SyncStep {
+    /// The mutex is locked.
+    Locks,
+    /// The mutex is unlocked.
+    Unlocks,
+    /// `n` is added to the counter of the WaitGroup.
+    Adds { n: i64 },
+}
+
 /// Who starts a goroutine.
 #[derive(Clone, Copy)]
 pub enum Start {
@@ -74,6 +85,10 @@ pub fn mover_of(entry: &Entry) -> Option<(u32, Move)>
         | Entry::Make { g, .. }
         | Entry::Close { g, .. }
         | Entry::Default { g }
+        | Entry::Lock { g, .. }
+        | Entry::Unlock { g, .. }
+        | Entry::Add { g, .. }
+        | Entry::WgWait { g, .. }
         | Entry::Sleep { g, until: None } => Some((g, Move::GoesOn { case_no })),
         Entry::TRecv { p, .. } | Entry::Send { p, .. } | Entry::Recv { p, .. } => Some(goes_on(p)),
         Entry::Pair { from, .. } => Some(goes_on(from)),
@@ -121,6 +136,18 @@ pub fn channel_of(entry: &Entry) -> Option<(u32, Trade)>
         Entry::Send { c, v, .. } => Some((c, Trade::Puts { v })),
         Entry::Recv { c, v: Some(_), .. } => Some((c, Trade::Takes)),
         Entry::Close { c, .. } => Some((c, Trade::Shut)),
+        _ => None,
+    }
+}
+
+/// The mutex or the WaitGroup that an entry changes, and what becomes of it.
+pub fn sync_of(entry: &Entry) -> Option<(u32, SyncStep)>
+    ensures { result ≡ (table.change_of entry.now).sync }
+{
+    match *entry {
+        Entry::Lock { m, .. } => Some((m, SyncStep::Locks)),
+        Entry::Unlock { m, .. } => Some((m, SyncStep::Unlocks)),
+        Entry::Add { w, n, .. } => Some((w, SyncStep::Adds { n })),
         _ => None,
     }
 }

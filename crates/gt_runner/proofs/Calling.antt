@@ -6,6 +6,7 @@ use Rattle.gt_model.specs.declared.script.Script.{Script}
 use Rattle.gt_model.specs.declared.script.Decl.{Decl}
 use Rattle.gt_model.specs.declared.script.What.{What}
 use Rattle.gt_model.specs.declared.script.Instr.{Instr}
+use Rattle.gt_model.specs.declared.script.CaseKind.{CaseKind}
 use Rattle.gt_model.specs.declared.entry.Entry.{Entry}
 use Rattle.gt_model.specs.declared.entry.Reason.{Reason}
 use Rattle.gt_model.specs.declared.state.Goroutine.{Goroutine}
@@ -29,12 +30,12 @@ use Rattle.gt_rows.specs.declared.answers.SetDone.{SetDone}
 use Rattle.gt_rows.specs.Lent.{IsLent, IsKept}
 use Rattle.gt_rows.specs.Rows.{Parts, answer_of, sets, SetsAt, SetsBy, SetRow, Arms, UnlessOver, next_of}
 use Rattle.gt_schedule.specs.declared.status.RunStatus.{RunStatus}
-use Rattle.gt_schedule.specs.Schedule.{at_case, Schedule, status_of, Served}
+use Rattle.gt_schedule.specs.Schedule.{at_case, plainly, Schedule, status_of, Served}
 use Rattle.gt_schedule.proofs.Counting.{count-cons}
 use Rattle.gt_schedule.specs.Counts.{as_number}
 use Rattle.gt_book.specs.declared.step.Step.{Step}
 use Rattle.gt_book.specs.declared.answers.TimerOp.{TimerOp}
-use Rattle.gt_book.specs.Steps.{set_instr, set_entry, step_of_instr, step_or_panic}
+use Rattle.gt_book.specs.Steps.{goes_by, set_instr, set_entry, step_of_instr, step_or_panic}
 use Rattle.gt_book.specs.View.{BookView, Enters, IsLawful, Agrees, outcome_of}
 use Rattle.gt_book.proofs.Fitting.{Known, known}
 use Rattle.gt_rules.specs.declared.change.Move.{Move}
@@ -42,7 +43,7 @@ use Rattle.gt_rules.specs.declared.change.Setting.{Setting}
 use Rattle.gt_rows.specs.Frames.{until_after}
 use Rattle.gt_book.specs.Calm.{IsCalm}
 use Rattle.gt_book.proofs.Going.{IsStep, step-is, in_hand-goes, makes-served, makes-awake, makes-call, waits-rightly, IsCall, IsAwake, AreAwake}
-use Rattle.gt_book.proofs.Meeting.{recv-is, send-is, choice-is}
+use Rattle.gt_book.proofs.Meeting.{plain-is, recv-is, send-is, choice-is}
 use Rattle.gt_book.proofs.Setting.{instr-set}
 use Rattle.gt_book.proofs.Passing.{enters-script, enters-limits}
 use Rattle.gt_runner.specs.declared.runner.Runner.{Runner}
@@ -90,6 +91,8 @@ same-stop script s m g (Instr.Sleep zero) = refl
 same-stop script s m g (Instr.Sleep (suc d)) = refl
 same-stop script s m g (Instr.Recv o) = recv-is (λ step. stopped_by step ≡ None) (λ e. refl) (λ kind. refl) (λ t. refl) script s m g o
 same-stop script s m g (Instr.Send c v) = send-is (λ step. stopped_by step ≡ None) (λ e. refl) (λ kind. refl) script s m g c v
+same-stop script s m g (Instr.Lock k) = plain-is (λ step. stopped_by step ≡ None) (λ e. refl) (λ kind. refl) (CaseKind.Recv k) (goes_by script s m (plainly g) (CaseKind.Recv k))
+same-stop script s m g (Instr.Wait k) = plain-is (λ step. stopped_by step ≡ None) (λ e. refl) (λ kind. refl) (CaseKind.Recv k) (goes_by script s m (plainly g) (CaseKind.Recv k))
 same-stop script s m g (Instr.Select cases default_to) = choice-is (λ step. stopped_by step ≡ None) (λ e. refl) (λ t. refl) (λ timed. refl) script s m g cases default_to
 same-stop script s m g _ = refl
 
@@ -105,6 +108,8 @@ asks-sleep script s m g (Instr.Sleep zero) d h = cc
 asks-sleep script s m g (Instr.Sleep (suc c)) d h = (c, refl)
 asks-sleep script s m g (Instr.Recv o) d h = absurd (recv-is (λ step. step ≡ Step.Needs (TimerOp.Sleep d) → ⊥) (λ e k. cc) (λ kind k. cc) (λ t k. cc) script s m g o h)
 asks-sleep script s m g (Instr.Send c v) d h = absurd (send-is (λ step. step ≡ Step.Needs (TimerOp.Sleep d) → ⊥) (λ e k. cc) (λ kind k. cc) script s m g c v h)
+asks-sleep script s m g (Instr.Lock k) d h = absurd (plain-is (λ step. step ≡ Step.Needs (TimerOp.Sleep d) → ⊥) (λ e q. cc) (λ kind q. cc) (CaseKind.Recv k) (goes_by script s m (plainly g) (CaseKind.Recv k)) h)
+asks-sleep script s m g (Instr.Wait k) d h = absurd (plain-is (λ step. step ≡ Step.Needs (TimerOp.Sleep d) → ⊥) (λ e q. cc) (λ kind q. cc) (CaseKind.Recv k) (goes_by script s m (plainly g) (CaseKind.Recv k)) h)
 asks-sleep script s m g (Instr.Select cases default_to) d h =
     absurd (choice-is (λ step. step ≡ Step.Needs (TimerOp.Sleep d) → ⊥) (λ e k. cc) (λ t k. cc) (λ timed k. cc) script s m g cases default_to h)
 asks-sleep script s m g _ d h = cc
@@ -149,6 +154,8 @@ some-kind (Some decl) h = of_what decl.what h
     of_what What.Ticker h = (RecKind.Ticker, refl)
     of_what (What.AfterFunc f) h = (RecKind.Func, refl)
     of_what (What.Chan cap) h = cc
+    of_what What.Mutex h = cc
+    of_what What.Wg h = cc
     of_what What.Function h = cc
 
 get-some : {X : Type 0} (xs : List X) (i : ℕ) → i < length xs → (x : X) × (slice_get xs i ≡ Some x)

@@ -185,6 +185,10 @@ woken-served script s m (Entry.Send p c v) h woken = (parked-goes (status_of m p
 woken-served script s m (Entry.Recv p c v) h woken = (parked-goes (status_of m p.g) woken.0.0, tt)
 woken-served script s m (Entry.Close g c) h woken = (parked-goes (status_of m g) woken.0.0, tt)
 woken-served script s m (Entry.Default g) h woken = (parked-goes (status_of m g) woken.0.0, tt)
+woken-served script s m (Entry.Lock g k) h woken = (parked-goes (status_of m g) woken.0.0, tt)
+woken-served script s m (Entry.Unlock g k) h woken = (parked-goes (status_of m g) woken.0.0, tt)
+woken-served script s m (Entry.Add g w n) h woken = (parked-goes (status_of m g) woken.0.0, tt)
+woken-served script s m (Entry.WgWait g w) h woken = (parked-goes (status_of m g) woken.0.0, tt)
 woken-served script s m (Entry.Panic p reason) h woken = (parked-goes (status_of m p.g) woken.0.0, tt)
 woken-served script s m _ h woken = absurd woken.0
 

@@ -46,6 +46,8 @@ channel-timer (Some decl) kind e h = of_what decl.what kind e h
     of_what What.Ticker kind e h = refl
     of_what (What.AfterFunc f) kind e h = let is : RecKind.Func ≡ kind = cc in absurd (both-ways (has_channel kind) h (ap has_channel (sym is)))
     of_what (What.Chan cap) kind e h = cc
+    of_what What.Mutex kind e h = cc
+    of_what What.Wg kind e h = cc
     of_what What.Function kind e h = cc
 
 kind-func : (o : Option Decl) → (elim o as (λ _. Option RecKind) [ None ↦ Some RecKind.Sleep | Some decl ↦ kind_of_what decl.what ]) ≡ Some RecKind.Func → names_func (option_map (λ (d : Decl). d.what) o) ≡ true
@@ -57,6 +59,8 @@ kind-func (Some decl) e = of_what decl.what e
     of_what What.Ticker e = cc
     of_what (What.AfterFunc f) e = refl
     of_what (What.Chan cap) e = cc
+    of_what What.Mutex e = cc
+    of_what What.Wg e = cc
     of_what What.Function e = cc
 
 pub kind-sleep : (o : Option Decl) → (elim o as (λ _. Option RecKind) [ None ↦ Some RecKind.Sleep | Some decl ↦ kind_of_what decl.what ]) ≡ Some RecKind.Sleep → o ≡ None
@@ -68,6 +72,8 @@ kind-sleep (Some decl) e = absurd (of_what decl.what e)
     of_what What.Ticker e = cc
     of_what (What.AfterFunc f) e = cc
     of_what (What.Chan cap) e = cc
+    of_what What.Mutex e = cc
+    of_what What.Wg e = cc
     of_what What.Function e = cc
 
 kind-other : (o : Option Decl) (kind : RecKind) → (elim o as (λ _. Option RecKind) [ None ↦ Some RecKind.Sleep | Some decl ↦ kind_of_what decl.what ]) ≡ Some kind
@@ -80,6 +86,8 @@ kind-other (Some decl) kind e h = of_what decl.what kind e h
     of_what What.Ticker kind e h = cc
     of_what (What.AfterFunc f) kind e h = cc
     of_what (What.Chan cap) kind e h = cc
+    of_what What.Mutex kind e h = cc
+    of_what What.Wg kind e h = cc
     of_what What.Function kind e h = cc
 
 pub never-deadline : (script : Script) (id : ℕ) (r : Rec) → kind_by script id ≡ Some r.kind → r.kind ≡ RecKind.Deadline → ⊥
@@ -270,6 +278,8 @@ not-named (Some decl) e = of_what decl.what e
     of_what What.Ticker e = cc
     of_what (What.AfterFunc f) e = cc
     of_what (What.Chan cap) e = (refl, refl)
+    of_what What.Mutex e = (refl, refl)
+    of_what What.Wg e = (refl, refl)
     of_what What.Function e = (refl, refl)
 
 neither : (a b : Bool) → (a || b) ≡ true → a ≡ false → b ≡ false → ⊥
@@ -282,6 +292,8 @@ func-not_timer (Some What.Timer) e h = cc
 func-not_timer (Some What.Ticker) e h = cc
 func-not_timer (Some (What.AfterFunc f)) e h = cc
 func-not_timer (Some (What.Chan cap)) e h = cc
+func-not_timer (Some What.Mutex) e h = cc
+func-not_timer (Some What.Wg) e h = cc
 func-not_timer (Some What.Function) e h = cc
 
 declared-needing : (x : Runner) (id w : ℕ) → IsLawful x.book → NobodyRuns x.book → IsServed x → id < length x.book.script.decls → Counts x.book id w → Needing x id w

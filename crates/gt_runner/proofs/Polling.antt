@@ -4,6 +4,7 @@ use Rattle.std.proofs.lemmas.Bool.{eq-eqb}
 use Rattle.gt_model.specs.declared.entry.Entry.{Entry}
 use Rattle.gt_model.specs.declared.script.Case.{Case}
 use Rattle.gt_model.specs.declared.script.Instr.{Instr}
+use Rattle.gt_model.specs.declared.script.CaseKind.{CaseKind}
 use Rattle.gt_model.specs.declared.script.Script.{Script}
 use Rattle.gt_model.specs.Script.{is_timer}
 use Rattle.gt_model.proofs.Declared.{timer_setting}
@@ -15,13 +16,13 @@ use Rattle.gt_rec.specs.Rec.{Rec, has_channel}
 use Rattle.gt_rec.specs.Changes.{received, taken}
 use Rattle.gt_lazy.specs.Slots.{LazyHeap, slot_with}
 use Rattle.gt_schedule.specs.Counts.{as_number}
-use Rattle.gt_schedule.specs.Schedule.{Schedule, at_case, status_of}
+use Rattle.gt_schedule.specs.Schedule.{Schedule, at_case, plainly, status_of}
 use Rattle.gt_book.specs.declared.answers.TimerOp.{TimerOp}
 use Rattle.gt_book.specs.declared.step.Step.{Step}
 use Rattle.gt_book.specs.Steps.{case_step, come_timer, first_step, goes_by, no_case, choice_step, step_of_instr, step_or_panic}
 use Rattle.gt_book.specs.View.{BookView, Enters, receiver_of}
 use Rattle.gt_book.proofs.Going.{IsStep, step-is, in_hand-goes}
-use Rattle.gt_book.proofs.Meeting.{recv-is, send-is}
+use Rattle.gt_book.proofs.Meeting.{plain-is, recv-is, send-is}
 use Rattle.gt_book.proofs.Options.{ChoiceIs, case_goes, case_polls, all_rest, all_wait, choice-so}
 use Rattle.gt_rows.specs.declared.answers.PollDone.{PollDone}
 use Rattle.gt_rows.specs.Lent.{IsLentRec, IsPlaced}
@@ -87,6 +88,8 @@ instr-polls script s m g t (Instr.Sleep zero) h = cc
 instr-polls script s m g t (Instr.Sleep (suc d)) h = cc
 instr-polls script s m g t (Instr.Recv o) h = absurd (recv-is (λ step. step ≡ Step.Needs (TimerOp.Poll t) → ⊥) (λ e q. cc) (λ kind q. cc) (λ t q. cc) script s m g o h)
 instr-polls script s m g t (Instr.Send c v) h = absurd (send-is (λ step. step ≡ Step.Needs (TimerOp.Poll t) → ⊥) (λ e q. cc) (λ kind q. cc) script s m g c v h)
+instr-polls script s m g t (Instr.Lock k) h = absurd (plain-is (λ step. step ≡ Step.Needs (TimerOp.Poll t) → ⊥) (λ e q. cc) (λ kind q. cc) (CaseKind.Recv k) (goes_by script s m (plainly g) (CaseKind.Recv k)) h)
+instr-polls script s m g t (Instr.Wait k) h = absurd (plain-is (λ step. step ≡ Step.Needs (TimerOp.Poll t) → ⊥) (λ e q. cc) (λ kind q. cc) (CaseKind.Recv k) (goes_by script s m (plainly g) (CaseKind.Recv k)) h)
 instr-polls script s m g t _ h = cc
 
 -- who polls a timer stands at a choice that may, and it is a timer

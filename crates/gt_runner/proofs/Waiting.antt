@@ -283,6 +283,8 @@ timer-channel (Some decl) kind h e = of_what decl.what kind h e
     of_what What.Ticker kind h e = let is : RecKind.Ticker ≡ kind = cc in ap has_channel (sym is)
     of_what (What.AfterFunc f) kind h e = cc
     of_what (What.Chan cap) kind h e = cc
+    of_what What.Mutex kind h e = cc
+    of_what What.Wg kind h e = cc
     of_what What.Function kind h e = cc
 
 pub channel-of : (x : Runner) (t : ℕ) (r : Rec) → is_timer x.book.script t ≡ true → HasRecord x t × (r.id ≡ t) × IsWatched x.book x.heap x.noted r → has_channel r.kind ≡ true

@@ -1,5 +1,5 @@
 -- Where nobody runs, the counted times are the due times of the records that need a heap.
-use Rattle.std.proofs.Common.{◌≡◌, ◌≢◌, cond, ℕ, zero, suc, ◌<◌, ◌==◌, List, [], ◌∷◌, slice_get, refl, sym, ap, subst, ◌∙◌, arith, Option, None, Some, Bool, true, false, ◌&&◌, ◌||◌, eq-eqb}
+use Rattle.std.proofs.Common.{IsTrue, ◌≡◌, ◌≢◌, cond, ℕ, zero, suc, ◌<◌, ◌==◌, List, [], ◌∷◌, slice_get, refl, sym, ap, subst, ◌∙◌, arith, Option, None, Some, Bool, true, false, ◌&&◌, ◌||◌, eq-eqb}
 use Rattle.std.specs.List.{list_any, filter_map, cons_option}
 use Rattle.std.proofs.lemmas.Option.{slice_get-map}
 use Rattle.gt_model.specs.declared.script.Script.{Script}
@@ -7,7 +7,9 @@ use Rattle.gt_model.specs.declared.script.Instr.{Instr}
 use Rattle.gt_model.specs.declared.script.Case.{Case}
 use Rattle.gt_model.specs.declared.script.CaseKind.{CaseKind}
 use Rattle.gt_model.specs.declared.entry.Party.{Party}
-use Rattle.gt_model.specs.Script.{is_timer}
+use Rattle.gt_model.specs.Script.{is_timer, is_mutex, is_wg, what_at, names_timer, names_mutex, names_wg}
+use Rattle.gt_model.specs.declared.script.What.{What}
+use Rattle.gt_model.specs.Good.{IsGood, NamesRightly}
 use Rattle.gt_model.specs.declared.state.Goroutine.{Goroutine}
 use Rattle.gt_model.specs.declared.state.Mode.{Mode}
 use Rattle.gt_model.specs.Tables.{numbered}
@@ -16,7 +18,7 @@ use Rattle.gt_rules.specs.State.{State, goroutine_at, stands, stands_at}
 use Rattle.gt_rules.specs.Counted.{awaits, is_awaited}
 use Rattle.gt_rules.specs.Legal.{operation_at}
 use Rattle.gt_rules.specs.Operations.{operation, receives_from, offers}
-use Rattle.gt_facts.proofs.Lookups.{any-numbered, ReceivesFrom, receives-recv, offers-operation, Standing, standing, AtOperation}
+use Rattle.gt_facts.proofs.Lookups.{any-numbered, ReceivesFrom, receives-recv, offers-operation, names-instr_at, Standing, standing, AtOperation}
 use Rattle.gt_schedule.specs.declared.status.RunStatus.{RunStatus}
 use Rattle.gt_schedule.specs.Counts.{times}
 use Rattle.gt_schedule.specs.Schedule.{Schedule, status_of, is_parked, marks_at, mark_count}
@@ -49,14 +51,27 @@ waiting v g i lawful nobody e =
 
 -- ---- who receives from a timer awaits it, and nobody else does
 
-operation-slot : (i : Instr) (n t : ℕ) → operation i n ≡ Some (CaseKind.Recv t) → (k : ℕ) × (slice_get (operations_of i) k ≡ Some (CaseKind.Recv t))
-operation-slot (Instr.Recv o) zero t e = (0, e)
-operation-slot (Instr.Recv o) (suc k) t e = cc
-operation-slot (Instr.Send c v) zero t e = cc
-operation-slot (Instr.Send c v) (suc k) t e = cc
-operation-slot (Instr.Select cases default_to) zero t e = cc
-operation-slot (Instr.Select cases default_to) (suc k) t e = (k, slice_get-map (λ (c : Case). c.kind) cases k ∙ e)
-operation-slot _ n t e = cc
+no-timer_mutex : (w : Option What) → names_timer w ≡ true → IsTrue (names_mutex w) → ⊥
+no-timer_mutex (Some What.Mutex) timer mutex = cc
+no-timer_mutex _ timer mutex = cc
+
+no-timer_wg : (w : Option What) → names_timer w ≡ true → IsTrue (names_wg w) → ⊥
+no-timer_wg (Some What.Wg) timer wg = cc
+no-timer_wg _ timer wg = cc
+
+-- a timer is received from plainly, or as a case
+operation-slot : (script : Script) (i : Instr) (n t : ℕ) → is_timer script t ≡ true → NamesRightly script i → operation i n ≡ Some (CaseKind.Recv t) → (k : ℕ) × (slice_get (operations_of i) k ≡ Some (CaseKind.Recv t))
+operation-slot script (Instr.Recv o) zero t timer names e = (0, e)
+operation-slot script (Instr.Recv o) (suc k) t timer names e = cc
+operation-slot script (Instr.Send c v) zero t timer names e = cc
+operation-slot script (Instr.Send c v) (suc k) t timer names e = cc
+operation-slot script (Instr.Select cases default_to) zero t timer names e = cc
+operation-slot script (Instr.Select cases default_to) (suc k) t timer names e = (k, slice_get-map (λ (c : Case). c.kind) cases k ∙ e)
+operation-slot script (Instr.Lock m) zero t timer names e = let is : m ≡ t = cc in absurd (no-timer_mutex (what_at script t) timer (subst (λ m. IsTrue (is_mutex script m)) is names))
+operation-slot script (Instr.Lock m) (suc k) t timer names e = cc
+operation-slot script (Instr.Wait w) zero t timer names e = let is : w ≡ t = cc in absurd (no-timer_wg (what_at script t) timer (subst (λ w. IsTrue (is_wg script w)) is names))
+operation-slot script (Instr.Wait w) (suc k) t timer names e = cc
+operation-slot script _ n t timer names e = cc
 
 slot-times : (script : Script) (t : ℕ) (kinds : List CaseKind) (k : ℕ) → is_timer script t ≡ true → slice_get kinds k ≡ Some (CaseKind.Recv t)
     → 0 < times t (filter_map (timer_of script) kinds)
@@ -78,9 +93,10 @@ IsReceiver script s t p = AtOperation script s p (CaseKind.Recv t)
 abbrev awaited_in : Script → Option Instr → List ℕ
 awaited_in script o = elim o as (λ _. List ℕ) [ None ↦ [] | Some i ↦ timers_of script i ]
 
-receiver-awaits : (script : Script) (s : State) (t : ℕ) (p : Party) → is_timer script t ≡ true → IsReceiver script s t p → 0 < times t (awaited_by script s p.g)
-receiver-awaits script s t p timer at =
-    let slot = operation-slot at.instr p.case_no t at.has in
+receiver-awaits : (script : Script) (s : State) (t : ℕ) (p : Party) → IsGood script → is_timer script t ≡ true → IsReceiver script s t p → 0 < times t (awaited_by script s p.g)
+receiver-awaits script s t p good timer at =
+    let st : Standing script s p.g at.instr = standing script s p.g at.instr at.stands in
+    let slot = operation-slot script at.instr p.case_no t timer (names-instr_at script st.who.place at.instr good st.on) at.has in
     subst (λ o. 0 < times t (awaited_in script o)) (sym at.stands) (slot-times script t (operations_of at.instr) slot.0 timer slot.1)
 
 awaits-receiver : (script : Script) (s : State) (t g : ℕ) → 0 < times t (awaited_by script s g) → (p : Party) × IsReceiver script s t p
@@ -105,7 +121,7 @@ receiver-marked x t p lawful nobody fit timer at =
     let v : BookView = x.book in
     let parked = waiting v p.g at.instr lawful nobody at.stands in
     let marks : marks_at v.schedule p.g ≡ awaited_by v.script v.state p.g = subst (MarkFits (marks_at v.schedule p.g) (awaited_by v.script v.state p.g)) parked.1 (fit p.g) in
-    has-count v.schedule p.g t (subst (λ ts. 0 < times t ts) (sym marks) (receiver-awaits v.script v.state t p timer at))
+    has-count v.schedule p.g t (subst (λ ts. 0 < times t ts) (sym marks) (receiver-awaits v.script v.state t p lawful.good timer at))
   where
     has-count : (m : Schedule) (g t : ℕ) → 0 < times t (marks_at m g) → 0 < mark_count m t
     has-count m g t h =

@@ -17,14 +17,15 @@ use std::alloc::Global;
 /// The number of the heap.
 const HEAP: u32 = 0;
 
-/// The kind of the record of a declaration. A function's and a channel's are never set.
+/// The kind of the record of a declaration. That of what is no timer is never set.
 fn kind_of(what: &What) -> RecKind
     ensures { result ≡ kind_at what.now }
 {
     match what {
         What::Timer => RecKind::Timer,
         What::Ticker => RecKind::Ticker,
-        What::AfterFunc { .. } | What::Chan { .. } | What::Function => RecKind::Func,
+        What::AfterFunc { .. } | What::Chan { .. } | What::Mutex | What::Wg | What::Function =>
+            RecKind::Func,
     }
 }
 

@@ -1,8 +1,8 @@
 -- What a line is made of.
-use Rattle.std.specs.Prelude.{ℕ, Bool, true, false}
+use Rattle.std.specs.Prelude.{ℕ, ◌+◌, Bool, true, false}
 use Rattle.std.specs.declared.option.Option.{Option}
 use Rattle.std.specs.declared.option.Option.TheVariants.{None, Some}
-use Rattle.gt_model.specs.Good.{most_passes, most_capacity}
+use Rattle.gt_model.specs.Good.{most_passes, most_capacity, most_added}
 use Rattle.gt_model.specs.Times.{greatest_time}
 use Rattle.gt_table.specs.declared.form.Arg.{Arg}
 use Rattle.gt_table.specs.declared.form.Kind.{Kind}
@@ -32,6 +32,8 @@ is_kind_function Kind.Timer = false
 is_kind_function Kind.Ticker = false
 is_kind_function Kind.AfterFunc = false
 is_kind_function Kind.Chan = false
+is_kind_function Kind.Mutex = false
+is_kind_function Kind.Wg = false
 is_kind_function Kind.Function = true
 
 -- a timer that is set and stopped
@@ -40,6 +42,8 @@ is_kind_setting Kind.Timer = true
 is_kind_setting Kind.Ticker = true
 is_kind_setting Kind.AfterFunc = true
 is_kind_setting Kind.Chan = false
+is_kind_setting Kind.Mutex = false
+is_kind_setting Kind.Wg = false
 is_kind_setting Kind.Function = false
 
 -- a timer that is received from
@@ -48,6 +52,8 @@ is_kind_timer Kind.Timer = true
 is_kind_timer Kind.Ticker = true
 is_kind_timer Kind.AfterFunc = false
 is_kind_timer Kind.Chan = false
+is_kind_timer Kind.Mutex = false
+is_kind_timer Kind.Wg = false
 is_kind_timer Kind.Function = false
 
 abbrev pub is_kind_chan : Kind → Bool
@@ -55,6 +61,8 @@ is_kind_chan Kind.Timer = false
 is_kind_chan Kind.Ticker = false
 is_kind_chan Kind.AfterFunc = false
 is_kind_chan Kind.Chan = true
+is_kind_chan Kind.Mutex = false
+is_kind_chan Kind.Wg = false
 is_kind_chan Kind.Function = false
 
 -- what is received from
@@ -63,7 +71,27 @@ is_kind_source Kind.Timer = true
 is_kind_source Kind.Ticker = true
 is_kind_source Kind.AfterFunc = false
 is_kind_source Kind.Chan = true
+is_kind_source Kind.Mutex = false
+is_kind_source Kind.Wg = false
 is_kind_source Kind.Function = false
+
+abbrev pub is_kind_mutex : Kind → Bool
+is_kind_mutex Kind.Timer = false
+is_kind_mutex Kind.Ticker = false
+is_kind_mutex Kind.AfterFunc = false
+is_kind_mutex Kind.Chan = false
+is_kind_mutex Kind.Mutex = true
+is_kind_mutex Kind.Wg = false
+is_kind_mutex Kind.Function = false
+
+abbrev pub is_kind_wg : Kind → Bool
+is_kind_wg Kind.Timer = false
+is_kind_wg Kind.Ticker = false
+is_kind_wg Kind.AfterFunc = false
+is_kind_wg Kind.Chan = false
+is_kind_wg Kind.Mutex = false
+is_kind_wg Kind.Wg = true
+is_kind_wg Kind.Function = false
 
 -- the declaration of a function opens it
 abbrev pub opens : Role → Bool
@@ -111,11 +139,14 @@ is_wanted Arg.NewName = true
 is_wanted Arg.Setting = true
 is_wanted Arg.Channel = true
 is_wanted Arg.Source = true
+is_wanted Arg.Mutex = true
+is_wanted Arg.WaitGroup = true
 is_wanted Arg.Function = true
 is_wanted Arg.Duration = true
 is_wanted Arg.Number = true
 is_wanted Arg.Passes = true
 is_wanted Arg.Capacity = true
+is_wanted Arg.Added = true
 
 -- whether a word of this kind spells an amount; the others are names
 abbrev pub is_amount : Arg → Bool
@@ -124,21 +155,27 @@ is_amount Arg.NewName = false
 is_amount Arg.Setting = false
 is_amount Arg.Channel = false
 is_amount Arg.Source = false
+is_amount Arg.Mutex = false
+is_amount Arg.WaitGroup = false
 is_amount Arg.Function = false
 is_amount Arg.Duration = true
 is_amount Arg.Number = true
 is_amount Arg.Passes = true
 is_amount Arg.Capacity = true
+is_amount Arg.Added = true
 
--- the greatest value of a word of this kind: a place and a number have 32 bits, a duration is a time
+-- the greatest value of a word of this kind: a place and a number have 32 bits, a duration is a time, and what is added counts from the least that is
 abbrev pub most_of : Arg → ℕ
 most_of Arg.Nothing = 0
 most_of Arg.NewName = 4294967295
 most_of Arg.Setting = 4294967295
 most_of Arg.Channel = 4294967295
 most_of Arg.Source = 4294967295
+most_of Arg.Mutex = 4294967295
+most_of Arg.WaitGroup = 4294967295
 most_of Arg.Function = 4294967295
 most_of Arg.Duration = greatest_time
 most_of Arg.Number = 4294967295
 most_of Arg.Passes = most_passes
 most_of Arg.Capacity = most_capacity
+most_of Arg.Added = most_added + most_added

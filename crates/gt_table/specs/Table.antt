@@ -1,11 +1,12 @@
 -- The table of the words that a line may begin with, or that may stand behind `case`: where such a line stands, what follows the word, and what the line does.
-use Rattle.std.specs.Prelude.{ℕ, if◌then◌else◌, List, [], ◌∷◌, codes}
+use Rattle.std.specs.Prelude.{ℕ, pos, negsuc, ◌-ℤ◌, if◌then◌else◌, List, [], ◌∷◌, codes}
 use Rattle.std.specs.Str.{bytes_eq}
 use Rattle.std.specs.declared.option.Option.{Option}
 use Rattle.std.specs.declared.option.Option.TheVariants.{None, Some}
 use Rattle.gt_model.specs.declared.script.CaseKind.{CaseKind}
 use Rattle.gt_model.specs.declared.script.Instr.{Instr}
 use Rattle.gt_model.specs.declared.script.What.{What}
+use Rattle.gt_model.specs.Good.{most_added}
 use Rattle.gt_table.specs.declared.form.Arg.{Arg}
 use Rattle.gt_table.specs.declared.form.Form.{Form}
 use Rattle.gt_table.specs.declared.form.Kind.{Kind}
@@ -22,12 +23,15 @@ pub record Row : Type 0 where
 abbrev row : List ℕ → Role → Arg → Arg → (ℕ → ℕ → Step) → Row
 row word role first second step = record { word = word; form = record { role = role; first = first; second = second }; step = step }
 
--- An object's value is its place among the names, and a function's its place among the functions. A new name's is its own place
+-- An object's value is its place among the names, and a function's its place among the functions. A new name's is its own place. That of what is added is how
+-- far it lies above the least that is
 abbrev pub row_of : Keyword → Row
 row_of Keyword.Timer = row (codes "timer") (Role.Declares Kind.Timer) Arg.NewName Arg.Nothing (λ a b. Step.Declare What.Timer)
 row_of Keyword.Ticker = row (codes "ticker") (Role.Declares Kind.Ticker) Arg.NewName Arg.Nothing (λ a b. Step.Declare What.Ticker)
 row_of Keyword.AfterFunc = row (codes "afterfunc") (Role.Declares Kind.AfterFunc) Arg.NewName Arg.Function (λ a f. Step.Declare (What.AfterFunc f))
 row_of Keyword.Chan = row (codes "chan") (Role.Declares Kind.Chan) Arg.NewName Arg.Capacity (λ a cap. Step.Declare (What.Chan cap))
+row_of Keyword.Mutex = row (codes "mutex") (Role.Declares Kind.Mutex) Arg.NewName Arg.Nothing (λ a b. Step.Declare What.Mutex)
+row_of Keyword.Wg = row (codes "wg") (Role.Declares Kind.Wg) Arg.NewName Arg.Nothing (λ a b. Step.Declare What.Wg)
 row_of Keyword.Func = row (codes "func") (Role.Declares Kind.Function) Arg.NewName Arg.Nothing (λ decl b. Step.Open decl)
 row_of Keyword.End = row (codes "end") Role.Closes Arg.Nothing Arg.Nothing (λ a b. Step.Close)
 row_of Keyword.Loop = row (codes "loop") Role.Loops Arg.Passes Arg.Nothing (λ n b. Step.Loop n)
@@ -46,11 +50,17 @@ row_of Keyword.Recv = row (codes "recv") Role.Acts Arg.Source Arg.Nothing (λ o 
 row_of Keyword.Make = row (codes "make") Role.Acts Arg.Channel Arg.Nothing (λ c b. Step.Do (Instr.Make c))
 row_of Keyword.Send = row (codes "send") Role.Acts Arg.Channel Arg.Number (λ c v. Step.Do (Instr.Send c v))
 row_of Keyword.Close = row (codes "close") Role.Acts Arg.Channel Arg.Nothing (λ c b. Step.Do (Instr.Close c))
+row_of Keyword.Lock = row (codes "lock") Role.Acts Arg.Mutex Arg.Nothing (λ m b. Step.Do (Instr.Lock m))
+row_of Keyword.Unlock = row (codes "unlock") Role.Acts Arg.Mutex Arg.Nothing (λ m b. Step.Do (Instr.Unlock m))
+row_of Keyword.Add = row (codes "add") Role.Acts Arg.WaitGroup Arg.Added (λ w n. Step.Do (Instr.Add w (pos n -ℤ pos most_added)))
+row_of Keyword.Done = row (codes "done") Role.Acts Arg.WaitGroup Arg.Nothing (λ w b. Step.Do (Instr.Add w (negsuc 0)))
+row_of Keyword.Wait = row (codes "wait") Role.Acts Arg.WaitGroup Arg.Nothing (λ w b. Step.Do (Instr.Wait w))
 
 abbrev pub keywords : List Keyword
 keywords =
-    Keyword.Timer ∷ Keyword.Ticker ∷ Keyword.AfterFunc ∷ Keyword.Chan ∷ Keyword.Func ∷ Keyword.End ∷ Keyword.Loop ∷ Keyword.Select ∷ Keyword.Default ∷ Keyword.Say ∷ Keyword.Now ∷ Keyword.Sleep ∷ Keyword.Go ∷ Keyword.New
-    ∷ Keyword.Stop ∷ Keyword.Reset ∷ Keyword.Recv ∷ Keyword.Make ∷ Keyword.Send ∷ Keyword.Close ∷ []
+    Keyword.Timer ∷ Keyword.Ticker ∷ Keyword.AfterFunc ∷ Keyword.Chan ∷ Keyword.Mutex ∷ Keyword.Wg ∷ Keyword.Func ∷ Keyword.End ∷ Keyword.Loop ∷ Keyword.Select ∷ Keyword.Default ∷ Keyword.Say ∷ Keyword.Now ∷ Keyword.Sleep ∷ Keyword.Go ∷ Keyword.New
+    ∷ Keyword.Stop ∷ Keyword.Reset ∷ Keyword.Recv ∷ Keyword.Make ∷ Keyword.Send ∷ Keyword.Close
+    ∷ Keyword.Lock ∷ Keyword.Unlock ∷ Keyword.Add ∷ Keyword.Done ∷ Keyword.Wait ∷ []
 
 abbrev pub keyword_in : List Keyword → List ℕ → Option Keyword
 keyword_in [] word = None

@@ -11,6 +11,8 @@ pub enum Kind {
     Ticker,
     AfterFunc,
     Chan,
+    Mutex,
+    Wg,
     Function,
 }
 
@@ -27,6 +29,10 @@ pub enum Arg {
     Channel,
     /// The name of a channel timer or of a channel.
     Source,
+    /// The name of a mutex.
+    Mutex,
+    /// The name of a WaitGroup.
+    WaitGroup,
     /// The name of a function.
     Function,
     /// A duration.
@@ -37,6 +43,8 @@ pub enum Arg {
     Passes,
     /// How many values a channel keeps at most: 0 to 1,024.
     Capacity,
+    /// What is added to a counter: -1,000,000 to 1,000,000. Values are not below 0, so that of its word is how far it lies above -1,000,000: 0 to 2,000,000.
+    Added,
 }
 
 /// Where a line stands, and what it is there.
@@ -104,7 +112,7 @@ impl Arg {
     {
         matches!(
             self,
-            Arg::Duration | Arg::Number | Arg::Passes | Arg::Capacity
+            Arg::Duration | Arg::Number | Arg::Passes | Arg::Capacity | Arg::Added
         )
     }
 }

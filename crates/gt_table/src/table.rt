@@ -1,10 +1,14 @@
 //! The keywords: one row for each says what it wants and what it does.
 
 ghost use Rattle.std.specs.Prelude.{◌≡◌};
+ghost use Rattle.gt_model.specs.declared.script.Instr.{Instr};
 ghost use Rattle.gt_table.specs.Table.{keyword_of, case_keyword_of};
 
 use crate::form::{Arg, Form, Kind, Role, Step};
 use gt_model::{CaseKind, Instr, What};
+
+/// How much is added to a counter at most, or taken from it.
+const MOST_ADDED: i64 = 1_000_000;
 
 /// A word that a line may begin with, or that may stand behind `case`.
 #[derive(Clone, Copy, Debug, PartialEq, Eq)]
@@ -13,6 +17,8 @@ pub enum Keyword {
     Ticker,
     AfterFunc,
     Chan,
+    Mutex,
+    Wg,
     Func,
     End,
     Loop,
@@ -33,6 +39,11 @@ pub enum Keyword {
     Make,
     Send,
     Close,
+    Lock,
+    Unlock,
+    Add,
+    Done,
+    Wait,
 }
 
 /// The keyword that the first word of a line is, if it is one. That of a case has two words: [`read_case`] reads the second one.
@@ -44,6 +55,8 @@ pub fn read_keyword(word: &[u8]) -> Option<Keyword>
         b"ticker" => Some(Keyword::Ticker),
         b"afterfunc" => Some(Keyword::AfterFunc),
         b"chan" => Some(Keyword::Chan),
+        b"mutex" => Some(Keyword::Mutex),
+        b"wg" => Some(Keyword::Wg),
         b"func" => Some(Keyword::Func),
         b"end" => Some(Keyword::End),
         b"loop" => Some(Keyword::Loop),
@@ -60,6 +73,11 @@ pub fn read_keyword(word: &[u8]) -> Option<Keyword>
         b"make" => Some(Keyword::Make),
         b"send" => Some(Keyword::Send),
         b"close" => Some(Keyword::Close),
+        b"lock" => Some(Keyword::Lock),
+        b"unlock" => Some(Keyword::Unlock),
+        b"add" => Some(Keyword::Add),
+        b"done" => Some(Keyword::Done),
+        b"wait" => Some(Keyword::Wait),
         _ => None,
     }
 }
@@ -76,29 +94,24 @@ pub fn read_case(word: &[u8]) -> Option<Keyword>
 }
 
 impl Keyword {
-    ghost use Rattle.std.specs.Prelude.{◌≡◌, ◌≤◌};
-    ghost use Rattle.gt_table.specs.Forms.{most_of};
+    ghost use Rattle.std.specs.Prelude.{◌≡◌, ◌≤◌, true};
+    ghost use Rattle.gt_table.specs.declared.form.Role.{Role};
+    ghost use Rattle.gt_table.specs.declared.form.Step.{Step};
+    ghost use Rattle.gt_table.specs.Forms.{most_of, is_declaration};
     ghost use Rattle.gt_table.specs.Table.{form_of, step_of};
 
     /// Where a line with it stands, and what follows it there.
     pub fn form(self) -> Form
         ensures { result ≡ form_of self }
     {
-        let timer = Role::Declares { kind: Kind::Timer };
-        let ticker = Role::Declares { kind: Kind::Ticker };
-        let after_func = Role::Declares {
-            kind: Kind::AfterFunc,
-        };
-        let channel = Role::Declares { kind: Kind::Chan };
-        let function = Role::Declares {
-            kind: Kind::Function,
-        };
         match self {
-            Keyword::Timer => Form::new(timer, Arg::NewName, Arg::Nothing),
-            Keyword::Ticker => Form::new(ticker, Arg::NewName, Arg::Nothing),
-            Keyword::AfterFunc => Form::new(after_func, Arg::NewName, Arg::Function),
-            Keyword::Chan => Form::new(channel, Arg::NewName, Arg::Capacity),
-            Keyword::Func => Form::new(function, Arg::NewName, Arg::Nothing),
+            Keyword::Timer => declares(Kind::Timer, Arg::Nothing),
+            Keyword::Ticker => declares(Kind::Ticker, Arg::Nothing),
+            Keyword::AfterFunc => declares(Kind::AfterFunc, Arg::Function),
+            Keyword::Chan => declares(Kind::Chan, Arg::Capacity),
+            Keyword::Mutex => declares(Kind::Mutex, Arg::Nothing),
+            Keyword::Wg => declares(Kind::Wg, Arg::Nothing),
+            Keyword::Func => declares(Kind::Function, Arg::Nothing),
             Keyword::End => Form::new(Role::Closes, Arg::Nothing, Arg::Nothing),
             Keyword::Loop => Form::new(Role::Loops, Arg::Passes, Arg::Nothing),
             Keyword::Select => Form::new(Role::Selects, Arg::Nothing, Arg::Nothing),
@@ -114,6 +127,9 @@ impl Keyword {
             Keyword::Recv => Form::new(Role::Acts, Arg::Source, Arg::Nothing),
             Keyword::Send => Form::new(Role::Acts, Arg::Channel, Arg::Number),
             Keyword::Make | Keyword::Close => Form::new(Role::Acts, Arg::Channel, Arg::Nothing),
+            Keyword::Lock | Keyword::Unlock => Form::new(Role::Acts, Arg::Mutex, Arg::Nothing),
+            Keyword::Add => Form::new(Role::Acts, Arg::WaitGroup, Arg::Added),
+            Keyword::Done | Keyword::Wait => Form::new(Role::Acts, Arg::WaitGroup, Arg::Nothing),
         }
     }
 
@@ -124,17 +140,13 @@ impl Keyword {
         ensures { result ≡ step_of self first second }
     {
         match self {
-            Keyword::Timer => Step::Declare { what: What::Timer },
-            Keyword::Ticker => Step::Declare { what: What::Ticker },
-            Keyword::AfterFunc => Step::Declare {
-                what: What::AfterFunc {
-                    func: second as u32,
-                },
-            },
-            Keyword::Chan => Step::Declare {
-                what: What::Chan { cap: second as u32 },
-            },
-            Keyword::Func => Step::Open { decl: first as u32 },
+            Keyword::Timer
+            | Keyword::Ticker
+            | Keyword::AfterFunc
+            | Keyword::Chan
+            | Keyword::Mutex
+            | Keyword::Wg
+            | Keyword::Func => self.declaration(first, second),
             Keyword::End => Step::Close,
             Keyword::Loop => Step::Loop {
                 count: first as u32,
@@ -147,28 +159,85 @@ impl Keyword {
                 kind: CaseKind::Send(first as u32, second as u32),
             },
             Keyword::Default => Step::Default,
-            Keyword::Say => act(Instr::Say { n: first as u32 }),
-            Keyword::Now => act(Instr::Now),
-            Keyword::Sleep => act(Instr::Sleep { d: first }),
-            Keyword::Go => act(Instr::Go { f: first as u32 }),
-            Keyword::New => act(Instr::New {
-                t: first as u32,
-                d: second,
-            }),
-            Keyword::Stop => act(Instr::Stop { t: first as u32 }),
-            Keyword::Reset => act(Instr::Reset {
-                t: first as u32,
-                d: second,
-            }),
-            Keyword::Recv => act(Instr::Recv { o: first as u32 }),
-            Keyword::Make => act(Instr::Make { c: first as u32 }),
-            Keyword::Send => act(Instr::Send {
-                c: first as u32,
-                v: second as u32,
-            }),
-            Keyword::Close => act(Instr::Close { c: first as u32 }),
+            _ => act(self.instr(first, second)),
         }
     }
+
+    // What a line that declares a name does.
+    fn declaration(self, first: u64, second: u64) -> Step
+        requires declares { is_declaration (form_of self).role ≡ true }
+        requires first { first ≤ most_of (form_of self).first }
+        requires second { second ≤ most_of (form_of self).second }
+        ensures { result ≡ step_of self first second }
+    {
+        match self {
+            Keyword::Timer => declare(What::Timer),
+            Keyword::Ticker => declare(What::Ticker),
+            Keyword::AfterFunc => declare(What::AfterFunc {
+                func: second as u32,
+            }),
+            Keyword::Chan => declare(What::Chan { cap: second as u32 }),
+            Keyword::Mutex => declare(What::Mutex),
+            Keyword::Wg => declare(What::Wg),
+            Keyword::Func => Step::Open { decl: first as u32 },
+            _ => unreachable!(),
+        }
+    }
+
+    // The instruction of a line that is one.
+    fn instr(self, first: u64, second: u64) -> Instr
+        requires acts { (form_of self).role ≡ Role.Acts }
+        requires first { first ≤ most_of (form_of self).first }
+        requires second { second ≤ most_of (form_of self).second }
+        ensures { Step.Do result ≡ step_of self first second }
+    {
+        match self {
+            Keyword::Say => Instr::Say { n: first as u32 },
+            Keyword::Now => Instr::Now,
+            Keyword::Sleep => Instr::Sleep { d: first },
+            Keyword::Go => Instr::Go { f: first as u32 },
+            Keyword::New => Instr::New {
+                t: first as u32,
+                d: second,
+            },
+            Keyword::Stop => Instr::Stop { t: first as u32 },
+            Keyword::Reset => Instr::Reset {
+                t: first as u32,
+                d: second,
+            },
+            Keyword::Recv => Instr::Recv { o: first as u32 },
+            Keyword::Make => Instr::Make { c: first as u32 },
+            Keyword::Send => Instr::Send {
+                c: first as u32,
+                v: second as u32,
+            },
+            Keyword::Close => Instr::Close { c: first as u32 },
+            Keyword::Lock => Instr::Lock { m: first as u32 },
+            Keyword::Unlock => Instr::Unlock { m: first as u32 },
+            Keyword::Add => add(first as u32, second as i64 - MOST_ADDED),
+            Keyword::Done => add(first as u32, -1),
+            Keyword::Wait => Instr::Wait { w: first as u32 },
+            _ => unreachable!(),
+        }
+    }
+}
+
+fn declares(kind: Kind, second: Arg) -> Form
+    ensures { result ≡ record { role = Role.Declares kind; first = Arg.NewName; second = second } }
+{
+    Form::new(Role::Declares { kind }, Arg::NewName, second)
+}
+
+fn declare(what: What) -> Step
+    ensures { result ≡ Step.Declare what }
+{
+    Step::Declare { what }
+}
+
+fn add(w: u32, n: i64) -> Instr
+    ensures { result ≡ Instr.Add w n }
+{
+    Instr::Add { w, n }
 }
 
 fn act(instr: Instr) -> Step

@@ -10,4 +10,6 @@ mod scripts;
 #[cfg(test)]
 mod selects;
 #[cfg(test)]
+mod syncs;
+#[cfg(test)]
 mod tickers;

@@ -10,7 +10,7 @@ use Rattle.gt_rules.specs.After.{first_state}
 use Rattle.gt_rules.specs.History.{History, AllLegal, AllJump, state_after}
 use Rattle.gt_model.specs.Named.{AllNamed}
 use Rattle.gt_facts.proofs.Named.{AllNamed-legal}
-use Rattle.gt_laws.proofs.Laws.{each-in_order, each-in_time, each-fresh, each-passes_on, each-chooses_rightly}
+use Rattle.gt_laws.proofs.Laws.{each-in_order, each-in_time, each-fresh, each-passes_on, each-chooses_rightly, each-alone, each-adds_up}
 use Rattle.gt_laws.proofs.Made.{each-uses_rightly}
 use Rattle.gt_laws.proofs.Jumps.{each-jumps}
 use Rattle.gt_laws.proofs.Turns.{each-in_turn}
@@ -45,6 +45,8 @@ complete-IsRun script limits b outcome run lawful is =
       uses = each-uses_rightly script limits b.history outcome good complete;
       passes = each-passes_on script limits b.history outcome good complete;
       chooses = each-chooses_rightly script limits b.history outcome good complete;
+      alone = each-alone script limits b.history outcome good complete;
+      adds_up = each-adds_up script limits b.history outcome good complete;
       ends = each-ends script limits b.history outcome good complete;
       ends_where_stuck = each-ends_where_stuck script limits 0 b.history outcome good complete jumps;
       jumps_to_least = each-jumps script limits 0 b.history outcome good complete jumps;

@@ -4,4 +4,6 @@
 #[cfg(test)]
 mod selects;
 #[cfg(test)]
+mod syncs;
+#[cfg(test)]
 mod tests;

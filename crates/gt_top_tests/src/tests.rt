@@ -1,6 +1,7 @@
 //! What no clause says: that memory suffices, and how the answers read.
 
 use crate::selects::SELECTS;
+use crate::syncs::SYNCS;
 use gt_io::{SureSink, SureSource};
 use gt_model::Outcome;
 use gt_script::{ScriptFault, Why};
@@ -186,6 +187,7 @@ fn first_wrong(alloc: Global, runs: &[(&str, &str, Outcome)]) -> Result<Option<u
 fn scripts_run(rt: HostRuntime) -> Result<(), Fail> {
     assert_eq!(rt; first_wrong(rt.alloc(), RUNS)?, None);
     assert_eq!(rt; first_wrong(rt.alloc(), SELECTS)?, None);
+    assert_eq!(rt; first_wrong(rt.alloc(), SYNCS)?, None);
     Ok(())
 }
 

@@ -1,5 +1,6 @@
 -- The text of a history: a line for each entry.
 use Rattle.std.specs.Prelude.{ℕ, ◌==◌, if◌then◌else◌, true, false, Bool, List, [], ◌++◌, codes, decimal, map, slice_get}
+use Rattle.std.specs.Fmt.{signed_decimal}
 use Rattle.std.specs.List.{flat_map, join_with_byte}
 use Rattle.std.specs.declared.option.Option.{Option}
 use Rattle.std.specs.declared.option.Option.TheVariants.{None, Some}
@@ -8,7 +9,7 @@ use Rattle.gt_model.specs.declared.entry.Entry.{Entry}
 use Rattle.gt_model.specs.declared.entry.Outcome.{Outcome}
 use Rattle.gt_model.specs.declared.entry.Party.{Party}
 use Rattle.gt_model.specs.declared.entry.Reason.{Reason}
-use Rattle.gt_model.specs.Parts.{Part, keyword, goroutine, party, number, maybe_number, timer, after_func, setting, channel, function, flag, reason, outcome, parts_of}
+use Rattle.gt_model.specs.Parts.{Part, keyword, goroutine, party, number, maybe_number, signed, timer, after_func, setting, channel, mutex, wait_group, function, flag, reason, outcome, parts_of}
 
 -- the byte between two words
 abbrev pub space : ℕ
@@ -51,6 +52,8 @@ reason_word Reason.Unmade = codes "unmade"
 reason_word Reason.Twice = codes "twice"
 reason_word Reason.Closed = codes "closed"
 reason_word Reason.Ticker = codes "ticker"
+reason_word Reason.Negative = codes "negative"
+reason_word Reason.Unlocked = codes "unlocked"
 
 -- how a run ended
 abbrev pub outcome_word : Outcome → List ℕ
@@ -66,10 +69,13 @@ word_of script (goroutine g) = goroutine_word g
 word_of script (party p) = party_word p
 word_of script (number n) = decimal n
 word_of script (maybe_number n) = maybe_word n
+word_of script (signed n) = signed_decimal n
 word_of script (timer t) = name_of script t
 word_of script (after_func t) = name_of script t
 word_of script (setting t) = name_of script t
 word_of script (channel c) = name_of script c
+word_of script (mutex m) = name_of script m
+word_of script (wait_group w) = name_of script w
 word_of script (function f) = function_name script f
 word_of script (flag b) = flag_word b
 word_of script (reason why) = reason_word why

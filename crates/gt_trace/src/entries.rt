@@ -12,6 +12,7 @@ use crate::line::{
     push_party, push_word,
 };
 use crate::names::name_of_function;
+use crate::syncs::{fill_add, fill_mutex, fill_wait_group};
 use crate::timers::{fill_fire, fill_tick, fill_timer};
 use gt_model::{Entry, Outcome, Party, Reason, Script};
 
@@ -52,6 +53,10 @@ fn fill_words(line: &mut Line, script: &Script, entry: &Entry)
         Entry::Pair { from, to, c, v } => fill_pair(line, script, from, to, c, v),
         Entry::Close { g, c } => fill_channel(line, b"close", script, g, c),
         Entry::Default { g } => fill_goroutine(line, b"default", g),
+        Entry::Lock { g, m } => fill_mutex(line, b"lock", script, g, m),
+        Entry::Unlock { g, m } => fill_mutex(line, b"unlock", script, g, m),
+        Entry::Add { g, w, n } => fill_add(line, script, g, w, n),
+        Entry::WgWait { g, w } => fill_wait_group(line, b"wait", script, g, w),
         Entry::Clock { world, at } => fill_clock(line, world, at),
         Entry::Panic { p, reason } => fill_panic(line, p, reason),
         Entry::Finish { outcome } => fill_outcome(line, outcome),
@@ -172,6 +177,8 @@ fn fill_panic(line: &mut Line, p: Party, reason: Reason)
         Reason::Twice => push_word(line, b"twice"),
         Reason::Closed => push_word(line, b"closed"),
         Reason::Ticker => push_word(line, b"ticker"),
+        Reason::Negative => push_word(line, b"negative"),
+        Reason::Unlocked => push_word(line, b"unlocked"),
     }
 }
 

@@ -6,6 +6,7 @@ mod entries;
 mod line;
 mod names;
 mod print;
+mod syncs;
 mod timers;
 
 pub use print::{write_line, write_trace};

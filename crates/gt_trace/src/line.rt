@@ -1,5 +1,6 @@
 // A line as it is built, a word after another.
 ghost use Rattle.std.specs.Prelude.{◌≡◌, ◌+◌, ◌≤◌, ◌∷◌, ◌++◌, length, decimal};
+ghost use Rattle.std.specs.Fmt.{signed_decimal};
 ghost use Rattle.arrayvec.specs.ArrayVec.{array_vec_len};
 ghost use Rattle.gt_trace.specs.Text.{space, goroutine_word, party_word, maybe_word, flag_word};
 
@@ -52,6 +53,15 @@ pub fn push_number(line: &mut Line, number: u64)
 {
     line.push(b' ');
     push_decimal(line, number);
+}
+
+/// Appends a space and a number that may be below 0, with `-` in front then.
+pub fn push_signed(line: &mut Line, number: i64)
+    requires { array_vec_len line.old + 21 ≤ LINE_ROOM }
+    ensures appended { line.new.items ≡ line.old.items ++ space ∷ signed_decimal number }
+    ensures short { array_vec_len line.new ≤ array_vec_len line.old + 21 }
+{
+    push_word(line, Buffer::new().format(number).as_bytes());
 }
 
 /// Appends a space and a goroutine.

@@ -6,5 +6,5 @@ use Rattle.gt_machine.proofs.places.first_place.Goals as goal
 
 pub settled_in-requires : goal.settled_in-requires
 settled_in-requires c =
-    let is : c.in-Some.code.now ≡ code_of c.args.script.now c.args.f = c.in-Some.ensures in
+    let is : c.in-Some.code.now ≡ code_of c.args.script.now c.args.f = c.in-Some.ensures.1 in
     subst IsWalkable (sym is) (code_walkable c.args.script.now c.args.f c.requires)

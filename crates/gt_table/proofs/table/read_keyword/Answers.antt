@@ -2,6 +2,12 @@ use Rattle.std.proofs.Common.{rules, ◌≡◌, codes, List, ℕ, arith}
 use Rattle.std.proofs.lemmas.Slice.Eq.{text_from_reads}
 use Rattle.gt_table.proofs.table.read_keyword.Goals as goal
 
+pub returns-in-timer : goal.returns-in-timer
+returns-in-timer c =
+    let word : List ℕ = c.args.word.now in
+    let is : word ≡ codes "timer" = text_from_reads word (codes "timer") (omega arith) (search rules) in
+    rw is
+
 pub returns-in-afterfunc : goal.returns-in-afterfunc
 returns-in-afterfunc c =
     let word : List ℕ = c.args.word.now in
@@ -12,6 +18,12 @@ pub returns-in-ticker : goal.returns-in-ticker
 returns-in-ticker c =
     let word : List ℕ = c.args.word.now in
     let is : word ≡ codes "ticker" = text_from_reads word (codes "ticker") (omega arith) (search rules) in
+    rw is
+
+pub returns-in-mutex : goal.returns-in-mutex
+returns-in-mutex c =
+    let word : List ℕ = c.args.word.now in
+    let is : word ≡ codes "mutex" = text_from_reads word (codes "mutex") (omega arith) (search rules) in
     rw is
 
 pub returns-in-reset : goal.returns-in-reset
@@ -36,6 +48,12 @@ pub returns-in-select : goal.returns-in-select
 returns-in-select c =
     let word : List ℕ = c.args.word.now in
     let is : word ≡ codes "select" = text_from_reads word (codes "select") (omega arith) (search rules) in
+    rw is
+
+pub returns-in-unlock : goal.returns-in-unlock
+returns-in-unlock c =
+    let word : List ℕ = c.args.word.now in
+    let is : word ≡ codes "unlock" = text_from_reads word (codes "unlock") (omega arith) (search rules) in
     rw is
 
 -- `default`

@@ -7,8 +7,8 @@ make-requires c = (c.args.limits, c.requires.can)
 
 pub wake-requires : goal.wake-requires
 wake-requires c =
-    can-wake c.args.script.now c.args.limits c.args.self.now c.make.new.self c.args.entry c.requires (c.make.ensures c.args.limits c.requires.can) c.in-Some.c c.in-Some.field-0-1
-    (sym c.channel_of.ensures ∙ c.in-Some.is)
+    can-wake c.args.script.now c.args.limits c.args.self.now c.make.new.self c.args.entry c.requires (c.make.ensures c.args.limits c.requires.can) c.in-Some.o
+    (sym c.changed_object.ensures ∙ c.in-Some.is)
 
 pub returns-in-Some : goal.returns-in-Some
 returns-in-Some c =
@@ -17,4 +17,4 @@ returns-in-Some c =
 pub returns-in_default : goal.returns-in_default
 returns-in_default c =
     entered-alone c.args.script.now c.args.limits c.args.self.now c.make.new.self c.args.entry c.requires (c.make.ensures c.args.limits c.requires.can)
-    (sym c.channel_of.ensures ∙ c.in_default.is)
+    (sym c.changed_object.ensures ∙ c.in_default.is)

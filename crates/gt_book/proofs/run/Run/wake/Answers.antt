@@ -8,45 +8,45 @@ use Rattle.gt_book.proofs.Waking.{waking-first, waking-lists, waking-can, waking
 use Rattle.gt_book.proofs.run.Run.wake.Goals as goal
 
 pub loop-limits-init : goal.loop-limits-init
-loop-limits-init c = waking-first c.args.script.now c.args.limits c.args.self.now c.args.c c.requires
+loop-limits-init c = waking-first c.args.script.now c.args.limits c.args.self.now c.args.o c.requires
 
 pub next_woken-requires-clause-kept : goal.next_woken-requires-clause-kept
 next_woken-requires-clause-kept c = c.loop-limits.invariant.can.kept.rooms.scheduler
 
 pub next_woken-requires-clause-receivers : goal.next_woken-requires-clause-receivers
-next_woken-requires-clause-receivers c = (waking-lists c.args.script.now c.args.limits c.args.self.now c.loop-limits.self c.args.c c.loop-limits.invariant).receivers
+next_woken-requires-clause-receivers c = (waking-lists c.args.script.now c.args.limits c.args.self.now c.loop-limits.self c.args.o c.loop-limits.invariant).receivers
 
 pub next_woken-requires-clause-senders : goal.next_woken-requires-clause-senders
-next_woken-requires-clause-senders c = (waking-lists c.args.script.now c.args.limits c.args.self.now c.loop-limits.self c.args.c c.loop-limits.invariant).senders
+next_woken-requires-clause-senders c = (waking-lists c.args.script.now c.args.limits c.args.self.now c.loop-limits.self c.args.o c.loop-limits.invariant).senders
 
 pub returns-in_default : goal.returns-in_default
 returns-in_default c =
-    wakes-none c.args.script.now c.args.limits c.args.self.now c.loop-limits.self c.args.c c.loop-limits.invariant (sym c.next_woken.ensures ∙ c.in_default.is)
+    wakes-none c.args.script.now c.args.limits c.args.self.now c.loop-limits.self c.args.o c.loop-limits.invariant (sym c.next_woken.ensures ∙ c.in_default.is)
 
 pub make-requires : goal.make-requires
 make-requires c = (
   c.args.limits,
-  waking-can c.args.script.now c.args.limits c.args.self.now c.loop-limits.self c.args.c c.in-Some.entry c.loop-limits.invariant (sym c.next_woken.ensures ∙ c.in-Some.is)
+  waking-can c.args.script.now c.args.limits c.args.self.now c.loop-limits.self c.args.o c.in-Some.entry c.loop-limits.invariant (sym c.next_woken.ensures ∙ c.in-Some.is)
       (none-due c.args.limits c.loop-limits.self c.due_outcome.result c.is_none.result c.due_outcome.ensures c.is_none.ensures c.loop-limits-test.true),
 )
 
 pub loop-limits-smaller : goal.loop-limits-smaller
 loop-limits-smaller c =
     let can : CanMake c.args.script.now c.args.limits c.loop-limits.self c.in-Some.entry =
-    waking-can c.args.script.now c.args.limits c.args.self.now c.loop-limits.self c.args.c c.in-Some.entry c.loop-limits.invariant (sym c.next_woken.ensures ∙ c.in-Some.is)
+    waking-can c.args.script.now c.args.limits c.args.self.now c.loop-limits.self c.args.o c.in-Some.entry c.loop-limits.invariant (sym c.next_woken.ensures ∙ c.in-Some.is)
     (none-due c.args.limits c.loop-limits.self c.due_outcome.result c.is_none.result c.due_outcome.ensures c.is_none.ensures c.loop-limits-test.true) in
-    waking-less c.args.script.now c.args.limits c.args.self.now c.loop-limits.self c.make.new.self c.args.c c.in-Some.entry can (c.make.ensures c.args.limits can)
+    waking-less c.args.script.now c.args.limits c.args.self.now c.loop-limits.self c.make.new.self c.args.o c.in-Some.entry can (c.make.ensures c.args.limits can)
 
 pub loop-limits-preserved : goal.loop-limits-preserved
 loop-limits-preserved c =
     let none : due_outcome c.args.limits (state_of c.loop-limits.self.machine) ≡ None =
     none-due c.args.limits c.loop-limits.self c.due_outcome.result c.is_none.result c.due_outcome.ensures c.is_none.ensures c.loop-limits-test.true in
-    let next : next_woken c.args.script.now (state_of c.loop-limits.self.machine) (schedule_of c.loop-limits.self.scheduler) c.args.c ≡ Some c.in-Some.entry = sym c.next_woken.ensures ∙ c.in-Some.is in
+    let next : next_woken c.args.script.now (state_of c.loop-limits.self.machine) (schedule_of c.loop-limits.self.scheduler) c.args.o ≡ Some c.in-Some.entry = sym c.next_woken.ensures ∙ c.in-Some.is in
     let can : CanMake c.args.script.now c.args.limits c.loop-limits.self c.in-Some.entry =
-    waking-can c.args.script.now c.args.limits c.args.self.now c.loop-limits.self c.args.c c.in-Some.entry c.loop-limits.invariant next none in
-    waking-more c.args.script.now c.args.limits c.args.self.now c.loop-limits.self c.args.c c.in-Some.entry c.loop-limits.invariant next none c.make.new.self (c.make.ensures c.args.limits can)
+    waking-can c.args.script.now c.args.limits c.args.self.now c.loop-limits.self c.args.o c.in-Some.entry c.loop-limits.invariant next none in
+    waking-more c.args.script.now c.args.limits c.args.self.now c.loop-limits.self c.args.o c.in-Some.entry c.loop-limits.invariant next none c.make.new.self (c.make.ensures c.args.limits can)
 
 pub returns : goal.returns
 returns c =
     let due = some-due c.args.limits c.loop-limits.self c.due_outcome.result c.is_none.result c.due_outcome.ensures c.is_none.ensures c.loop-limits-test.false in
-    wakes-due c.args.script.now c.args.limits c.args.self.now c.loop-limits.self c.args.c due.0 c.loop-limits.invariant due.1
+    wakes-due c.args.script.now c.args.limits c.args.self.now c.loop-limits.self c.args.o due.0 c.loop-limits.invariant due.1

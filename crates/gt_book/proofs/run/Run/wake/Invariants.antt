@@ -3,7 +3,7 @@ use Rattle.gt_book.proofs.Waking.{Waking}
 use Rattle.gt_book.proofs.run.Run.wake.Given as goal
 
 abbrev pub invariant-loop-limits : goal.invariant-loop-limits
-invariant-loop-limits l = Waking l.script l.limits l.fn.self l.self l.c
+invariant-loop-limits l = Waking l.script l.limits l.fn.self l.self l.o
 
 abbrev pub decreases-loop-limits : goal.decreases-loop-limits
 decreases-loop-limits l = l.limits.entries - l.self.machine.entries

@@ -3,9 +3,10 @@ use Rattle.gt_model.specs.declared.state.Goroutine.{Goroutine}
 use Rattle.gt_rules.specs.State.{State}
 use Rattle.gt_rules.specs.Change.{change_of}
 use Rattle.gt_rules.specs.After.{with_mover}
-use Rattle.gt_machine.specs.Machine.{state_of, IsInside, IsTradable}
+use Rattle.gt_machine.specs.Machine.{state_of, IsInside, IsTradable, IsSteppable}
 use Rattle.gt_machine.proofs.Machines.{inside-May, within-May, partner-May}
 use Rattle.gt_machine.proofs.Channels.{tradable-May}
+use Rattle.gt_machine.proofs.Syncs.{steppable-May}
 use Rattle.gt_machine.proofs.Applied.{applied}
 use Rattle.gt_machine.proofs.machine.Machine.apply.Goals as goal
 
@@ -19,10 +20,18 @@ trade-requires c =
     subst (λ chs. IfSome c.channel_of.result (λ x. IsTradable chs x.0 x.1)) (sym same)
     (rw c.channel_of.ensures (tradable-May c.args.script.now c.args.self.now c.args.entry.now c.requires.good c.requires.formed c.requires.may c.requires.channels))
 
+pub step_sync-requires : goal.step_sync-requires
+step_sync-requires c =
+    let retimed : c.retime.new.self.syncs.items ≡ c.args.self.now.syncs.items = ap (λ (s : State). s.syncs) c.retime.ensures.state in
+    let same : c.trade.new.self.syncs.items ≡ c.args.self.now.syncs.items = ap (λ (s : State). s.syncs) c.trade.ensures.state ∙ retimed in
+    subst (λ syncs. IfSome c.sync_of.result (λ x. IsSteppable syncs x.0 x.1)) (sym same)
+    (rw c.sync_of.ensures (steppable-May c.args.script.now (state_of c.args.self.now) c.args.entry.now c.requires.good c.requires.formed c.requires.may c.requires.few))
+
 pub move_on-requires-clause-inside : goal.move_on-requires-clause-inside
 move_on-requires-clause-inside c =
     let retimed : c.retime.new.self.goroutines.items ≡ c.args.self.now.goroutines.items = ap (λ (s : State). s.goroutines) c.retime.ensures.state in
-    let same : c.trade.new.self.goroutines.items ≡ c.args.self.now.goroutines.items = ap (λ (s : State). s.goroutines) c.trade.ensures.state ∙ retimed in
+    let traded : c.trade.new.self.goroutines.items ≡ c.args.self.now.goroutines.items = ap (λ (s : State). s.goroutines) c.trade.ensures.state ∙ retimed in
+    let same : c.step_sync.new.self.goroutines.items ≡ c.args.self.now.goroutines.items = ap (λ (s : State). s.goroutines) c.step_sync.ensures.state ∙ traded in
     subst (λ gs. IfSome c.mover_of-mover.result (λ x. IsInside gs x.0)) (sym same)
     (rw c.mover_of-mover.ensures (inside-May c.args.script.now (state_of c.args.self.now) c.args.entry.now c.requires.good c.requires.formed c.requires.may))
 
@@ -31,26 +40,28 @@ move_on-requires-2-clause-inside c =
     let before : List Goroutine = c.args.self.now.goroutines.items in
     let retimed : c.retime.new.self.goroutines.items ≡ before = ap (λ (s : State). s.goroutines) c.retime.ensures.state in
     let traded : c.trade.new.self.goroutines.items ≡ before = ap (λ (s : State). s.goroutines) c.trade.ensures.state ∙ retimed in
-    let moved : c.move_on.new.self.goroutines.items ≡ with_mover c.args.script.now c.trade.new.self.goroutines.items c.mover_of-mover.result =
+    let stepped : c.step_sync.new.self.goroutines.items ≡ before = ap (λ (s : State). s.goroutines) c.step_sync.ensures.state ∙ traded in
+    let moved : c.move_on.new.self.goroutines.items ≡ with_mover c.args.script.now c.step_sync.new.self.goroutines.items c.mover_of-mover.result =
     ap (λ (s : State). s.goroutines) c.move_on.ensures.state in
     let same : c.move_on.new.self.goroutines.items ≡ with_mover c.args.script.now before (change_of c.args.entry.now).mover =
-    moved ∙ (ap (λ gs. with_mover c.args.script.now gs c.mover_of-mover.result) traded ∙ ap (λ m. with_mover c.args.script.now before m) c.mover_of-mover.ensures) in
+    moved ∙ (ap (λ gs. with_mover c.args.script.now gs c.mover_of-mover.result) stepped ∙ ap (λ m. with_mover c.args.script.now before m) c.mover_of-mover.ensures) in
     subst (λ gs. IfSome c.partner_of.result (λ x. IsInside gs x.0)) (sym same)
     (rw c.partner_of.ensures (partner-May c.args.script.now (state_of c.args.self.now) c.args.entry.now c.requires.good c.requires.formed c.requires.may))
 
 pub returns-clause-state : goal.returns-clause-state
 returns-clause-state c =
-    applied c.args.script.now c.args.entry.now (state_of c.args.self.now) (state_of c.retime.new.self) (state_of c.trade.new.self) (state_of c.move_on.new.self)
+    applied c.args.script.now c.args.entry.now (state_of c.args.self.now) (state_of c.retime.new.self) (state_of c.trade.new.self) (state_of c.step_sync.new.self) (state_of c.move_on.new.self)
     (state_of c.move_on-2.new.self) (state_of c.start.new.self) (state_of c.move_clock.new.self) (state_of c.end.new.self)
-    c.mover_of-mover.result c.partner_of.result c.timer_of.result c.channel_of.result c.start_of.result c.started-begins.result c.clock_of.result c.ending_of.result c.requires.may
+    c.mover_of-mover.result c.partner_of.result c.timer_of.result c.channel_of.result c.sync_of.result c.start_of.result c.started-begins.result c.clock_of.result c.ending_of.result c.requires.may
     (record {
       mover = c.mover_of-mover.ensures;
       partner = c.partner_of.ensures;
       timer = c.timer_of.ensures;
       channel = c.channel_of.ensures;
+      sync = c.sync_of.ensures;
       starts = c.start_of.ensures;
       clock = c.clock_of.ensures;
       ending = c.ending_of.ensures;
     })
-    c.started-begins.ensures c.retime.ensures.state c.trade.ensures.state c.move_on.ensures.state c.move_on-2.ensures.state c.start.ensures.state c.move_clock.ensures.state
+    c.started-begins.ensures c.retime.ensures.state c.trade.ensures.state c.step_sync.ensures.state c.move_on.ensures.state c.move_on-2.ensures.state c.start.ensures.state c.move_clock.ensures.state
     c.end.ensures.state
