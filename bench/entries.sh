@@ -54,6 +54,12 @@ script() {
         printf 'mutex m\nfunc main\nlock m\n' && repeated "go a" "$waiting"
         printf 'sleep 1ms\nunlock m\nsleep 1ms\nend\nfunc a\nlock m\nunlock m\nend\n'
         ;;
+    cond)
+        local waiting=$(($2 / 6))
+        printf 'mutex m\ncond k m\nfunc main\n' && repeated "go a" "$waiting"
+        printf 'sleep 1ms\n' && repeated "signal k" "$((waiting / 2))"
+        printf 'broadcast k\nsleep 1ms\nend\nfunc a\nlock m\ncwait k\nunlock m\nend\n'
+        ;;
     ticks) printf 'ticker k\nfunc main\nnew k 1ms\nloop %s\nsleep 3ms\nrecv k\nend\nend\n' "$(($2 / 4))" ;;
     cases)
         seq -f 'chan c%g 0' 16
@@ -73,7 +79,7 @@ instructions() {
 }
 
 # A chain of goroutines goes on until its limit, the others to their end. A script has fewer than 4,096 timers.
-for kind in say loop sleep reset receive go sleepers timers buffered pairs senders closed cases ticks wg mutex; do
+for kind in say loop sleep reset receive go sleepers timers buffered pairs senders closed cases ticks wg mutex cond; do
     for count in 1000 99000; do
         limit=200000
         if [ "$kind" = timers ] && [ "$count" -gt 12000 ]; then count=12000; fi

@@ -24,6 +24,8 @@ use Rattle.gt_book.specs.Book.{seen, IsKept}
 use Rattle.gt_book.specs.Calm.{IsCalm}
 use Rattle.gt_book.proofs.Entering.{IsCounted, counted-May, way-more, no-entries, lawful-way, lawful-finishes}
 use Rattle.gt_book.proofs.Fitting.{fits-first, orderly-fits}
+use Rattle.gt_book.proofs.Turning.{rightly-May, has-lists_in}
+use Rattle.gt_rules.specs.Change.{change_of}
 
 none-parked : (script : Script) → IsCalm script (first_state script) (first_schedule script)
 none-parked script zero waits = cc
@@ -80,6 +82,8 @@ can_make-applies script limits r e can =
       kept = can.kept.rooms.scheduler;
       orderly = orderly-fits script (state_of r.machine) (schedule_of r.scheduler) can.kept.way.sound.fits;
       served = can.served;
+      lists = has-lists_in script (state_of r.machine) (schedule_of r.scheduler) (change_of e)
+          (rightly-May script (state_of r.machine) e can.kept.way.sound.good can.kept.way.sound.formed can.may) can.kept.way.sound.fits can.served;
       spare = omega arith;
     }
 

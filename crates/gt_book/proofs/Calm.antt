@@ -1,5 +1,5 @@
 -- A change by an entry leaves nobody parked who is firmly ready, but at the object that it changes.
-use Rattle.std.proofs.Common.{◌≡◌, ◌≢◌, ℕ, suc, ◌+◌, ◌<◌, List, [], ◌∷◌, ◌++◌, length, slice_get, eqb, ◌==◌, refl, sym, ap, subst, ◌∙◌, arith, Option, None, Some, Bool, true, false, not, ◌&&◌, is_some, IsTrue, inl, inr}
+use Rattle.std.proofs.Common.{◌≡◌, ◌≢◌, ℕ, zero, suc, ◌+◌, ◌<◌, List, [], ◌∷◌, ◌++◌, length, slice_get, eqb, ◌==◌, refl, sym, ap, subst, ◌∙◌, arith, Option, None, Some, Bool, true, false, not, ◌&&◌, is_some, IsTrue, inl, inr, IfSome, cond, option_map, map}
 use Rattle.std.specs.List.{list_all, enumerate_from}
 use Rattle.std.proofs.lemmas.Bool.{cases_eq, eq-eqb, eqb-true, and_parts, and_from}
 use Rattle.std.proofs.Math.ListN.{length-append}
@@ -11,12 +11,12 @@ use Rattle.gt_model.specs.declared.entry.Entry.{Entry}
 use Rattle.gt_model.specs.declared.state.Goroutine.{Goroutine}
 use Rattle.gt_model.specs.declared.state.Mode.{Mode}
 use Rattle.gt_model.specs.Good.{IsGood}
-use Rattle.gt_model.specs.Script.{is_chan, capacity_of}
+use Rattle.gt_model.specs.Script.{is_chan, capacity_of, mutex_of}
 use Rattle.gt_model.specs.Tables.{numbered, change_numbered}
-use Rattle.gt_model.proofs.Items.{numbered-change_same, numbered-change_other, numbered-push_same, numbered-push_other, HasNumber}
-use Rattle.gt_rules.specs.State.{State, goroutine_at, stands_at}
+use Rattle.gt_model.proofs.Items.{numbered-change_same, numbered-change_other, numbered-push_same, numbered-push_other, HasNumber, has_number}
+use Rattle.gt_rules.specs.State.{State, goroutine_at, stands_at, mode_of, is_locked, is_suspended}
 use Rattle.gt_rules.specs.Operations.{operation, offers, receives_from, sends_to}
-use Rattle.gt_rules.specs.After.{after, changed, moved, in_mode, with_mover, with_starts, started_by}
+use Rattle.gt_rules.specs.After.{after, changed, moved, in_mode, with_mover, with_starts, started_by, signalled, with_signalled}
 use Rattle.gt_rules.specs.Change.{Change, change_of}
 use Rattle.gt_rules.specs.Legal.{May, Does}
 use Rattle.gt_rules.specs.Panics.{fault, choice_fault}
@@ -24,18 +24,24 @@ use Rattle.gt_rules.specs.Ready.{is_firm, is_ready_case, is_ready_alone, has_par
 use Rattle.gt_rules.specs.declared.change.Move.{Move}
 use Rattle.gt_rules.specs.declared.change.Start.{Start}
 use Rattle.gt_facts.specs.Quiet.{none_firm}
-use Rattle.gt_facts.proofs.Lookups.{Standing, standing, AtOperation, at_operation, SendsTo, sends-send, ReceivesFrom, receives-recv, offers-operation, names-Does, names-operation}
+use Rattle.gt_facts.proofs.Lookups.{Standing, standing, AtOperation, at_operation, SendsTo, sends-send, ReceivesFrom, receives-recv, offers-operation, names-Does, names-operation, InMode, in-mode}
 use Rattle.gt_facts.proofs.Partners.{Partner, partner, partner-waits}
 use Rattle.gt_schedule.specs.declared.status.RunStatus.{RunStatus}
-use Rattle.gt_schedule.specs.Schedule.{Schedule, plainly, at_case, status_of, is_parked, taken, parked, parked_at, parked_cases, with_new, gone_on, turned, moved_by, begun_by, rescheduled, scheduled, MayMove, ServedBy, ServedIn, Served}
+use Rattle.gt_schedule.specs.Schedule.{Schedule, plainly, at_case, status_of, is_parked, taken, parked, parked_at, parked_cases, with_new, gone_on, turned, moved_by, begun_by, rescheduled, scheduled, MayMove, ServedBy, ServedIn, Served, parties_at, all_relocked, signalled_by}
 use Rattle.gt_schedule.proofs.Counting.{Parking, status-parked}
 use Rattle.gt_schedule.proofs.Parties.{parked_at-status_other}
+use Rattle.gt_schedule.proofs.Moving.{as_many-moved}
+use Rattle.gt_schedule.proofs.Relocked.{each-statuses}
+use Rattle.gt_schedule.proofs.Cases.{cases-statuses}
+use Rattle.gt_facts.proofs.Formed.{length-mover}
+use Rattle.gt_facts.proofs.Suspended.{length-signalled}
+use Rattle.gt_facts.specs.Formed.{IsFormed}
 use Rattle.gt_book.specs.View.{Agrees, is_waiting, is_firm_at, Fits}
 use Rattle.gt_book.specs.Calm.{IsCalm, IsCalmBut}
-use Rattle.gt_book.specs.Woken.{changed_object}
-use Rattle.gt_book.proofs.Fitting.{Known, known, has_status, unchanged, fits-moved, fits-both, Waiter, cases-statuses}
-use Rattle.gt_book.proofs.Firm.{WasThere, waited, sleeps, AllWere, firm_of, firm_on, stood, firm-stood, firm-fault, IsQuiet, firm-each, firm-waits, firm-made, quiet-firm, waits-polls, any-none, never-both, both-false, unless-true, no-reason, calm-standing, nowhere, calm-nowhere, calm_but-next, calm-next}
-use Rattle.gt_book.proofs.Stays.{alters, alters-one, alters-none, altered-declared, stays-May, stays-wider, stays-same}
+use Rattle.gt_book.specs.Woken.{signalled_for, changed_object}
+use Rattle.gt_book.proofs.Fitting.{unchanged, Waiter}
+use Rattle.gt_book.proofs.Firm.{WasThere, waited, sleeps, suspends, relocks, AllWere, firm_of, firm_on, stood, firm-stood, stood-firm, firm-locked, stands-relocks, firm-fault, IsQuiet, firm-each, firm-waits, firm-made, quiet-firm, waits-polls, any-none, never-both, both-false, unless-true, no-reason, calm-standing, nowhere, calm-nowhere, calm_but-next, calm-next}
+use Rattle.gt_book.proofs.Stays.{alters, alters-one, alters-none, signals-none, signals-one, signals-all, altered-declared, stays-May, stays-wider, stays-same}
 
 -- ---- who is parked after a move
 
@@ -86,21 +92,77 @@ each-parked Q m n gs g x f who each statuses there own h waiting =
           subst (Q h) (sym (numbered-change_other gs g h f other)) (each h (sym (ap is_parked before) ∙ waiting))
     ]
 
-each-turned : (Q : ℕ → Option Goroutine → Type 0) (script : Script) (s : State) (m : Schedule) (g : ℕ) (move : Move) → Fits script s m → MayMove (status_of m g) move
-    → ((h until : ℕ) (r : Goroutine) → Q h (Some (in_mode (Mode.Sleeping until) r))) → EachParked Q m s.goroutines
-    → EachParked Q (turned m g move) (change_numbered s.goroutines g (moved script move))
-each-turned Q script s m g (Move.GoesOn n) fits may asleep each = each-gone_on Q m s.goroutines g (moved script (Move.GoesOn n)) (is_parked (status_of m g)) refl each
-each-turned Q script s m g (Move.FallsAsleep until) fits may asleep each =
-    let k : Known script s m g RunStatus.InHand = known script s m g RunStatus.InHand fits may in
-    each-parked Q m (turned m g (Move.FallsAsleep until)) s.goroutines g (RunStatus.Parked m.parks) (moved script (Move.FallsAsleep until)) k.who each refl k.there (asleep g until k.who)
-each-turned Q script s m g Move.Ends fits may asleep each = each-other Q m (turned m g Move.Ends) s.goroutines g RunStatus.Ended (moved script Move.Ends) RunStatus.InHand each may refl refl
-each-turned Q script s m g Move.Panics fits may asleep each = λ h waiting. subst (λ gs. Q h (numbered gs h)) (sym (unchanged s.goroutines g)) (each h waiting)
+-- nobody's status changes, and who is parked has it after
+each-stays : (Q : ℕ → Option Goroutine → Type 0) (m n : Schedule) (gs : List Goroutine) (g : ℕ) (f : Goroutine → Goroutine) (who : Goroutine)
+    → EachParked Q m gs → n.statuses ≡ m.statuses → numbered gs g ≡ Some who → Q g (Some (f who)) → EachParked Q n (change_numbered gs g f)
+each-stays Q m n gs g f who each statuses there own h waiting =
+    elim (cases_eq h g) [
+      | inl is ↦ subst (λ h. Q h (numbered (change_numbered gs g f) h)) (sym is) (subst (Q g) (sym (numbered-change_same gs g f who there)) own)
+      | inr other ↦
+          subst (Q h) (sym (numbered-change_other gs g h f other))
+          (each h (sym (ap is_parked (ap (λ (ss : List RunStatus). numbered ss h) statuses)) ∙ waiting))
+    ]
 
-each-moved : (Q : ℕ → Option Goroutine → Type 0) (script : Script) (s : State) (m : Schedule) (o : Option (ℕ × Move)) → Fits script s m → ServedBy m o
-    → ((h until : ℕ) (r : Goroutine) → Q h (Some (in_mode (Mode.Sleeping until) r))) → EachParked Q m s.goroutines
-    → EachParked Q (moved_by m o) (with_mover script s.goroutines o)
-each-moved Q script s m None fits served asleep each = each
-each-moved Q script s m (Some x) fits served asleep each = each-turned Q script s m x.0 x.1 fits served asleep each
+-- whoever comes to wait by a move has it
+abbrev RestsBy : (ℕ → Option Goroutine → Type 0) → Move → Type 0
+RestsBy Q (Move.GoesOn case_no) = Unit {0}
+RestsBy Q (Move.FallsAsleep until) = (h : ℕ) (r : Goroutine) → Q h (Some (in_mode (Mode.Sleeping until) r))
+RestsBy Q (Move.Suspends k) = (h : ℕ) (r : Goroutine) → Q h (Some (in_mode (Mode.Suspended k) r))
+RestsBy Q (Move.Relocks k) = (h : ℕ) (r : Goroutine) → Q h (Some (in_mode (Mode.Relocking k) r))
+RestsBy Q Move.Ends = Unit {0}
+RestsBy Q Move.Panics = Unit {0}
+
+each-turned : (Q : ℕ → Option Goroutine → Type 0) (script : Script) (m : Schedule) (gs : List Goroutine) (g : ℕ) (move : Move) → length m.statuses ≡ length gs → MayMove (status_of m g) move
+    → RestsBy Q move → EachParked Q m gs → EachParked Q (turned m g move) (change_numbered gs g (moved script move))
+each-turned Q script m gs g (Move.GoesOn n) as_many may rests each = each-gone_on Q m gs g (moved script (Move.GoesOn n)) (is_parked (status_of m g)) refl each
+each-turned Q script m gs g (Move.FallsAsleep until) as_many may rests each =
+    let x : HasNumber gs g = has_number m.statuses gs g RunStatus.InHand as_many may in
+    each-parked Q m (turned m g (Move.FallsAsleep until)) gs g (RunStatus.Parked m.parks) (moved script (Move.FallsAsleep until)) x.item each refl x.there (rests g x.item)
+each-turned Q script m gs g (Move.Suspends k) as_many may rests each =
+    let x : HasNumber gs g = has_number m.statuses gs g RunStatus.InHand as_many may in
+    each-parked Q m (turned m g (Move.Suspends k)) gs g (RunStatus.Parked m.parks) (moved script (Move.Suspends k)) x.item each refl x.there (rests g x.item)
+each-turned Q script m gs g (Move.Relocks k) as_many may rests each =
+    let was : Parking (status_of m g) = status-parked (status_of m g) may in
+    let x : HasNumber gs g = has_number m.statuses gs g (RunStatus.Parked was.since) as_many was.is in
+    each-stays Q m (turned m g (Move.Relocks k)) gs g (moved script (Move.Relocks k)) x.item each refl x.there (rests g x.item)
+each-turned Q script m gs g Move.Ends as_many may rests each = each-other Q m (turned m g Move.Ends) gs g RunStatus.Ended (moved script Move.Ends) RunStatus.InHand each may refl refl
+each-turned Q script m gs g Move.Panics as_many may rests each = λ h waiting. subst (λ gs. Q h (numbered gs h)) (sym (unchanged gs g)) (each h waiting)
+
+each-moved : (Q : ℕ → Option Goroutine → Type 0) (script : Script) (m : Schedule) (gs : List Goroutine) (o : Option (ℕ × Move)) → length m.statuses ≡ length gs → ServedBy m o
+    → IfSome o (λ x. RestsBy Q x.1) → EachParked Q m gs → EachParked Q (moved_by m o) (with_mover script gs o)
+each-moved Q script m gs None as_many served rests each = each
+each-moved Q script m gs (Some x) as_many served rests each = each-turned Q script m gs x.0 x.1 as_many served rests each
+
+-- one of whom it is known whether it waits at a Cond
+signals-one_of : (P : Option Goroutine → Type 0) (k : ℕ) (r : Goroutine) (waits : Bool) → ((r : Goroutine) → P (Some (in_mode (Mode.Relocking k) r))) → P (Some r)
+    → P (Some (cond waits (in_mode (Mode.Relocking k) r) r))
+signals-one_of P k r true rests has = rests r
+signals-one_of P k r false rests has = has
+
+signals-of : (P : Option Goroutine → Type 0) (k : ℕ) (o : Option Goroutine) → ((r : Goroutine) → P (Some (in_mode (Mode.Relocking k) r))) → P o → P (option_map (signalled k) o)
+signals-of P k None rests has = has
+signals-of P k (Some r) rests has = signals-one_of P k r (is_suspended k r) rests has
+
+numbered-map : (gs : List Goroutine) (f : Goroutine → Goroutine) (h : ℕ) → numbered (map f gs) h ≡ option_map f (numbered gs h)
+numbered-map gs f zero = refl
+numbered-map gs f (suc i) = at gs f i
+  where
+    at : (gs : List Goroutine) (f : Goroutine → Goroutine) (i : ℕ) → slice_get (map f gs) i ≡ option_map f (slice_get gs i)
+    at [] f i = refl
+    at (r ∷ rs) f zero = refl
+    at (r ∷ rs) f (suc i) = at rs f i
+
+-- and who is signalled by a broadcast
+each-signalled : (Q : ℕ → Option Goroutine → Type 0) (m : Schedule) (gs : List Goroutine) (o : Option ℕ)
+    → IfSome o (λ k. (h : ℕ) (r : Goroutine) → Q h (Some (in_mode (Mode.Relocking k) r))) → EachParked Q m gs → EachParked Q (signalled_by m o) (with_signalled gs o)
+each-signalled Q m gs None rests each = each
+each-signalled Q m gs (Some k) rests each = λ h waiting.
+    let same : status_of (all_relocked m k) h ≡ status_of m h = ap (λ (ss : List RunStatus). numbered ss h) (each-statuses m k (parties_at m.receivers k)) in
+    subst (Q h) (sym (numbered-map gs (signalled k) h)) (signals-of (Q h) k (numbered gs h) (rests h) (each h (sym (ap is_parked same) ∙ waiting)))
+
+as_many-signalled : (m : Schedule) (gs : List Goroutine) (o : Option ℕ) → length m.statuses ≡ length gs → length (signalled_by m o).statuses ≡ length (with_signalled gs o)
+as_many-signalled m gs None as_many = as_many
+as_many-signalled m gs (Some k) as_many = ap length (each-statuses m k (parties_at m.receivers k)) ∙ (as_many ∙ sym (length-signalled gs (Some k)))
 
 -- who begins is not parked
 each-begun : (Q : ℕ → Option Goroutine → Type 0) (script : Script) (s : State) (m : Schedule) (gs : List Goroutine) (starts : List Start) → length m.statuses ≡ length gs → EachParked Q m gs
@@ -118,38 +180,91 @@ each-begun Q script s m gs (x ∷ xs) as_many each =
 
 -- ---- every change
 
-pub were-changed : (script : Script) (s : State) (m : Schedule) (c : Change) → Fits script s m → ServedIn m c → AllWere s m (changed script s c) (rescheduled m c)
-were-changed script s m c fits served =
+-- who is signalled by a change waits for one of some objects
+pub record Signalled (script : Script) (y : ℕ → Bool) (c : Change) : Type 0 where
+  pub mover : IfSome (signalled_for script c.mover) (λ o. y o ≡ true)
+  pub partner : IfSome (signalled_for script c.partner) (λ o. y o ≡ true)
+  pub broadcast : IfSome c.broadcast (λ k. y (mutex_of script k) ≡ true)
+
+rests-in : (script : Script) (s : State) (m : Schedule) (y : ℕ → Bool) (g : ℕ) (move : Move) → IfSome (signalled_for script (Some (g, move))) (λ o. y o ≡ true) → RestsBy (WasThere script s m y) move
+rests-in script s m y g (Move.GoesOn case_no) here = tt
+rests-in script s m y g (Move.FallsAsleep until) here = λ h r. sleeps until r
+rests-in script s m y g (Move.Suspends k) here = λ h r. suspends k r
+rests-in script s m y g (Move.Relocks k) here = λ h r. relocks k r here
+rests-in script s m y g Move.Ends here = tt
+rests-in script s m y g Move.Panics here = tt
+
+rests-by : (script : Script) (s : State) (m : Schedule) (y : ℕ → Bool) (o : Option (ℕ × Move)) → IfSome (signalled_for script o) (λ o. y o ≡ true)
+    → IfSome o (λ x. RestsBy (WasThere script s m y) x.1)
+rests-by script s m y None here = tt
+rests-by script s m y (Some x) here = rests-in script s m y x.0 x.1 here
+
+rests-all : (script : Script) (s : State) (m : Schedule) (y : ℕ → Bool) (o : Option ℕ) → IfSome o (λ k. y (mutex_of script k) ≡ true)
+    → IfSome o (λ k. (h : ℕ) (r : Goroutine) → WasThere script s m y h (Some (in_mode (Mode.Relocking k) r)))
+rests-all script s m y None here = tt
+rests-all script s m y (Some k) here = λ h r. relocks k r here
+
+pub were-changed : (script : Script) (s : State) (m : Schedule) (y : ℕ → Bool) (c : Change) → Fits script s m → ServedIn m c → Signalled script y c
+    → AllWere script s m y (changed script s c) (rescheduled m c)
+were-changed script s m y c fits served signals =
+    let mid : Schedule = moved_by m c.mover in
+    let both : Schedule = moved_by mid c.partner in
     let movers : List Goroutine = with_mover script s.goroutines c.mover in
-    let both : Fits script (record s { goroutines = with_mover script movers c.partner }) (moved_by (moved_by m c.mover) c.partner) = fits-both script s m c fits served in
-    each-begun (WasThere s m) script s (moved_by (moved_by m c.mover) c.partner) (with_mover script movers c.partner) c.starts both.as_many
-    (each-moved (WasThere s m) script (record s { goroutines = movers }) (moved_by m c.mover) c.partner (fits-moved script s m c.mover fits served.0) served.1 (λ h until r. sleeps until r)
-    (each-moved (WasThere s m) script s m c.mover fits served.0 (λ h until r. sleeps until r) (λ g waiting. waited waiting (goroutine_at s g) refl)))
+    let partners : List Goroutine = with_mover script movers c.partner in
+    let mid_many : length mid.statuses ≡ length movers = as_many-moved m c.mover ∙ (fits.as_many ∙ sym (length-mover script s.goroutines c.mover)) in
+    let both_many : length both.statuses ≡ length partners = as_many-moved mid c.partner ∙ (mid_many ∙ sym (length-mover script movers c.partner)) in
+    each-begun (WasThere script s m y) script s (signalled_by both c.broadcast) (with_signalled partners c.broadcast) c.starts (as_many-signalled both partners c.broadcast both_many)
+    (each-signalled (WasThere script s m y) both partners c.broadcast (rests-all script s m y c.broadcast signals.broadcast)
+    (each-moved (WasThere script s m y) script mid movers c.partner mid_many served.1 (rests-by script s m y c.partner signals.partner)
+    (each-moved (WasThere script s m y) script m s.goroutines c.mover fits.as_many served.0 (rests-by script s m y c.mover signals.mover) (λ g waiting. waited waiting (goroutine_at s g) refl))))
+
+-- an entry signals nobody but at the object that it changes
+none-signalled : (script : Script) (y : ℕ → Bool) (o : Option ℕ) → o ≡ None → IfSome o (λ d. y d ≡ true)
+none-signalled script y None is = tt
+none-signalled script y (Some d) is = cc
+
+if_some-next : (P R : ℕ → Type 0) (o : Option ℕ) → ((d : ℕ) → P d → R d) → IfSome o P → IfSome o R
+if_some-next P R None next h = tt
+if_some-next P R (Some d) next h = next d h
+
+signalled-entry : (script : Script) (e : Entry) (o : Option ℕ) (y : ℕ → Bool) → changed_object script (change_of e) ≡ o → ((d : ℕ) → o ≡ Some d → y d ≡ true)
+    → Signalled script y (change_of e)
+signalled-entry script e o y is here = record {
+  mover = none-signalled script y (signalled_for script (change_of e).mover) (signals-none script e);
+  partner = if_some-next (λ d. o ≡ Some d) (λ d. y d ≡ true) (signalled_for script (change_of e).partner) here (signals-one script e o is);
+  broadcast = if_some-next (λ k. o ≡ Some (mutex_of script k)) (λ k. y (mutex_of script k) ≡ true) (change_of e).broadcast (λ k. here (mutex_of script k)) (signals-all script e o is);
+}
 
 -- an entry that changes no object leaves nobody firmly ready
-pub calm-entered : (script : Script) (s : State) (m : Schedule) (e : Entry) → IsGood script → May script s e → Fits script s m → Served m e → changed_object (change_of e) ≡ None
+pub calm-entered : (script : Script) (s : State) (m : Schedule) (e : Entry) → IsGood script → May script s e → Fits script s m → Served m e → changed_object script (change_of e) ≡ None
     → IsCalm script s m → IsCalm script (after script s e) (scheduled m e)
 calm-entered script s m e good may fits served none calm =
     calm-next script s (after script s e) m (scheduled m e)
-    (stays-wider s (after script s e) (alters (change_of e)) nowhere (λ o h. alters-none e none o) (stays-May script s e good may))
-    (were-changed script s m (change_of e) fits served) calm
+    (stays-wider s (after script s e) (alters script (change_of e)) nowhere (λ o h. alters-none script e none o) (stays-May script s e good may))
+    (were-changed script s m nowhere (change_of e) fits served (signalled-entry script e None nowhere none (λ d is. cc))) calm
 
 -- one that changes an object leaves none but there
-pub calm-but : (script : Script) (s : State) (m : Schedule) (e : Entry) (c : ℕ) → IsGood script → May script s e → Fits script s m → Served m e
-    → changed_object (change_of e) ≡ Some c → IsCalm script s m → IsCalmBut script (after script s e) (scheduled m e) (λ o. eqb o c)
-calm-but script s m e c good may fits served is calm =
+pub calm-but : (script : Script) (s : State) (m : Schedule) (e : Entry) (c : ℕ) → IsGood script → IsFormed script s → May script s e → Fits script s m → Served m e
+    → changed_object script (change_of e) ≡ Some c → IsCalm script s m → IsCalmBut script (after script s e) (scheduled m e) (λ o. eqb o c)
+calm-but script s m e c good formed may fits served is calm =
     calm_but-next script s (after script s e) m (scheduled m e) nowhere (λ o. eqb o c)
-    (stays-wider s (after script s e) (alters (change_of e)) (λ o. eqb o c) (alters-one e c is) (stays-May script s e good may))
-    (were-changed script s m (change_of e) fits served) (λ o h. refl) (calm-nowhere script s m calm)
-    (λ d h. subst (λ d. d < length script.decls) (sym (eqb-true d c h)) (altered-declared script s e c good may is))
+    (stays-wider s (after script s e) (alters script (change_of e)) (λ o. eqb o c) (alters-one script e c is) (stays-May script s e good may))
+    (were-changed script s m (λ o. eqb o c) (change_of e) fits served
+    (signalled-entry script e (Some c) (λ o. eqb o c) is (λ d same. let at : c ≡ d = cc in eq-eqb d c (sym at)))) (λ o h. refl) (calm-nowhere script s m calm)
+    (λ d h. subst (λ d. d < length script.decls) (sym (eqb-true d c h)) (altered-declared script s e c good formed may is))
 
--- one that changes that object, or none, leaves none but there
+-- one that changes that object, or none, and signals nobody, leaves none but there
 pub calm_but-again : (script : Script) (s : State) (m : Schedule) (e : Entry) (c : ℕ) → IsGood script → May script s e → Fits script s m → Served m e
-    → ((o : ℕ) → eqb o c ≡ false → alters (change_of e) o ≡ false) → IsCalmBut script s m (λ o. eqb o c) → IsCalmBut script (after script s e) (scheduled m e) (λ o. eqb o c)
-calm_but-again script s m e c good may fits served here but =
+    → ((o : ℕ) → eqb o c ≡ false → alters script (change_of e) o ≡ false) → (change_of e).partner ≡ None → (change_of e).broadcast ≡ None → IsCalmBut script s m (λ o. eqb o c)
+    → IsCalmBut script (after script s e) (scheduled m e) (λ o. eqb o c)
+calm_but-again script s m e c good may fits served here alone quiet but =
     calm_but-next script s (after script s e) m (scheduled m e) (λ o. eqb o c) (λ o. eqb o c)
-    (stays-wider s (after script s e) (alters (change_of e)) (λ o. eqb o c) here (stays-May script s e good may))
-    (were-changed script s m (change_of e) fits served) (λ o h. h) but but.declared
+    (stays-wider s (after script s e) (alters script (change_of e)) (λ o. eqb o c) here (stays-May script s e good may))
+    (were-changed script s m (λ o. eqb o c) (change_of e) fits served (record {
+      mover = none-signalled script (λ o. eqb o c) (signalled_for script (change_of e).mover) (signals-none script e);
+      partner = none-signalled script (λ o. eqb o c) (signalled_for script (change_of e).partner) (ap (signalled_for script) alone);
+      broadcast = subst (λ o. IfSome o (λ k. eqb (mutex_of script k) c ≡ true)) (sym quiet) tt;
+    })) (λ o h. h) but but.declared
 
 -- ---- changes of the schedule alone
 
@@ -255,14 +370,15 @@ module _ (script : Script) (s : State) (m then : Schedule) (g : ℕ) (others_sta
 
   own-firm : is_firm_at script s then g ≡ false
   own-firm =
-      firm-stood script s (is_waiting then) g (goroutine_at s g)
-      ∙ (ap (firm_on script s (is_waiting then) g) can.stands
+      stood-firm script s (is_waiting then) g (goroutine_at s g)
+      (ap (firm_on script s (is_waiting then) g) can.stands
       ∙ quiet-firm script s (is_waiting then) g (Some instr) (firm-waits script s (is_waiting m) g (Some instr) can.firm) (firm-made script s (is_waiting m) g (Some instr) can.firm) (λ n kind has.
       let x : IsQuiet script s (is_waiting m) g kind = quiet n kind has in
       record {
         alone = x.alone;
         partner = unless-true (has_partner script s (is_waiting then) g kind) (λ h. never-both (has_partner script s (is_waiting m) g kind) (has-back kind h) x.partner);
       }))
+      (λ k mode. absurd (stands-relocks script s g k instr can.stands mode))
 
   -- one that was parked before, where it stands
   record Parked (h : ℕ) (i : Instr) : Type 0 where
@@ -335,16 +451,17 @@ module _ (script : Script) (s : State) (m then : Schedule) (g : ℕ) (others_sta
   other-firm h other waits =
       let before : is_waiting m h ≡ true = waited-before h other waits in
       let on : Option Instr = stood script (goroutine_at s h) in
-      let firm : firm_on script s (is_waiting m) h on ≡ false = sym (firm-stood script s (is_waiting m) h (goroutine_at s h)) ∙ calm h before in
-      firm-stood script s (is_waiting then) h (goroutine_at s h)
-      ∙ quiet-firm script s (is_waiting then) h on (firm-waits script s (is_waiting m) h on firm) (firm-made script s (is_waiting m) h on firm) (λ n k e.
+      let firm : firm_on script s (is_waiting m) h on ≡ false = firm-stood script s (is_waiting m) h (goroutine_at s h) (calm h before) in
+      stood-firm script s (is_waiting then) h (goroutine_at s h)
+      (quiet-firm script s (is_waiting then) h on (firm-waits script s (is_waiting m) h on firm) (firm-made script s (is_waiting m) h on firm) (λ n k e.
       let x : IsQuiet script s (is_waiting m) h k = firm-each script s (is_waiting m) h on n k firm e in
       let at : AtOperation script s (at_case h n) k = at_operation script s (at_case h n) k e in
       let parked : Parked h at.instr = record { other = other; waits = before; stands = at.stands; firm = ap (firm_on script s (is_waiting m) h) (sym at.stands) ∙ firm } in
       record {
         alone = x.alone;
         partner = unless-true (has_partner script s (is_waiting then) h k) (λ full. never-both (has_partner script s (is_waiting m) h k) (not-met h n at.instr k parked at.has full) x.partner);
-      })
+      }))
+      (λ k mode. firm-locked script s (is_waiting m) h k (goroutine_at s h) mode (calm h before))
 
   pub calm-parked : IsCalm script s then
   calm-parked h waits =
@@ -376,23 +493,41 @@ all_from p n (x ∷ xs) h =
 all-numbered : {X : Type 0} (p : ℕ × X → Bool) (xs : List X) → ((g : ℕ) (x : X) → numbered xs g ≡ Some x → p (g, x) ≡ true) → list_all p (enumerate_from 1 xs) ≡ true
 all-numbered p xs h = all_from p 1 xs (λ i x e. let is : suc i ≡ 1 + i = omega arith in subst (λ k. p (k, x) ≡ true) is (h (suc i) x e))
 
--- who is neither queued nor in hand, and stands somewhere, is parked
-at_rest-parked : (mode : Mode) (x : RunStatus) → mode ≡ Mode.At → Some x ≢ Some RunStatus.Queued → Some x ≢ Some RunStatus.InHand → Agrees mode x → is_parked (Some x) ≡ true
-at_rest-parked mode RunStatus.Queued at q w h = absurd (q refl)
-at_rest-parked mode RunStatus.InHand at q w h = absurd (w refl)
-at_rest-parked mode (RunStatus.Parked since) at q w h = refl
-at_rest-parked Mode.At RunStatus.Ended at q w h = absurd h
-at_rest-parked (Mode.Sleeping until) RunStatus.Ended at q w h = cc
-at_rest-parked Mode.Ended RunStatus.Ended at q w h = cc
+-- who is neither queued nor in hand, and has not ended, is parked
+abbrev HasEnded : Mode → Bool
+HasEnded Mode.At = false
+HasEnded (Mode.Sleeping until) = false
+HasEnded (Mode.Suspended k) = false
+HasEnded (Mode.Relocking k) = false
+HasEnded Mode.Ended = true
+
+at_rest-parked : (mode : Mode) (x : RunStatus) → HasEnded mode ≡ false → Some x ≢ Some RunStatus.Queued → Some x ≢ Some RunStatus.InHand → Agrees mode x → is_parked (Some x) ≡ true
+at_rest-parked mode RunStatus.Queued goes q w h = absurd (q refl)
+at_rest-parked mode RunStatus.InHand goes q w h = absurd (w refl)
+at_rest-parked mode (RunStatus.Parked since) goes q w h = refl
+at_rest-parked Mode.At RunStatus.Ended goes q w h = absurd h
+at_rest-parked (Mode.Sleeping until) RunStatus.Ended goes q w h = absurd h
+at_rest-parked (Mode.Suspended k) RunStatus.Ended goes q w h = absurd h
+at_rest-parked (Mode.Relocking k) RunStatus.Ended goes q w h = absurd h
+at_rest-parked Mode.Ended RunStatus.Ended goes q w h = cc
 
 module _ (script : Script) (s : State) (m : Schedule) (fits : Fits script s m) (calm : IsCalm script s m) (none_queued : (g : ℕ) → status_of m g ≢ Some RunStatus.Queued)
     (none_in_hand : (g : ℕ) → status_of m g ≢ Some RunStatus.InHand) where
+  rest-waits : (g : ℕ) (r : Goroutine) → goroutine_at s g ≡ Some r → HasEnded r.mode ≡ false → is_waiting m g ≡ true
+  rest-waits g r there goes =
+      let x : HasNumber m.statuses g = has_number s.goroutines m.statuses g r (sym fits.as_many) there in
+      ap is_parked x.there
+      ∙ at_rest-parked r.mode x.item goes (λ k. none_queued g (x.there ∙ k)) (λ k. none_in_hand g (x.there ∙ k)) (fits.agree g r x.item there x.there)
+
   standing-waits : (g : ℕ) (i : Instr) → stands_at script s g ≡ Some i → is_waiting m g ≡ true
   standing-waits g i e =
       let st : Standing script s g i = standing script s g i e in
-      let x : HasNumber m.statuses g = has_status script s m g st.who fits st.there in
-      ap is_parked x.there
-      ∙ at_rest-parked st.who.mode x.item st.at (λ k. none_queued g (x.there ∙ k)) (λ k. none_in_hand g (x.there ∙ k)) (fits.agree g st.who x.item st.there x.there)
+      rest-waits g st.who st.there (ap HasEnded st.at)
+
+  relocking-locked : (g k : ℕ) → mode_of s g ≡ Some (Mode.Relocking k) → is_locked s (mutex_of script k) ≡ true
+  relocking-locked g k mode =
+      let a : InMode s g (Mode.Relocking k) = in-mode s g (Mode.Relocking k) mode in
+      firm-locked script s (is_waiting m) g k (goroutine_at s g) mode (calm g (rest-waits g a.who a.there (ap HasEnded a.its)))
 
   everyone-back : (g : ℕ) (test : CaseKind → Bool) → partner_waits script s everyone g test ≡ true → partner_waits script s (is_waiting m) g test ≡ true
   everyone-back g test h =
@@ -413,7 +548,7 @@ module _ (script : Script) (s : State) (m : Schedule) (fits : Fits script s m) (
   quiet-one g (Some i) e =
       let waits : is_waiting m g ≡ true = standing-waits g i e in
       let firm : firm_on script s (is_waiting m) g (Some i) ≡ false =
-      sym (ap (firm_on script s (is_waiting m) g) e) ∙ (sym (firm-stood script s (is_waiting m) g (goroutine_at s g)) ∙ calm g waits) in
+      sym (ap (firm_on script s (is_waiting m) g) e) ∙ firm-stood script s (is_waiting m) g (goroutine_at s g) (calm g waits) in
       quiet-firm script s everyone g (Some i) (firm-waits script s (is_waiting m) g (Some i) firm) (firm-made script s (is_waiting m) g (Some i) firm) (λ n k q.
       let x : IsQuiet script s (is_waiting m) g k = firm-each script s (is_waiting m) g (Some i) n k firm q in
       record {
@@ -424,4 +559,5 @@ module _ (script : Script) (s : State) (m : Schedule) (fits : Fits script s m) (
   pub quiet-calm : none_firm script s ≡ true
   quiet-calm =
       all-numbered (λ (e : ℕ × Goroutine). not (is_firm script s everyone e.0 e.1)) s.goroutines (λ g r e.
-      ap not (ap (firm_of script s everyone g) (sym e) ∙ (firm-stood script s everyone g (goroutine_at s g) ∙ quiet-one g (stood script (goroutine_at s g)) refl)))
+      ap not (ap (firm_of script s everyone g) (sym e)
+      ∙ stood-firm script s everyone g (goroutine_at s g) (quiet-one g (stood script (goroutine_at s g)) refl) (λ k mode. relocking-locked g k mode)))

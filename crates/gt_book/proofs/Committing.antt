@@ -8,13 +8,16 @@ use Rattle.gt_model.specs.declared.script.Instr.{Instr}
 use Rattle.gt_model.specs.declared.script.Case.{Case}
 use Rattle.gt_model.specs.declared.entry.Outcome.{Outcome}
 use Rattle.gt_rules.specs.State.{State, timer_at, stands_at, clock, clock_of, due_of, sleeps_until}
-use Rattle.gt_model.specs.Script.{is_timer, is_ticker, is_func}
+use Rattle.gt_model.specs.Script.{is_timer, is_ticker, is_func, is_chan}
+use Rattle.gt_model.specs.Good.{gives_values}
+use Rattle.gt_book.proofs.Wanting.{receives-kind, wants-receives}
 use Rattle.gt_model.specs.declared.state.Timer.{Timer}
 use Rattle.gt_rules.specs.Ready.{is_due}
 use Rattle.gt_model.specs.declared.script.CaseKind.{CaseKind}
 use Rattle.gt_rules.specs.Operations.{operation, offers, receives_from}
 use Rattle.gt_rules.specs.Panics.{fault, zero_ticker}
 use Rattle.gt_rules.specs.After.{duration_of, new_period, period_of}
+use Rattle.gt_rules.specs.Change.{change_of}
 use Rattle.gt_rules.specs.Legal.{May, Does, Operates, LeavesDue, operation_at, due_at, was_set, sleep_end}
 use Rattle.gt_model.specs.declared.entry.Party.{Party}
 use Rattle.gt_schedule.specs.declared.status.RunStatus.{RunStatus}
@@ -22,8 +25,8 @@ use Rattle.gt_book.specs.declared.step.Step.{Step}
 use Rattle.gt_book.specs.declared.answers.Op.{Op}
 use Rattle.gt_book.specs.declared.answers.TimerOp.{TimerOp}
 use Rattle.gt_schedule.specs.Schedule.{Schedule, plainly, Served, status_of, is_in_hand, is_parked, parties_at}
-use Rattle.gt_book.specs.Steps.{come_timer, goes_by, step_of, step_or_panic, step_of_instr, set_instr, set_entry, is_receiving, is_late, is_gone, MayCommit}
-use Rattle.gt_book.specs.View.{BookView, IsLawful, outcome_of, is_at, is_parked_at, first_case, case_of, receiver_of}
+use Rattle.gt_book.specs.Steps.{come_timer, goes_by, step_of, step_or_panic, step_of_instr, set_instr, set_entry, is_receiving, is_late, is_gone, MayCommit, entry_of}
+use Rattle.gt_book.specs.View.{BookView, IsLawful, outcome_of, is_at, wants, is_parked_at, first_case, case_of, receiver_of}
 use Rattle.gt_facts.specs.Formed.{IsPeriod}
 use Rattle.gt_facts.proofs.Periods.{no-zero}
 use Rattle.gt_facts.proofs.Within.{timer_within}
@@ -32,7 +35,7 @@ use Rattle.gt_facts.proofs.Lookups.{Asleep, sleeper, offers-operation}
 use Rattle.gt_facts.proofs.Formed.{world_of-zero}
 use Rattle.gt_book.proofs.Firm.{calm-standing}
 use Rattle.gt_book.proofs.Fitting.{first-waiting, asleep-parked}
-use Rattle.gt_book.proofs.Meeting.{at-receives, receives-kind, parked-operates, plain-is, recv-is, send-is, choice-is}
+use Rattle.gt_book.proofs.Meeting.{at-receives, parked-operates, plain-is, recv-is, send-is, choice-is}
 use Rattle.gt_book.proofs.Going.{IsStep, step-is, in_hand-goes, parked-goes}
 use Rattle.gt_book.proofs.Setting.{instr-set}
 use Rattle.gt_book.proofs.Options.{ChoiceIs, case_goes, case_polls, all_rest, all_wait, choice-so}
@@ -55,14 +58,19 @@ right-true : (a b : Bool) → (a && b) ≡ true → b ≡ true
 right-true true b h = h
 right-true false b h = cc
 
+timer-gives : (script : Script) (t : ℕ) → IsTrue (is_timer script t) → IsTrue (gives_values script t)
+timer-gives script t timer = ap (λ b. b || is_chan script t) timer
+
 -- who is parked at a receive from a timer may receive its tick that has come
 pub may-receive : (b : BookView) (t at : ℕ) (next : Option ℕ) (p : Party) → IsLawful b → outcome_of b ≡ None → IsTrue (is_timer b.script t)
     → due_of b.state t ≡ Some at → at ≤ clock b.state 0 → LeavesDue b.script b.state (clock b.state 0) t at next
     → is_parked_at b.script b.state b.schedule p (receives_from t) ≡ true
     → MayCommit b (Op.TRecv p t at next) × (is_gone b (Op.TRecv p t at next) ≡ false)
 may-receive b t at next p lawful running timer set due leaves parked =
-    let waits : is_parked (status_of b.schedule p.g) ≡ true = left-true (is_parked (status_of b.schedule p.g)) (is_at b.script b.state p (receives_from t)) parked in
-    let there : is_at b.script b.state p (receives_from t) ≡ true = right-true (is_parked (status_of b.schedule p.g)) (is_at b.script b.state p (receives_from t)) parked in
+    let waits : is_parked (status_of b.schedule p.g) ≡ true = left-true (is_parked (status_of b.schedule p.g)) (wants b.script b.state p (receives_from t)) parked in
+    let there : is_at b.script b.state p (receives_from t) ≡ true =
+    wants-receives b.script b.state p t lawful.good lawful.formed (timer-gives b.script t timer)
+    (right-true (is_parked (status_of b.schedule p.g)) (wants b.script b.state p (receives_from t)) parked) in
     let stands : operation_at b.script b.state p ≡ Some (CaseKind.Recv t) = at-receives b.script b.state p t there in
     let goes : IsTrue (is_in_hand (status_of b.schedule p.g) || is_parked (status_of b.schedule p.g)) = parked-goes (status_of b.schedule p.g) waits in
     let receiving : is_receiving b.script b.state b.schedule p t ≡ true = rw (goes, there) refl in
@@ -292,3 +300,13 @@ may-poll b g t at next lawful running step in_hand timer set due leaves =
     let come : at ≤ clock_of b.state g = subst (λ now. at ≤ now) now due in
     let left : LeavesDue b.script b.state (clock_of b.state g) t at next = subst (λ now. LeavesDue b.script b.state now t at next) now leaves in
     (((receives, timer, set, come, left), (goes, tt), tt), not_gone b (Op.TRecv p t at next) running (ap not receiving))
+
+-- no operation is a broadcast
+pub op-alone : (s : State) (op : Op) → (change_of (entry_of s op)).broadcast ≡ None
+op-alone s (Op.Set g t true was due period) = refl
+op-alone s (Op.Set g t false was due period) = refl
+op-alone s (Op.Stop g t was) = refl
+op-alone s (Op.TRecv p t due next) = refl
+op-alone s (Op.Fire t) = refl
+op-alone s (Op.Sleep g until) = refl
+op-alone s (Op.Wake g) = refl

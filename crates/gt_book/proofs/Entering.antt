@@ -19,7 +19,7 @@ use Rattle.gt_book.specs.View.{BookView, IsLawful, Fits, NoneFirm, AreWoken, wit
 use Rattle.gt_book.specs.Run.{IsSound, IsUnderWay}
 use Rattle.gt_machine.specs.Outcomes.{due_outcome, outcome_in}
 use Rattle.gt_rules.specs.Change.{change_of}
-use Rattle.gt_book.proofs.Fitting.{fits-changed, fits-entered}
+use Rattle.gt_book.proofs.Fitting.{fits-changed, fits-entered, rightly-finish}
 
 -- an entry that may come while the run goes on is legal
 pub legal-May : (script : Script) (limits : Limits) (s : State) (e : Entry) → IsRunning limits s → May script s e → Legal script limits s e
@@ -151,7 +151,8 @@ way-more b e way running may served =
     let more : (after b.script b.state e).entries ≡ b.state.entries + 1 = counted.more in
     let room : b.state.entries < b.limits.entries = running.room in
     record {
-      sound = sound-more b e way.sound legal (formed-after b.script b.state e way.sound.good way.sound.formed may) (fits-entered b.script b.state b.schedule e way.sound.fits served);
+      sound = sound-more b e way.sound legal (formed-after b.script b.state e way.sound.good way.sound.formed may)
+          (fits-entered b.script b.state b.schedule e way.sound.good way.sound.formed may way.sound.fits served);
       few = omega arith;
       unfinished = unfinished-none (after b.script b.state e).ending (λ outcome. counted.unfinished outcome running.ending);
     }
@@ -172,7 +173,8 @@ pub lawful-finishes : (b : BookView) (outcome : Outcome) → IsUnderWay b → du
 lawful-finishes b outcome way due =
     let finished : IsSound (with_entries b (Entry.Finish outcome ∷ [])) =
     sound-more b (Entry.Finish outcome) way.sound (due-Finishes b.script b.limits b.state outcome due)
-    (formed-finish b.script b.state outcome way.sound.formed) (fits-changed b.script b.state b.schedule (change_of (Entry.Finish outcome)) way.sound.fits (tt, tt)) in
+    (formed-finish b.script b.state outcome way.sound.formed)
+    (fits-changed b.script b.state b.schedule (change_of (Entry.Finish outcome)) (rightly-finish b.script b.state outcome way.sound.good way.sound.formed) way.sound.fits (tt, tt)) in
     lawful-sound (with_entries b (Entry.Finish outcome ∷ [])) finished tt (λ none. cc)
 
 -- ---- entries one after another

@@ -10,9 +10,8 @@ use Rattle.gt_model.specs.declared.script.CaseKind.{CaseKind}
 use Rattle.gt_model.specs.declared.entry.Reason.{Reason}
 use Rattle.gt_model.specs.declared.state.Goroutine.{Goroutine}
 use Rattle.gt_model.specs.declared.state.Mode.{Mode}
-use Rattle.gt_model.specs.Script.{instr_at, what_at, is_chan, capacity_of}
-use Rattle.gt_model.specs.declared.state.SyncState.{SyncState}
-use Rattle.gt_rules.specs.State.{State, Channel, goroutine_at, timer_at, channel_at, sync_at, item_count, is_closed, is_made, stands, stands_at}
+use Rattle.gt_model.specs.Script.{instr_at, what_at, is_chan, capacity_of, mutex_of}
+use Rattle.gt_rules.specs.State.{State, Channel, goroutine_at, mode_of, timer_at, channel_at, is_locked, counter_of, item_count, is_closed, is_made, stands, stands_at}
 use Rattle.gt_rules.specs.Operations.{operation, offers, polls, receives_from, sends_to}
 use Rattle.gt_rules.specs.Panics.{fault, fault_at, fault_case, case_fault, choice_fault, when, or_else, open_fault, panic_at}
 use Rattle.gt_rules.specs.Ready.{is_firm, is_firm_in, is_ready_at, is_ready_instr, is_ready_case, is_ready_alone, is_ready_recv, has_partner, partner_waits, no_timer}
@@ -20,7 +19,7 @@ use Rattle.gt_rules.specs.Legal.{operation_at}
 use Rattle.gt_rules.specs.After.{in_mode}
 use Rattle.gt_schedule.specs.Schedule.{Schedule, at_case, object_of}
 use Rattle.gt_facts.proofs.Still.{panic_stands}
-use Rattle.gt_facts.proofs.Lookups.{IsCase, is-case}
+use Rattle.gt_facts.proofs.Lookups.{IsCase, is-case, Standing, standing, mode_there}
 use Rattle.gt_facts.proofs.Partners.{Partner, partner, partner-waits}
 use Rattle.gt_book.specs.View.{is_waiting}
 use Rattle.gt_book.specs.Calm.{IsCalm, IsCalmBut, may_wait, unmade}
@@ -73,15 +72,57 @@ operation_of o n = elim o [ None ↦ None | Some i ↦ operation i n ]
 abbrev pub firm_on : Script → State → (ℕ → Bool) → ℕ → Option Instr → Bool
 firm_on script s counts g o = is_ready_at script s no_timer counts g o
 
-firm-mode : (script : Script) (s : State) (counts : ℕ → Bool) (g : ℕ) (r : Goroutine) (mode : Mode)
-    → is_firm_in script s counts g r mode ≡ firm_on script s counts g (elim mode [ Mode.At ↦ instr_at script r.place | _ ↦ None ])
-firm-mode script s counts g r Mode.At = refl
-firm-mode script s counts g r (Mode.Sleeping until) = refl
-firm-mode script s counts g r Mode.Ended = refl
+abbrev its_mode : Option Goroutine → Option Mode
+its_mode o = option_map (λ (r : Goroutine). r.mode) o
 
-pub firm-stood : (script : Script) (s : State) (counts : ℕ → Bool) (g : ℕ) (o : Option Goroutine) → firm_of script s counts g o ≡ firm_on script s counts g (stood script o)
-firm-stood script s counts g None = refl
-firm-stood script s counts g (Some r) = firm-mode script s counts g r r.mode
+quiet-mode : (script : Script) (s : State) (counts : ℕ → Bool) (g : ℕ) (r : Goroutine) (mode : Mode) → is_firm_in script s counts g r mode ≡ false
+    → firm_on script s counts g (elim mode [ Mode.At ↦ instr_at script r.place | _ ↦ None ]) ≡ false
+quiet-mode script s counts g r Mode.At h = h
+quiet-mode script s counts g r mode h = refl
+
+-- who is not firmly ready is not where it stands
+pub firm-stood : (script : Script) (s : State) (counts : ℕ → Bool) (g : ℕ) (o : Option Goroutine) → firm_of script s counts g o ≡ false
+    → firm_on script s counts g (stood script o) ≡ false
+firm-stood script s counts g None h = refl
+firm-stood script s counts g (Some r) h = quiet-mode script s counts g r r.mode h
+
+-- and the other way round, where it waits for no mutex that is free
+mode-firm : (script : Script) (s : State) (counts : ℕ → Bool) (g : ℕ) (r : Goroutine) (mode : Mode)
+    → firm_on script s counts g (elim mode [ Mode.At ↦ instr_at script r.place | _ ↦ None ]) ≡ false
+    → ((k : ℕ) → mode ≡ Mode.Relocking k → is_locked s (mutex_of script k) ≡ true) → is_firm_in script s counts g r mode ≡ false
+mode-firm script s counts g r Mode.At h locked = h
+mode-firm script s counts g r (Mode.Sleeping until) h locked = refl
+mode-firm script s counts g r (Mode.Suspended k) h locked = refl
+mode-firm script s counts g r (Mode.Relocking k) h locked = ap not (locked k refl)
+mode-firm script s counts g r Mode.Ended h locked = refl
+
+pub stood-firm : (script : Script) (s : State) (counts : ℕ → Bool) (g : ℕ) (o : Option Goroutine) → firm_on script s counts g (stood script o) ≡ false
+    → ((k : ℕ) → its_mode o ≡ Some (Mode.Relocking k) → is_locked s (mutex_of script k) ≡ true) → firm_of script s counts g o ≡ false
+stood-firm script s counts g None h locked = refl
+stood-firm script s counts g (Some r) h locked = mode-firm script s counts g r r.mode h (λ k is. locked k (ap Some is))
+
+pub not-false : (b : Bool) → not b ≡ false → b ≡ true
+not-false true h = refl
+not-false false h = cc
+
+mode-locked : (script : Script) (s : State) (counts : ℕ → Bool) (g : ℕ) (r : Goroutine) (mode : Mode) (k : ℕ) → Some mode ≡ Some (Mode.Relocking k) → is_firm_in script s counts g r mode ≡ false
+    → is_locked s (mutex_of script k) ≡ true
+mode-locked script s counts g r mode k is h =
+    let same : mode ≡ Mode.Relocking k = cc in
+    not-false (is_locked s (mutex_of script k)) (subst (λ mode. is_firm_in script s counts g r mode ≡ false) same h)
+
+-- who was signalled at a Cond and is not firmly ready waits for a mutex that is locked
+pub firm-locked : (script : Script) (s : State) (counts : ℕ → Bool) (g k : ℕ) (o : Option Goroutine) → its_mode o ≡ Some (Mode.Relocking k) → firm_of script s counts g o ≡ false
+    → is_locked s (mutex_of script k) ≡ true
+firm-locked script s counts g k None is h = cc
+firm-locked script s counts g k (Some r) is h = mode-locked script s counts g r r.mode k is h
+
+-- nobody who stands at an instruction waits so
+pub stands-relocks : (script : Script) (s : State) (g k : ℕ) (i : Instr) → stands_at script s g ≡ Some i → mode_of s g ≡ Some (Mode.Relocking k) → ⊥
+stands-relocks script s g k i stands waits =
+    let st : Standing script s g i = standing script s g i stands in
+    let both : Some Mode.At ≡ Some (Mode.Relocking k) = sym (mode_there s g st.who Mode.At st.there st.at) ∙ waits in
+    cc
 
 -- ---- one whose operation has no partner is firmly ready by its object alone
 
@@ -93,22 +134,25 @@ pub firm-fault : (script : Script) (s : State) (counts : ℕ → Bool) (g : ℕ)
 firm-fault script s counts g None h = refl
 firm-fault script s counts g (Some i) h = (or-false (is_some (fault script s i)) (is_ready_instr script s no_timer counts g i) h).0
 
--- ---- what stays: what was made stays made, what was closed stays closed, and channels, mutexes and WaitGroups stay as they are but those that `may` change
+-- ---- what stays: what was made stays made, what was closed stays closed, and channels, locks and counters stay as they are but those that `may` change
 
 pub record Stays (s next : State) (may : ℕ → Bool) : Type 0 where
   pub timers : (t : ℕ) → is_some (timer_at s t) ≡ true → is_some (timer_at next t) ≡ true
   pub made : (c : ℕ) → is_some (channel_at s c) ≡ true → is_some (channel_at next c) ≡ true
   pub closed : (c : ℕ) → is_closed s c ≡ true → is_closed next c ≡ true
   pub same : (c : ℕ) → may c ≡ false → channel_at next c ≡ channel_at s c
-  pub syncs : (o : ℕ) → may o ≡ false → sync_at next o ≡ sync_at s o
+  pub locks : (o : ℕ) → may o ≡ false → is_locked next o ≡ is_locked s o
+  pub counters : (o : ℕ) → may o ≡ false → counter_of next o ≡ counter_of s o
 
--- who is parked now was parked before, as it is, or sleeps
-pub data WasThere (s : State) (m : Schedule) (g : ℕ) : Option Goroutine → Type 0 where
-  waited : is_waiting m g ≡ true → (o : Option Goroutine) → o ≡ goroutine_at s g → WasThere s m g o
-  sleeps : (until : ℕ) (r : Goroutine) → WasThere s m g (Some (in_mode (Mode.Sleeping until) r))
+-- who is parked now was parked before, as it is, or sleeps, or waits at a Cond; or was signalled, and waits for one of the objects that `may` change
+pub data WasThere (script : Script) (s : State) (m : Schedule) (may : ℕ → Bool) (g : ℕ) : Option Goroutine → Type 0 where
+  waited : is_waiting m g ≡ true → (o : Option Goroutine) → o ≡ goroutine_at s g → WasThere script s m may g o
+  sleeps : (until : ℕ) (r : Goroutine) → WasThere script s m may g (Some (in_mode (Mode.Sleeping until) r))
+  suspends : (k : ℕ) (r : Goroutine) → WasThere script s m may g (Some (in_mode (Mode.Suspended k) r))
+  relocks : (k : ℕ) (r : Goroutine) → may (mutex_of script k) ≡ true → WasThere script s m may g (Some (in_mode (Mode.Relocking k) r))
 
-abbrev pub AllWere : State → Schedule → State → Schedule → Type 0
-AllWere s m next n = (g : ℕ) → is_waiting n g ≡ true → WasThere s m g (goroutine_at next g)
+abbrev pub AllWere : Script → State → Schedule → (ℕ → Bool) → State → Schedule → Type 0
+AllWere script s m may next n = (g : ℕ) → is_waiting n g ≡ true → WasThere script s m may g (goroutine_at next g)
 
 -- ---- a goroutine without a misuse makes none
 
@@ -356,11 +400,11 @@ calm-standing script s g i e none =
     ∙ ap (λ (o : Option Reason). elim o as (λ o. Option (ℕ × Reason)) [ None ↦ None | Some reason ↦ Some (fault_case s i, reason) ]) none
 
 -- one of those that are parked makes no misuse, where it makes none after
-module _ (script : Script) (s next : State) (m n : Schedule) (x y : ℕ → Bool) (stays : Stays s next y) (were : AllWere s m next n) (calm : IsCalmBut script s m x) where
+module _ (script : Script) (s next : State) (m n : Schedule) (x y : ℕ → Bool) (stays : Stays s next y) (were : AllWere script s m y next n) (calm : IsCalmBut script s m x) where
   calm-before : (g : ℕ) (i : Instr) (test : CaseKind → Bool) → is_waiting m g ≡ true → stands_at script s g ≡ Some i → offers test i ≡ true → fault script next i ≡ None → fault script s i ≡ None
   calm-before g i test waits e passes none = fault-before script s next y test i stays passes (calm.objects g i waits e) none
 
-  partner-was : (g k : ℕ) (test : CaseKind → Bool) (i : Instr) (o : Option Goroutine) → WasThere s m k o → goroutine_at next k ≡ o → k ≢ g → stands_at script next k ≡ Some i → fault script next i ≡ None
+  partner-was : (g k : ℕ) (test : CaseKind → Bool) (i : Instr) (o : Option Goroutine) → WasThere script s m y k o → goroutine_at next k ≡ o → k ≢ g → stands_at script next k ≡ Some i → fault script next i ≡ None
       → polls i ≡ false → offers test i ≡ true → Partner script s (is_waiting m) g test
   partner-was g k test i o (waited waits p e) there other on none stays_there passes =
       let same : goroutine_at s k ≡ goroutine_at next k = sym (there ∙ e) in
@@ -375,6 +419,8 @@ module _ (script : Script) (s next : State) (m n : Schedule) (x y : ℕ → Bool
         passes = passes;
       }
   partner-was g k test i o (sleeps until r) there other on none stays_there passes = let asleep : stands_at script next k ≡ None = ap (stood script) there in cc
+  partner-was g k test i o (suspends c r) there other on none stays_there passes = let nowhere : stands_at script next k ≡ None = ap (stood script) there in cc
+  partner-was g k test i o (relocks c r here) there other on none stays_there passes = let nowhere : stands_at script next k ≡ None = ap (stood script) there in cc
 
   pub partner-back : (g : ℕ) (test : CaseKind → Bool) → partner_waits script next (is_waiting n) g test ≡ true → partner_waits script s (is_waiting m) g test ≡ true
   partner-back g test h =
@@ -396,7 +442,8 @@ module _ (script : Script) (s next : State) (m n : Schedule) (x y : ℕ → Bool
 -- the objects under a number
 pub record IsSame (s next : State) (o : ℕ) : Type 0 where
   pub channel : channel_at next o ≡ channel_at s o
-  pub sync : sync_at next o ≡ sync_at s o
+  pub lock : is_locked next o ≡ is_locked s o
+  pub counter : counter_of next o ≡ counter_of s o
 
 recv-same : (s next : State) (o : ℕ) (w : Option What) → IsSame s next o → is_ready_recv next no_timer o w ≡ is_ready_recv s no_timer o w
 recv-same s next o None same = refl
@@ -404,8 +451,9 @@ recv-same s next o (Some What.Timer) same = refl
 recv-same s next o (Some What.Ticker) same = refl
 recv-same s next o (Some (What.AfterFunc func)) same = refl
 recv-same s next o (Some (What.Chan cap)) same = ap (λ (ch : Option Channel). nat_lt 0 (length (kept_in ch)) || shut_in ch) same.channel
-recv-same s next o (Some What.Mutex) same = ap (λ (y : SyncState). not y.locked) same.sync
-recv-same s next o (Some What.Wg) same = ap (λ (y : SyncState). y.counter == 0) same.sync
+recv-same s next o (Some What.Mutex) same = ap not same.lock
+recv-same s next o (Some What.Wg) same = ap (λ n. n == 0) same.counter
+recv-same s next o (Some (What.Cond mutex)) same = refl
 recv-same s next o (Some What.Function) same = refl
 
 send-same : (s next : State) (c cap : ℕ) → channel_at next c ≡ channel_at s c → (is_closed next c || nat_lt (item_count next c) cap) ≡ (is_closed s c || nat_lt (item_count s c) cap)
@@ -432,7 +480,7 @@ record Was (script : Script) (s : State) (m : Schedule) (g k : ℕ) (kind : Case
   waits : is_waiting m g ≡ true
   at : operation_at script s (at_case g k) ≡ Some kind
 
-pub calm_but-next : (script : Script) (s next : State) (m n : Schedule) (x y : ℕ → Bool) → Stays s next y → AllWere s m next n → ((o : ℕ) → y o ≡ false → x o ≡ false) → IsCalmBut script s m x
+pub calm_but-next : (script : Script) (s next : State) (m n : Schedule) (x y : ℕ → Bool) → Stays s next y → AllWere script s m y next n → ((o : ℕ) → y o ≡ false → x o ≡ false) → IsCalmBut script s m x
     → ((c : ℕ) → y c ≡ true → c < length script.decls) → IsCalmBut script next n y
 calm_but-next script s next m n x y stays were wider calm declared = record {
   waits = λ g waits. stands-there g (goroutine_at next g) (were g waits) refl;
@@ -443,23 +491,49 @@ calm_but-next script s next m n x y stays were wider calm declared = record {
       (λ h. never-both (has_partner script s (is_waiting m) g kind) (partner-kept script s next m n x y stays were calm g kind h) (calm.partners g k kind w.waits w.at));
   others = λ g k kind waits e apart.
       let w : Was script s m g k kind = was g k kind (goroutine_at next g) (were g waits) refl e in
-      alone-same script s next kind (record { channel = stays.same (object_of kind) apart; sync = stays.syncs (object_of kind) apart }) ∙ calm.others g k kind w.waits w.at (wider (object_of kind) apart);
+      alone-same script s next kind (record {
+        channel = stays.same (object_of kind) apart;
+        lock = stays.locks (object_of kind) apart;
+        counter = stays.counters (object_of kind) apart;
+      }) ∙ calm.others g k kind w.waits w.at (wider (object_of kind) apart);
+  relocks = λ g k waits mode apart. locked g k (goroutine_at next g) (were g waits) refl mode apart;
   declared = declared;
 }
   where
-    was : (g k : ℕ) (kind : CaseKind) (o : Option Goroutine) → WasThere s m g o → goroutine_at next g ≡ o → operation_at script next (at_case g k) ≡ Some kind → Was script s m g k kind
+    was : (g k : ℕ) (kind : CaseKind) (o : Option Goroutine) → WasThere script s m y g o → goroutine_at next g ≡ o → operation_at script next (at_case g k) ≡ Some kind → Was script s m g k kind
     was g k kind o (waited waits p is) there e = record { waits = waits; at = ap (λ o. operation_of (stood script o) k) (sym (there ∙ is)) ∙ e }
     was g k kind o (sleeps until r) there e =
         let none : operation_at script next (at_case g k) ≡ None = ap (λ o. operation_of (stood script o) k) there in
         cc
+    was g k kind o (suspends c r) there e =
+        let none : operation_at script next (at_case g k) ≡ None = ap (λ o. operation_of (stood script o) k) there in
+        cc
+    was g k kind o (relocks c r here) there e =
+        let none : operation_at script next (at_case g k) ≡ None = ap (λ o. operation_of (stood script o) k) there in
+        cc
 
-    made-there : (g : ℕ) (i : Instr) (o : Option Goroutine) → WasThere s m g o → goroutine_at next g ≡ o → stands_at script next g ≡ Some i → unmade next i ≡ None
+    made-there : (g : ℕ) (i : Instr) (o : Option Goroutine) → WasThere script s m y g o → goroutine_at next g ≡ o → stands_at script next g ≡ Some i → unmade next i ≡ None
     made-there g i o (waited waits p is) there e = unmade-stays s next y i stays (calm.objects g i waits (ap (stood script) (sym (there ∙ is)) ∙ e))
     made-there g i o (sleeps until r) there e = let none : stands_at script next g ≡ None = ap (stood script) there in cc
+    made-there g i o (suspends c r) there e = let none : stands_at script next g ≡ None = ap (stood script) there in cc
+    made-there g i o (relocks c r here) there e = let none : stands_at script next g ≡ None = ap (stood script) there in cc
 
-    stands-there : (g : ℕ) (o : Option Goroutine) → WasThere s m g o → goroutine_at next g ≡ o → may_wait (stands_at script next g) ≡ true
+    stands-there : (g : ℕ) (o : Option Goroutine) → WasThere script s m y g o → goroutine_at next g ≡ o → may_wait (stands_at script next g) ≡ true
     stands-there g o (waited waits p is) there = ap (λ o. may_wait (stood script o)) (there ∙ is) ∙ calm.waits g waits
     stands-there g o (sleeps until r) there = ap (λ o. may_wait (stood script o)) there
+    stands-there g o (suspends c r) there = ap (λ o. may_wait (stood script o)) there
+    stands-there g o (relocks c r here) there = ap (λ o. may_wait (stood script o)) there
+
+    locked : (g k : ℕ) (o : Option Goroutine) → WasThere script s m y g o → goroutine_at next g ≡ o → mode_of next g ≡ Some (Mode.Relocking k) → y (mutex_of script k) ≡ false
+        → is_locked next (mutex_of script k) ≡ true
+    locked g k o (waited waits p is) there mode apart =
+        stays.locks (mutex_of script k) apart ∙ calm.relocks g k waits (ap its_mode (sym (there ∙ is)) ∙ mode) (wider (mutex_of script k) apart)
+    locked g k o (sleeps until r) there mode apart = let asleep : mode_of next g ≡ Some (Mode.Sleeping until) = ap its_mode there in cc
+    locked g k o (suspends c r) there mode apart = let suspended : mode_of next g ≡ Some (Mode.Suspended c) = ap its_mode there in cc
+    locked g k o (relocks c r here) there mode apart =
+        let relocking : mode_of next g ≡ Some (Mode.Relocking c) = ap its_mode there in
+        let same : c ≡ k = cc in
+        absurd (never-both (y (mutex_of script k)) (subst (λ k. y (mutex_of script k) ≡ true) same here) apart)
 
 -- nobody is firmly ready, nor but at no object
 abbrev pub nowhere : ℕ → Bool
@@ -471,28 +545,31 @@ calm-nowhere script s m calm = record {
   objects = λ g i waits e. firm-made script s (is_waiting m) g (Some i) (ap (firm_on script s (is_waiting m) g) (sym e) ∙ firm g waits);
   partners = λ g n kind waits e. (firm-each script s (is_waiting m) g (stood script (goroutine_at s g)) n kind (firm g waits) e).partner;
   others = λ g n kind waits e apart. (firm-each script s (is_waiting m) g (stood script (goroutine_at s g)) n kind (firm g waits) e).alone;
+  relocks = λ g k waits mode apart. firm-locked script s (is_waiting m) g k (goroutine_at s g) mode (calm g waits);
   declared = λ c h. cc;
 }
   where
     firm : (g : ℕ) → is_waiting m g ≡ true → firm_on script s (is_waiting m) g (stood script (goroutine_at s g)) ≡ false
-    firm g waits = sym (firm-stood script s (is_waiting m) g (goroutine_at s g)) ∙ calm g waits
+    firm g waits = firm-stood script s (is_waiting m) g (goroutine_at s g) (calm g waits)
 
--- where none of their operations is ready by itself, nobody is
+-- where none of their operations is ready by itself, and the mutexes are locked for which they wait, nobody is
 pub calm_but-calm : (script : Script) (s : State) (m : Schedule) (but : ℕ → Bool) → IsCalmBut script s m but
-    → ((g n : ℕ) (kind : CaseKind) → is_waiting m g ≡ true → operation_at script s (at_case g n) ≡ Some kind → is_ready_alone script s no_timer kind ≡ false) → IsCalm script s m
-calm_but-calm script s m but calm alone g waits =
-    firm-stood script s (is_waiting m) g (goroutine_at s g)
-    ∙ quiet-firm script s (is_waiting m) g (stood script (goroutine_at s g)) (calm.waits g waits) (made (stood script (goroutine_at s g)) refl)
-    (λ n kind e. record { alone = alone g n kind waits e; partner = calm.partners g n kind waits e })
+    → ((g n : ℕ) (kind : CaseKind) → is_waiting m g ≡ true → operation_at script s (at_case g n) ≡ Some kind → is_ready_alone script s no_timer kind ≡ false)
+    → ((g k : ℕ) → is_waiting m g ≡ true → mode_of s g ≡ Some (Mode.Relocking k) → is_locked s (mutex_of script k) ≡ true) → IsCalm script s m
+calm_but-calm script s m but calm alone locked g waits =
+    stood-firm script s (is_waiting m) g (goroutine_at s g)
+    (quiet-firm script s (is_waiting m) g (stood script (goroutine_at s g)) (calm.waits g waits) (made (stood script (goroutine_at s g)) refl)
+    (λ n kind e. record { alone = alone g n kind waits e; partner = calm.partners g n kind waits e }))
+    (λ k mode. locked g k waits mode)
   where
     made : (o : Option Instr) → stands_at script s g ≡ o → unmade_of s o ≡ None
     made None e = refl
     made (Some i) e = calm.objects g i waits e
 
 pub nowhere-calm : (script : Script) (s : State) (m : Schedule) → IsCalmBut script s m nowhere → IsCalm script s m
-nowhere-calm script s m but = calm_but-calm script s m nowhere but (λ g n kind waits e. but.others g n kind waits e refl)
+nowhere-calm script s m but = calm_but-calm script s m nowhere but (λ g n kind waits e. but.others g n kind waits e refl) (λ g k waits mode. but.relocks g k waits mode refl)
 
 -- where every object stays, and who is parked was parked before
-pub calm-next : (script : Script) (s next : State) (m n : Schedule) → Stays s next nowhere → AllWere s m next n → IsCalm script s m → IsCalm script next n
+pub calm-next : (script : Script) (s next : State) (m n : Schedule) → Stays s next nowhere → AllWere script s m nowhere next n → IsCalm script s m → IsCalm script next n
 calm-next script s next m n stays were calm =
     nowhere-calm script next n (calm_but-next script s next m n nowhere nowhere stays were (λ o e. refl) (calm-nowhere script s m calm) (λ c h. cc))

@@ -13,7 +13,7 @@ use Rattle.gt_schedule.specs.Scheduler.{schedule_of, capacity, IsScheduler, IsOr
 use Rattle.gt_schedule.proofs.Back.{status-given, parked-given}
 use Rattle.gt_book.specs.declared.book.Book.TheInside.{Inside}
 use Rattle.gt_rules.specs.Operations.{receives_from, sends_to}
-use Rattle.gt_book.specs.View.{Fits, Agrees, is_at}
+use Rattle.gt_book.specs.View.{Fits, Agrees, wants}
 use Rattle.gt_book.specs.Book.{IsKept}
 use Rattle.gt_book.specs.Calm.{IsCalm}
 use Rattle.gt_book.proofs.Calm.{calm-scheduled}
@@ -28,6 +28,8 @@ agrees-back : (mode : Mode) (x : RunStatus) → Agrees mode x → Agrees mode (b
 agrees-back mode RunStatus.Queued h = h
 agrees-back Mode.At RunStatus.InHand h = tt
 agrees-back (Mode.Sleeping until) RunStatus.InHand h = absurd h
+agrees-back (Mode.Suspended k) RunStatus.InHand h = absurd h
+agrees-back (Mode.Relocking k) RunStatus.InHand h = absurd h
 agrees-back Mode.Ended RunStatus.InHand h = absurd h
 agrees-back mode (RunStatus.Parked since) h = h
 agrees-back mode RunStatus.Ended h = h
@@ -44,14 +46,15 @@ was-status (Some x) status e = record { was = x; there = refl; now = cc }
 fits-given : (script : Script) (s : State) (m : Schedule) → Fits script s m → IsOrderly (given_back m) → Fits script s (given_back m)
 fits-given script s m fits orderly = record {
   as_many = as_many-back m.statuses ∙ fits.as_many;
+  mutexes = fits.mutexes;
   receivers = fits.receivers;
   senders = fits.senders;
   agree = λ g r status there is.
       let w : WasStatus (status_of m g) status = was-status (status_of m g) status (sym (status-given m g) ∙ is) in
       subst (λ (x : RunStatus). Agrees r.mode x) w.now (agrees-back r.mode w.was (fits.agree g r w.was there w.there));
   queued = orderly.queued;
-  waiting = λ t p h. fits.waiting t p h ∙ ap (λ b. as_number (b && is_at script s p (receives_from t))) (sym (parked-given m p.g));
-  sending = λ c p h. fits.sending c p h ∙ ap (λ b. as_number (b && is_at script s p (sends_to c))) (sym (parked-given m p.g));
+  waiting = λ t p h. fits.waiting t p h ∙ ap (λ b. as_number (b && wants script s p (receives_from t))) (sym (parked-given m p.g));
+  sending = λ c p h. fits.sending c p h ∙ ap (λ b. as_number (b && wants script s p (sends_to c))) (sym (parked-given m p.g));
 }
 
 calm-given : (script : Script) (s : State) (m : Schedule) → IsCalm script s m → IsCalm script s (given_back m)

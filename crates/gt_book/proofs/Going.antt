@@ -1,5 +1,5 @@
 -- A book whose schedule changes, and one that ends, keep what a book keeps; what a goroutine in hand does may come.
-use Rattle.std.proofs.Common.{◌≡◌, ◌≢◌, ℕ, ◌+◌, ◌<◌, nat_lt, cond, List, [], ◌∷◌, refl, sym, ap, subst, ◌∙◌, arith, Option, None, Some, IfSome, IfNone, length, is_some, IsSome, slice_get, Bool, true, false, not, ◌&&◌, ◌||◌, IsTrue, zero, suc, MatchOption, inl, inr}
+use Rattle.std.proofs.Common.{◌≡◌, ◌≢◌, ℕ, ◌+◌, ◌<◌, nat_lt, cond, List, [], ◌∷◌, refl, sym, ap, subst, ◌∙◌, arith, Option, None, Some, IfSome, IfNone, length, is_some, IsSome, slice_get, Bool, true, false, not, ◌&&◌, ◌||◌, IsTrue, zero, suc, MatchOption, inl, inr, option_map}
 use Rattle.std.proofs.lemmas.Bool.{ltb-true, eqb-true}
 use Rattle.gt_model.specs.declared.script.Script.{Script}
 use Rattle.gt_model.specs.declared.script.Instr.{Instr}
@@ -13,12 +13,12 @@ use Rattle.gt_model.specs.declared.entry.Party.{Party}
 use Rattle.gt_model.specs.declared.entry.Reason.{Reason}
 use Rattle.gt_model.specs.declared.state.Goroutine.{Goroutine}
 use Rattle.gt_model.specs.declared.state.Mode.{Mode}
-use Rattle.gt_rules.specs.State.{State, timer_at, channel_at, stands, stands_at, clock_of, sleeps_until, items_of, item_count, is_open, is_closed, is_locked, counter_of, is_done}
+use Rattle.gt_rules.specs.State.{State, timer_at, channel_at, stands, stands_at, clock_of, until_of, sleeps_until, items_of, item_count, is_open, is_closed, is_locked, counter_of, is_done}
 use Rattle.gt_model.specs.Script.{instr_at, code_of, what_at, is_timer, is_chan, is_mutex, is_wg, capacity_of, names_timer, names_chan, names_mutex, names_wg}
 use Rattle.gt_model.proofs.Declared.{declared_within, chan_declared}
 use Rattle.gt_model.proofs.Items.{numbered-change_other}
 use Rattle.gt_rules.specs.Panics.{fault, fault_case, when, panic_at}
-use Rattle.gt_rules.specs.Legal.{May, MayPanic, ChoosesClosed, Does, Operates, operation_at, is_polling}
+use Rattle.gt_rules.specs.Legal.{May, MayPanic, Signals, ChoosesClosed, Does, Operates, operation_at, is_polling}
 use Rattle.gt_rules.specs.Finish.{IsIdle}
 use Rattle.gt_rules.specs.Counted.{counted}
 use Rattle.gt_model.specs.Good.{IsGood, NamesRightly}
@@ -31,7 +31,7 @@ use Rattle.gt_schedule.specs.declared.scheduler.Scheduler.{Scheduler}
 use Rattle.gt_schedule.specs.declared.status.RunStatus.{RunStatus}
 use Rattle.gt_book.specs.declared.step.Step.{Step}
 use Rattle.gt_machine.specs.Machine.{state_of}
-use Rattle.gt_schedule.specs.Schedule.{Schedule, plainly, at_case, status_of, is_in_hand, is_parked, taken, gone_on, moved_by, MayMove, ServedBy, Served}
+use Rattle.gt_schedule.specs.Schedule.{Schedule, plainly, at_case, status_of, is_in_hand, is_parked, parties_at, taken, gone_on, moved_by, MayMove, ServedBy, Served}
 use Rattle.gt_schedule.specs.Scheduler.{schedule_of, capacity, IsScheduler}
 use Rattle.gt_schedule.proofs.Moving.{first-queued}
 use Rattle.gt_rules.specs.Change.{Change, change_of}
@@ -44,12 +44,12 @@ use Rattle.gt_book.proofs.Calm.{CanPark, calm-taken}
 use Rattle.gt_book.proofs.Entering.{running-none, sound-more, sound-lawful, lawful-sound}
 use Rattle.gt_book.specs.declared.run.Run.{Run}
 use Rattle.gt_book.proofs.Books.{Finished, seen-finished, finished-rooms}
-use Rattle.gt_book.proofs.Fitting.{Known, known, fits-taken, fits-changed}
+use Rattle.gt_book.proofs.Fitting.{Known, known, fits-taken, fits-changed, rightly-finish}
 use Rattle.gt_book.proofs.Firm.{never-both, calm-standing, panic-standing}
 use Rattle.gt_book.proofs.Choosing.{sends-made}
 use Rattle.gt_book.proofs.Options.{ChoiceIs, case_goes, case_polls, all_rest, all_wait, choice-so, none-rests, or-is, sends-none}
 use Rattle.gt_rules.specs.Operations.{operation}
-use Rattle.gt_book.proofs.Meeting.{plain-is, recv-is, send-is, choice-is, stands-awake, operates-awake, Met, sender-met, receiver-met, parked-other, open-is, met-open, timer-alone, timer-unready}
+use Rattle.gt_book.proofs.Meeting.{plain-is, recv-is, send-is, choice-is, stands-awake, operates-awake, Met, sender-met, receiver-met, parked-other, suspended-parked, signals-rightly, open-is, met-open, timer-alone, timer-unready}
 
 -- ---- another schedule
 
@@ -91,6 +91,7 @@ kept-marked b m marks kept is places scheduler =
     kept-scheduled b m (record (schedule_of b.run.scheduler) { marks = marks }) kept is
     (record {
       as_many = fits.as_many;
+      mutexes = fits.mutexes;
       receivers = fits.receivers;
       senders = fits.senders;
       agree = fits.agree;
@@ -118,7 +119,8 @@ pub lawful-deadlock : (v : BookView) → IsLawful v → outcome_of v ≡ None �
 lawful-deadlock v lawful none idle uncounted =
     lawful-sound (with_entries v (Entry.Finish Outcome.Deadlock ∷ []))
     (sound-more v (Entry.Finish Outcome.Deadlock) (sound-lawful v lawful) (running-none v lawful none, idle, uncounted)
-    (formed-finish v.script v.state Outcome.Deadlock lawful.formed) (fits-changed v.script v.state v.schedule (change_of (Entry.Finish Outcome.Deadlock)) lawful.fits (tt, tt)))
+    (formed-finish v.script v.state Outcome.Deadlock lawful.formed)
+    (fits-changed v.script v.state v.schedule (change_of (Entry.Finish Outcome.Deadlock)) (rightly-finish v.script v.state Outcome.Deadlock lawful.good lawful.formed) lawful.fits (tt, tt)))
     tt (λ none. cc)
 
 abbrev pub ended : Inside → Run → Inside
@@ -152,6 +154,8 @@ agrees-stands script s r Mode.At is h placed =
       sym (ap (λ (o : Option Instr). elim o as (λ o. Option Place) [ None ↦ None | Some i ↦ silent r.place i ]) found.1) ∙ placed.1,
     )
 agrees-stands script s r (Mode.Sleeping until) is h placed = absurd h
+agrees-stands script s r (Mode.Suspended k) is h placed = absurd h
+agrees-stands script s r (Mode.Relocking k) is h placed = absurd h
 agrees-stands script s r Mode.Ended is h placed = absurd h
 
 pub in_hand-stands : (v : BookView) (g : ℕ) → IsLawful v → status_of v.schedule g ≡ Some RunStatus.InHand → (i : Instr) × (stands_at v.script v.state g ≡ Some i) × (p : Place) × (silent p i ≡ None)
@@ -216,12 +220,13 @@ abbrev pub IsAwake : Move → Type 0
 IsAwake (Move.FallsAsleep until) = ⊥
 IsAwake _ = Unit {0}
 
--- a change that sets no timer, moves no clock and lets nobody sleep
+-- a change that sets no timer, moves no clock, lets nobody sleep and signals no more than one
 pub record IsCall (c : Change) : Type 0 where
   pub mover : IfSome c.mover (λ (x : ℕ × Move). IsAwake x.1)
   pub partner : IfSome c.partner (λ (x : ℕ × Move). IsAwake x.1)
   pub timer : c.timer ≡ None
   pub clock : c.clock ≡ None
+  pub alone : c.broadcast ≡ None
 
 -- such an entry
 abbrev IsCalled : Step → Type 0
@@ -233,8 +238,8 @@ AreCalled None = Unit {0}
 AreCalled (Some e) = IsCall (change_of e)
 
 called-receives : (p : Party) (c : ℕ) (items : List ℕ) (closed : Bool) → AreCalled (receives_alone p c items closed)
-called-receives p c (v ∷ items) closed = record { mover = tt; partner = tt; timer = refl; clock = refl }
-called-receives p c [] true = record { mover = tt; partner = tt; timer = refl; clock = refl }
+called-receives p c (v ∷ items) closed = record { mover = tt; partner = tt; timer = refl; clock = refl; alone = refl }
+called-receives p c [] true = record { mover = tt; partner = tt; timer = refl; clock = refl; alone = refl }
 called-receives p c [] false = tt
 
 called-takes : (s : State) (p : Party) (o : ℕ) (w : Option What) → AreCalled (takes_alone s p o w)
@@ -243,26 +248,26 @@ called-takes s p o (Some What.Mutex) = by (is_locked s o)
   where
     by : (b : Bool) → AreCalled (cond b None (Some (Entry.Lock p.g o)))
     by true = tt
-    by false = record { mover = tt; partner = tt; timer = refl; clock = refl }
+    by false = record { mover = tt; partner = tt; timer = refl; clock = refl; alone = refl }
 called-takes s p o (Some What.Wg) = by (is_done s o)
   where
     by : (b : Bool) → AreCalled (cond b (Some (Entry.WgWait p.g o)) None)
-    by true = record { mover = tt; partner = tt; timer = refl; clock = refl }
+    by true = record { mover = tt; partner = tt; timer = refl; clock = refl; alone = refl }
     by false = tt
 called-takes s p o (Some _) = tt
 
 called-sends : (p : Party) (c v : ℕ) (closed room : Bool) → AreCalled (sends_alone p c v closed room)
-called-sends p c v true room = record { mover = tt; partner = tt; timer = refl; clock = refl }
-called-sends p c v false true = record { mover = tt; partner = tt; timer = refl; clock = refl }
+called-sends p c v true room = record { mover = tt; partner = tt; timer = refl; clock = refl; alone = refl }
+called-sends p c v false true = record { mover = tt; partner = tt; timer = refl; clock = refl; alone = refl }
 called-sends p c v false false = tt
 
 called-sender : (script : Script) (s : State) (p : Party) (c : ℕ) (o : Option Party) → AreCalled (meets_sender script s p c o)
 called-sender script s p c None = tt
-called-sender script s p c (Some q) = record { mover = tt; partner = tt; timer = refl; clock = refl }
+called-sender script s p c (Some q) = record { mover = tt; partner = tt; timer = refl; clock = refl; alone = refl }
 
 called-receiver : (p : Party) (c v : ℕ) (o : Option Party) → AreCalled (meets_receiver p c v o)
 called-receiver p c v None = tt
-called-receiver p c v (Some q) = record { mover = tt; partner = tt; timer = refl; clock = refl }
+called-receiver p c v (Some q) = record { mover = tt; partner = tt; timer = refl; clock = refl; alone = refl }
 
 called-where : (b : Bool) (o other : Option Entry) → AreCalled o → AreCalled other → AreCalled (cond b o other)
 called-where true o other h k = h
@@ -290,18 +295,18 @@ called-plain kind (Some e) h = h
 called-choice : (script : Script) (s : State) (m : Schedule) (g : ℕ) (cases : List Case) (default_to : Option ℕ) (step : Step) → ChoiceIs script s m g cases default_to step → IsCalled step
 called-choice script s m g cases default_to step (case_goes n kind e has by) = subst AreCalled by (called-by script s m (at_case g n) kind)
 called-choice script s m g cases default_to step (case_polls n kind t has come) = tt
-called-choice script s m g cases default_to step (all_rest to e none) = record { mover = tt; partner = tt; timer = refl; clock = refl }
+called-choice script s m g cases default_to step (all_rest to e none) = record { mover = tt; partner = tt; timer = refl; clock = refl; alone = refl }
 called-choice script s m g cases default_to step (all_wait e none) = tt
 
 called : (script : Script) (s : State) (m : Schedule) (g : ℕ) (i : Instr) → IsCalled (step_of_instr script s m g i)
-called script s m g (Instr.Say n) = record { mover = tt; partner = tt; timer = refl; clock = refl }
-called script s m g Instr.Now = record { mover = tt; partner = tt; timer = refl; clock = refl }
-called script s m g (Instr.Sleep zero) = record { mover = tt; partner = tt; timer = refl; clock = refl }
+called script s m g (Instr.Say n) = record { mover = tt; partner = tt; timer = refl; clock = refl; alone = refl }
+called script s m g Instr.Now = record { mover = tt; partner = tt; timer = refl; clock = refl; alone = refl }
+called script s m g (Instr.Sleep zero) = record { mover = tt; partner = tt; timer = refl; clock = refl; alone = refl }
 called script s m g (Instr.Sleep (suc d)) = tt
-called script s m g (Instr.Go f) = record { mover = tt; partner = tt; timer = refl; clock = refl }
-called script s m g (Instr.Make c) = record { mover = tt; partner = tt; timer = refl; clock = refl }
-called script s m g (Instr.Close c) = record { mover = tt; partner = tt; timer = refl; clock = refl }
-called script s m g Instr.Finish = record { mover = tt; partner = tt; timer = refl; clock = refl }
+called script s m g (Instr.Go f) = record { mover = tt; partner = tt; timer = refl; clock = refl; alone = refl }
+called script s m g (Instr.Make c) = record { mover = tt; partner = tt; timer = refl; clock = refl; alone = refl }
+called script s m g (Instr.Close c) = record { mover = tt; partner = tt; timer = refl; clock = refl; alone = refl }
+called script s m g Instr.Finish = record { mover = tt; partner = tt; timer = refl; clock = refl; alone = refl }
 called script s m g (Instr.Recv o) = received (is_chan script o)
   where
     received : (b : Bool) → IsCalled (cond b (plain_step (CaseKind.Recv o) (goes_by script s m (plainly g) (CaseKind.Recv o))) (Step.Waits o))
@@ -311,8 +316,15 @@ called script s m g (Instr.Send c v) = called-plain (CaseKind.Send c v) (goes_by
 called script s m g (Instr.Select cases default_to) = called-choice script s m g cases default_to _ (choice-so script s m g cases default_to)
 called script s m g (Instr.Lock k) = called-plain (CaseKind.Recv k) (goes_by script s m (plainly g) (CaseKind.Recv k)) (called-by script s m (plainly g) (CaseKind.Recv k))
 called script s m g (Instr.Wait w) = called-plain (CaseKind.Recv w) (goes_by script s m (plainly g) (CaseKind.Recv w)) (called-by script s m (plainly g) (CaseKind.Recv w))
-called script s m g (Instr.Unlock k) = record { mover = tt; partner = tt; timer = refl; clock = refl }
-called script s m g (Instr.Add w n) = record { mover = tt; partner = tt; timer = refl; clock = refl }
+called script s m g (Instr.Unlock k) = record { mover = tt; partner = tt; timer = refl; clock = refl; alone = refl }
+called script s m g (Instr.CWait k) = record { mover = tt; partner = tt; timer = refl; clock = refl; alone = refl }
+called script s m g (Instr.Signal k) = by (option_map (λ (p : Party). p.g) (slice_get (parties_at m.receivers k) 0))
+  where
+    by : (woken : Option ℕ) → IsCall (change_of (Entry.Signal g k woken))
+    by None = record { mover = tt; partner = tt; timer = refl; clock = refl; alone = refl }
+    by (Some h) = record { mover = tt; partner = tt; timer = refl; clock = refl; alone = refl }
+called script s m g (Instr.Broadcast k) = tt
+called script s m g (Instr.Add w n) = record { mover = tt; partner = tt; timer = refl; clock = refl; alone = refl }
 called script s m g (Instr.Jump to) = tt
 called script s m g (Instr.New t d) = tt
 called script s m g (Instr.Stop t) = tt
@@ -331,15 +343,16 @@ makes-call script s m g e h =
   where
     each : (i : Instr) (o : Option Reason) → IsCalled (step_or_panic script s m g i o)
     each i None = called script s m g i
-    each i (Some reason) = record { mover = tt; partner = tt; timer = refl; clock = refl }
+    each i (Some reason) = record { mover = tt; partner = tt; timer = refl; clock = refl; alone = refl }
 
 -- ---- what the entry of a step is
 
--- an entry of g alone, or one with a partner that is parked
+-- an entry of g alone, or one with a partner that is parked, or one that signals who is suspended
 pub data MakesSo (script : Script) (s : State) (m : Schedule) (g : ℕ) : Entry → Type 0 where
   alone : (e : Entry) (move : Move) → May script s e → MayMove (Some RunStatus.InHand) move → (change_of e).mover ≡ Some (g, move) → (change_of e).partner ≡ None → MakesSo script s m g e
   from_partner : (q : Party) (n c v : ℕ) → is_waiting m q.g ≡ true → May script s (Entry.Pair q (at_case g n) c v) → MakesSo script s m g (Entry.Pair q (at_case g n) c v)
   to_partner : (q : Party) (n c v : ℕ) → is_waiting m q.g ≡ true → May script s (Entry.Pair (at_case g n) q c v) → MakesSo script s m g (Entry.Pair (at_case g n) q c v)
+  to_suspended : (h k : ℕ) → is_waiting m h ≡ true → May script s (Entry.Signal g k (Some h)) → MakesSo script s m g (Entry.Signal g k (Some h))
 
 not-and_left : (a b : Bool) → a ≡ false → not (a && b) ≡ true
 not-and_left false b h = refl
@@ -356,7 +369,7 @@ panics-closed script s p c v sends shut =
     subst (λ (o : Option (ℕ × Reason)). MatchOption o (ChoosesClosed s (operation_at script s p) Reason.Closed) (λ x. x ≡ (p.case_no, Reason.Closed))) (sym sends.calm)
     (subst (λ o. ChoosesClosed s o Reason.Closed) (sym sends.stands) (shut, refl))
 
-module _ (script : Script) (s : State) (m : Schedule) (g : ℕ) (good : IsGood script) (fits : Fits script s m) (calm : IsCalm script s m)
+module _ (script : Script) (s : State) (m : Schedule) (g : ℕ) (good : IsGood script) (formed : IsFormed script s) (fits : Fits script s m) (calm : IsCalm script s m)
     (in_hand : status_of m g ≡ Some RunStatus.InHand) where
   -- an operation that goes on by itself
   makes-receives : (n c : ℕ) (items : List ℕ) (closed : Bool) (e : Entry) → items_of s c ≡ items → is_closed s c ≡ closed → IsTrue (is_chan script c)
@@ -423,7 +436,7 @@ module _ (script : Script) (s : State) (m : Schedule) (g : ℕ) (good : IsGood s
   makes-receiver n c v None e met chan unshut sends h = cc
   makes-receiver n c v (Some q) e met chan unshut sends h =
       let is : Entry.Pair (at_case g n) q c v ≡ e = cc in
-      let receiver : Met script s m q c (CaseKind.Recv c) = receiver-met script s m q c fits calm (chan_declared script c chan) met in
+      let receiver : Met script s m q c (CaseKind.Recv c) = receiver-met script s m q c good formed fits calm chan met in
       subst (MakesSo script s m g) is (to_partner q n c v receiver.waits (
         sends,
         receiver.operates,
@@ -480,6 +493,11 @@ module _ (script : Script) (s : State) (m : Schedule) (g : ℕ) (good : IsGood s
       (record { cases = cases; to = to; does = here; none = none-rests script s m g cases 1 rest }) refl refl refl)
   makes-choice cases default_to step e does none (all_wait is_none rest) h = cc
 
+  -- a signal wakes who has waited longest at its Cond, or nobody
+  makes-signal : (k : ℕ) (woken : Option ℕ) → Does script s g (Instr.Signal k) → Signals s k woken → MakesSo script s m g (Entry.Signal g k woken)
+  makes-signal k None does wakes = alone (Entry.Signal g k None) (Move.GoesOn 0) (does, wakes) refl refl refl
+  makes-signal k (Some h) does wakes = to_suspended h k (suspended-parked script s m h k fits wakes) (does, wakes)
+
   makes-instr : (i : Instr) (e : Entry) → Does script s g i → fault script s i ≡ None → step_of_instr script s m g i ≡ Step.Makes e → MakesSo script s m g e
   makes-instr (Instr.Say n) e does none h =
       let is : Entry.Say g n ≡ e = cc in subst (MakesSo script s m g) is (alone (Entry.Say g n) (Move.GoesOn 0) does refl refl refl)
@@ -508,6 +526,13 @@ module _ (script : Script) (s : State) (m : Schedule) (g : ℕ) (good : IsGood s
       makes-by 0 (CaseKind.Recv k) (Instr.Lock k) e refl does none (makes-plain (CaseKind.Recv k) (goes_by script s m (plainly g) (CaseKind.Recv k)) e h)
   makes-instr (Instr.Unlock k) e does none h =
       let is : Entry.Unlock g k ≡ e = cc in subst (MakesSo script s m g) is (alone (Entry.Unlock g k) (Move.GoesOn 0) does refl refl refl)
+  makes-instr (Instr.CWait k) e does none h =
+      let is : Entry.CondWait g k ≡ e = cc in subst (MakesSo script s m g) is (alone (Entry.CondWait g k) (Move.Suspends k) does refl refl refl)
+  makes-instr (Instr.Signal k) e does none h =
+      let woken : Option ℕ = option_map (λ (p : Party). p.g) (slice_get (parties_at m.receivers k) 0) in
+      let is : Entry.Signal g k woken ≡ e = cc in
+      subst (MakesSo script s m g) is (makes-signal k woken does (signals-rightly script s m k good formed fits (names-Does script s g (Instr.Signal k) good does)))
+  makes-instr (Instr.Broadcast k) e does none h = cc
   makes-instr (Instr.Add w n) e does none h =
       let is : Entry.Add g w n ≡ e = cc in subst (MakesSo script s m g) is (alone (Entry.Add g w n) (Move.GoesOn 0) does refl refl refl)
   makes-instr (Instr.Wait w) e does none h =
@@ -541,10 +566,11 @@ so-may : (script : Script) (s : State) (m : Schedule) (g : ℕ) (e : Entry) → 
 so-may script s m g e (alone _ move may moves mover none) = may
 so-may script s m g e (from_partner q n c v waits may) = may
 so-may script s m g e (to_partner q n c v waits may) = may
+so-may script s m g e (to_suspended h k waits may) = may
 
 pub makes-may : (script : Script) (s : State) (m : Schedule) (g : ℕ) (e : Entry) → IsGood script → IsFormed script s → Fits script s m → IsCalm script s m
     → status_of m g ≡ Some RunStatus.InHand → step_of script s m g ≡ Some (Step.Makes e) → May script s e
-makes-may script s m g e good formed fits calm in_hand h = so-may script s m g e (makes-so script s m g good fits calm in_hand e h)
+makes-may script s m g e good formed fits calm in_hand h = so-may script s m g e (makes-so script s m g good formed fits calm in_hand e h)
 
 -- ---- who makes it
 
@@ -579,10 +605,11 @@ so-served script s m g e in_hand (to_partner q n c v waits may) = (
   in_hand-goes (status_of m g) in_hand,
   parked-goes _ (waits-stays m g q.g n (parked-other m q.g g waits in_hand) waits),
 )
+so-served script s m g e in_hand (to_suspended h k waits may) = (in_hand-goes (status_of m g) in_hand, waits-stays m g h 0 (parked-other m h g waits in_hand) waits)
 
 pub makes-served : (script : Script) (s : State) (m : Schedule) (g : ℕ) (e : Entry) → IsGood script → IsFormed script s → Fits script s m → IsCalm script s m
     → status_of m g ≡ Some RunStatus.InHand → step_of script s m g ≡ Some (Step.Makes e) → Served m e
-makes-served script s m g e good formed fits calm in_hand h = so-served script s m g e in_hand (makes-so script s m g good fits calm in_hand e h)
+makes-served script s m g e good formed fits calm in_hand h = so-served script s m g e in_hand (makes-so script s m g good formed fits calm in_hand e h)
 
 -- nobody who moves by an entry sleeps
 pub record AreAwake (s : State) (c : Change) : Type 0 where
@@ -596,12 +623,16 @@ so-awake script s m g e awake (alone _ move may moves mover none) = record {
 }
 so-awake script s m g e awake (from_partner q n c v waits may) = record { mover = operates-awake script s q (CaseKind.Send c v) may.0; partner = awake }
 so-awake script s m g e awake (to_partner q n c v waits may) = record { mover = awake; partner = operates-awake script s q (CaseKind.Recv c) may.1 }
+so-awake script s m g e awake (to_suspended h k waits may) = record {
+  mover = awake;
+  partner = ap (λ (o : Option Mode). elim o as (λ o. Option ℕ) [ None ↦ None | Some mode ↦ until_of mode ]) may.1;
+}
 
 pub makes-awake : (script : Script) (s : State) (m : Schedule) (g : ℕ) (e : Entry) → IsGood script → IsFormed script s → Fits script s m → IsCalm script s m
     → status_of m g ≡ Some RunStatus.InHand → step_of script s m g ≡ Some (Step.Makes e) → AreAwake s (change_of e)
 makes-awake script s m g e good formed fits calm in_hand h =
     let step : IsStep script s m g (Step.Makes e) = step-is script s m g (Step.Makes e) h in
-    so-awake script s m g e (stands-awake script s g step.instr step.stands) (makes-so script s m g good fits calm in_hand e h)
+    so-awake script s m g e (stands-awake script s g step.instr step.stands) (makes-so script s m g good formed fits calm in_hand e h)
 
 -- ---- who waits at a timer
 

@@ -1,11 +1,19 @@
 pub mod Firm
 pub mod Entering
+pub mod Changing
+pub mod Joining
+pub mod Relocking
+pub mod Signalling
+pub mod Turning
 pub mod Fitting
 pub mod Stays
 pub mod Calm
 pub mod Books
+pub mod Wanting
 pub mod Meeting
+pub mod Woken
 pub mod Waking
+pub mod Broadcasting
 pub mod Going
 pub mod Resting
 pub mod Giving
@@ -19,3 +27,4 @@ pub mod Setting
 pub mod Parking
 pub mod Choosing
 pub mod Options
+pub mod Broadcasts

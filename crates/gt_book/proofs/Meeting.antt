@@ -1,6 +1,6 @@
 -- What a goroutine in hand meets at a channel: a partner that is parked there, which stands at its operation without a misuse, or nobody.
-use Rattle.std.proofs.Common.{◌≡◌, ◌≢◌, ℕ, ◌+◌, ◌<◌, ◌==◌, nat_lt, cond, List, [], ◌∷◌, length, slice_get, refl, sym, ap, subst, ◌∙◌, Option, None, Some, Bool, true, false, not, ◌&&◌, ◌||◌, is_some, IsTrue}
-use Rattle.std.proofs.lemmas.Bool.{eqb-true, and_parts, and_from}
+use Rattle.std.proofs.Common.{◌≡◌, ◌≢◌, ℕ, zero, suc, ◌+◌, ◌<◌, ◌==◌, nat_lt, cond, List, [], ◌∷◌, length, slice_get, refl, sym, ap, ◌∙◌, Option, None, Some, Bool, true, false, not, ◌&&◌, ◌||◌, is_some, IsTrue}
+use Rattle.std.proofs.lemmas.Bool.{eqb-true, eq-eqb, and_parts, and_from}
 use Rattle.std.specs.Option.{option_map}
 use Rattle.gt_model.specs.declared.script.Script.{Script}
 use Rattle.gt_model.specs.declared.script.Instr.{Instr}
@@ -11,24 +11,30 @@ use Rattle.gt_model.specs.declared.entry.Entry.{Entry}
 use Rattle.gt_model.specs.declared.entry.Party.{Party}
 use Rattle.gt_model.specs.declared.state.Goroutine.{Goroutine}
 use Rattle.gt_model.specs.declared.state.Mode.{Mode}
-use Rattle.gt_model.specs.Script.{is_chan, names_timer, capacity_of}
-use Rattle.gt_rules.specs.State.{State, Channel, channel_at, stands_at, clock_of, until_of, sleeps_until, item_count, is_open, is_closed}
+use Rattle.gt_model.specs.Script.{is_timer, is_chan, is_cond, names_timer, capacity_of}
+use Rattle.gt_rules.specs.State.{State, Channel, channel_at, mode_of, stands_at, clock_of, until_of, sleeps_until, suspended_count, item_count, is_open, is_closed}
 use Rattle.gt_rules.specs.Operations.{operation, offers, polls, receives_from, sends_to}
-use Rattle.gt_rules.specs.Legal.{Operates, operation_at, is_polling}
+use Rattle.gt_rules.specs.Legal.{Operates, Signals, operation_at, is_polling}
 use Rattle.gt_rules.specs.Panics.{fault}
-use Rattle.gt_rules.specs.Ready.{is_ready_recv, is_ready_case, is_ready_instr, has_partner, partner_waits, no_timer}
-use Rattle.gt_facts.proofs.Lookups.{Standing, standing, AtOperation, at_operation, Offered, offered}
+use Rattle.gt_rules.specs.Ready.{is_ready_recv, is_ready_case, is_ready_instr, is_ready_at, has_partner, partner_waits, is_firm, is_firm_in, no_timer}
+use Rattle.gt_facts.proofs.Lookups.{Standing, standing, AtOperation, at_operation, Offered, offered, InMode, in-mode}
 use Rattle.gt_facts.proofs.Partners.{Partner, partner}
 use Rattle.gt_schedule.specs.declared.status.RunStatus.{RunStatus}
 use Rattle.gt_schedule.specs.Schedule.{Schedule, plainly, at_case, status_of, is_parked, parties_at}
 use Rattle.gt_book.specs.declared.step.Step.{Step}
 use Rattle.gt_book.specs.declared.answers.TimerOp.{TimerOp}
 use Rattle.gt_book.specs.Steps.{partner_in, value_of, plain_step, goes_by, case_step, come_timer, first_step, no_case, step_of_instr}
-use Rattle.gt_book.specs.View.{is_waiting, is_at, is_parked_at, Fits}
+use Rattle.gt_book.specs.View.{Agrees, is_waiting, is_firm_at, is_at, wants, is_parked_at, Fits}
 use Rattle.gt_book.specs.Calm.{IsCalm}
-use Rattle.gt_book.proofs.Fitting.{first-waiting, first-sending, none-waiting, none-sending}
+use Rattle.gt_book.proofs.Fitting.{has_status, first-waiting, first-sending, none-waiting, none-sending}
+use Rattle.gt_book.proofs.Wanting.{receives-kind, operates-wanted, suspended-wanted, wanted-passes, wants-sends, wants-receives, wants-suspended}
+use Rattle.gt_model.specs.Good.{IsGood, gives_values}
+use Rattle.gt_model.proofs.Declared.{chan_declared, cond_declared}
+use Rattle.gt_model.proofs.Items.{HasNumber}
+use Rattle.gt_facts.specs.Formed.{IsFormed}
+use Rattle.gt_facts.proofs.Suspended.{Waiter, waiter}
 use Rattle.gt_book.proofs.Choosing.{unready-waits, unready-operation, sends-made}
-use Rattle.gt_book.proofs.Firm.{IsOpenChannel, or-false, firm_on, firm-stood, no-reason, calm-standing, unless-true, never-both}
+use Rattle.gt_book.proofs.Firm.{IsOpenChannel, or-false, no-reason, calm-standing, unless-true, never-both}
 
 -- ---- a step at a channel makes an entry or parks; one at a timer waits
 
@@ -79,6 +85,8 @@ choice-is P makes polls waits script s m g cases default_to = first 1 cases
 mode-awake : (mode : Mode) → mode ≡ Mode.At → until_of mode ≡ None
 mode-awake Mode.At e = refl
 mode-awake (Mode.Sleeping until) e = cc
+mode-awake (Mode.Suspended k) e = cc
+mode-awake (Mode.Relocking k) e = cc
 mode-awake Mode.Ended e = cc
 
 -- who stands at an instruction does not sleep
@@ -108,10 +116,6 @@ at-stood script s p test h =
       | Some kind ↦ λ e k. record { kind = kind; there = e; passes = k }
     ] refl h
 
-pub receives-kind : (kind : CaseKind) (o : ℕ) → receives_from o kind ≡ true → kind ≡ CaseKind.Recv o
-receives-kind (CaseKind.Recv p) o h = ap CaseKind.Recv (eqb-true p o h)
-receives-kind (CaseKind.Send c v) o h = cc
-
 sends-kind : (kind : CaseKind) (c : ℕ) → sends_to c kind ≡ true → kind ≡ CaseKind.Send c (value_of (Some kind))
 sends-kind (CaseKind.Recv p) c h = cc
 sends-kind (CaseKind.Send d v) c h = ap (λ d. CaseKind.Send d v) (eqb-true d c h)
@@ -136,8 +140,11 @@ pub record Parked (script : Script) (s : State) (m : Schedule) (g : ℕ) (i : In
 
 pub parked-unready : (script : Script) (s : State) (m : Schedule) (g : ℕ) (i : Instr) → IsCalm script s m → is_waiting m g ≡ true → stands_at script s g ≡ Some i → Parked script s m g i
 parked-unready script s m g i calm waits e =
-    let firm = sym (firm-stood script s (is_waiting m) g _) ∙ calm g waits in
-    let here : firm_on script s (is_waiting m) g (Some i) ≡ false = subst (λ o. firm_on script s (is_waiting m) g o ≡ false) e firm in
+    let st : Standing script s g i = standing script s g i e in
+    let firm : is_firm_at script s m g ≡ is_ready_at script s no_timer (is_waiting m) g (Some i) =
+    ap (λ (o : Option Goroutine). elim o as (λ o. Bool) [ None ↦ false | Some r ↦ is_firm script s (is_waiting m) g r ]) st.there
+    ∙ (ap (is_firm_in script s (is_waiting m) g st.who) st.at ∙ ap (is_ready_at script s no_timer (is_waiting m) g) st.on) in
+    let here : is_ready_at script s no_timer (is_waiting m) g (Some i) ≡ false = sym firm ∙ calm g waits in
     let parts = or-false (is_some (fault script s i)) (is_ready_instr script s no_timer (is_waiting m) g i) here in
     record { faultless = no-reason (fault script s i) parts.0; unready = parts.1 }
 
@@ -182,16 +189,24 @@ pub sender-met : (script : Script) (s : State) (m : Schedule) (q : Party) (c : �
     → Met script s m q c (CaseKind.Send c (value_of (operation_at script s q)))
 sender-met script s m q c fits calm declared e =
     let one : First script m.senders c q = partner-first script m.senders c q e in
-    let both = and_parts (is_waiting m q.g) (is_at script s q (sends_to c)) (first-sending script s m q c fits declared one.first) in
-    let sends = at-sends script s q c both.1 in
+    let both = and_parts (is_waiting m q.g) (wants script s q (sends_to c)) (first-sending script s m q c fits declared one.first) in
+    let sends = at-sends script s q c (wants-sends script s q c both.1) in
     record { waits = both.0; operates = parked-operates script s m q _ calm both.0 sends; none_kept = one.none_kept; settled = parked-polling script s m q _ calm both.0 sends }
 
-pub receiver-met : (script : Script) (s : State) (m : Schedule) (q : Party) (c : ℕ) → Fits script s m → IsCalm script s m → c < length script.decls → partner_in script m.receivers c ≡ Some q
-    → Met script s m q c (CaseKind.Recv c)
-receiver-met script s m q c fits calm declared e =
+-- a channel gives values
+chan-gives : (script : Script) (c : ℕ) → IsTrue (is_chan script c) → IsTrue (gives_values script c)
+chan-gives script c chan = either (is_timer script c) (is_chan script c) chan
+  where
+    either : (a b : Bool) → b ≡ true → (a || b) ≡ true
+    either true b h = refl
+    either false b h = h
+
+pub receiver-met : (script : Script) (s : State) (m : Schedule) (q : Party) (c : ℕ) → IsGood script → IsFormed script s → Fits script s m → IsCalm script s m → IsTrue (is_chan script c)
+    → partner_in script m.receivers c ≡ Some q → Met script s m q c (CaseKind.Recv c)
+receiver-met script s m q c good formed fits calm chan e =
     let one : First script m.receivers c q = partner-first script m.receivers c q e in
-    let both = and_parts (is_waiting m q.g) (is_at script s q (receives_from c)) (first-waiting script s m q c fits declared one.first) in
-    let receives = at-receives script s q c both.1 in
+    let both = and_parts (is_waiting m q.g) (wants script s q (receives_from c)) (first-waiting script s m q c fits (chan_declared script c chan) one.first) in
+    let receives = at-receives script s q c (wants-receives script s q c good formed (chan-gives script c chan) both.1) in
     record {
       waits = both.0;
       operates = parked-operates script s m q (CaseKind.Recv c) calm both.0 receives;
@@ -204,6 +219,44 @@ pub parked-other : (m : Schedule) (h g : ℕ) → is_waiting m h ≡ true → st
 parked-other m h g waits in_hand is =
     let here : is_waiting m h ≡ is_parked (Some RunStatus.InHand) = ap (is_waiting m) is ∙ ap is_parked in_hand in
     cc
+
+-- ---- who is signalled at a Cond
+
+suspends-parked : (k : ℕ) (mode : Mode) (x : RunStatus) → mode ≡ Mode.Suspended k → Agrees mode x → is_parked (Some x) ≡ true
+suspends-parked k (Mode.Suspended j) (RunStatus.Parked since) e h = refl
+suspends-parked k (Mode.Suspended j) RunStatus.Queued e h = absurd h
+suspends-parked k (Mode.Suspended j) RunStatus.InHand e h = absurd h
+suspends-parked k (Mode.Suspended j) RunStatus.Ended e h = absurd h
+suspends-parked k _ x e h = cc
+
+-- who is suspended is parked
+pub suspended-parked : (script : Script) (s : State) (m : Schedule) (g k : ℕ) → Fits script s m → mode_of s g ≡ Some (Mode.Suspended k) → is_waiting m g ≡ true
+suspended-parked script s m g k fits h =
+    let a : InMode s g (Mode.Suspended k) = in-mode s g (Mode.Suspended k) h in
+    let x : HasNumber m.statuses g = has_status script s m g a.who fits a.there in
+    ap is_parked x.there ∙ suspends-parked k a.who.mode x.item a.its (fits.agree g a.who x.item a.there x.there)
+
+-- the one that has waited longest at a Cond is suspended there, and nobody is where nobody stands there
+pub signals-rightly : (script : Script) (s : State) (m : Schedule) (k : ℕ) → IsGood script → IsFormed script s → Fits script s m → IsTrue (is_cond script k)
+    → Signals s k (option_map (λ (p : Party). p.g) (slice_get (parties_at m.receivers k) 0))
+signals-rightly script s m k good formed fits cond = by (parties_at m.receivers k) refl
+  where
+    none : parties_at m.receivers k ≡ [] → (n : ℕ) → suspended_count s k ≡ n → suspended_count s k ≡ 0
+    none empty zero e = e
+    none empty (suc n) e =
+        let one : Waiter s k = waiter s k n e in
+        let there : wants script s (plainly one.number) (receives_from k) ≡ true =
+        wanted-passes script s (plainly one.number) (receives_from k) (CaseKind.Recv k) (suspended-wanted script s one.number k one.waits) (eq-eqb k k refl) in
+        absurd (never-both (is_parked_at script s m (plainly one.number) (receives_from k))
+        (and_from (is_waiting m one.number) (wants script s (plainly one.number) (receives_from k)) (suspended-parked script s m one.number k fits one.waits) there)
+        (none-waiting script s m k fits (cond_declared script k cond) empty (plainly one.number)))
+
+    by : (parties : List Party) → parties_at m.receivers k ≡ parties → Signals s k (option_map (λ (p : Party). p.g) (slice_get parties 0))
+    by [] e = none e (suspended_count s k) refl
+    by (p ∷ parties) e =
+        let parked = first-waiting script s m p k fits (cond_declared script k cond) (ap (λ (ps : List Party). slice_get ps 0) e) in
+        let both = and_parts (is_waiting m p.g) (wants script s p (receives_from k)) parked in
+        wants-suspended script s p k good formed cond both.1
 
 -- a channel that was made and is not closed is open
 pub open-is : (s : State) (c : ℕ) → IsOpenChannel s c → IsTrue (is_open s c)
@@ -240,7 +293,7 @@ none-listed script lists c e zero_kept = empty (parties_at lists c) (sym (ap (λ
 -- what an instruction offers, it does as one of its parties
 record AtOffer (script : Script) (s : State) (g : ℕ) (test : CaseKind → Bool) : Type 0 where
   case_no : ℕ
-  is : is_at script s (at_case g case_no) test ≡ true
+  is : wants script s (at_case g case_no) test ≡ true
 
 offers-at : (script : Script) (s : State) (g : ℕ) (i : Instr) (test : CaseKind → Bool) → stands_at script s g ≡ Some i → offers test i ≡ true → AtOffer script s g test
 offers-at script s g i test e h =
@@ -249,7 +302,7 @@ offers-at script s g i test e h =
     ap (λ (o : Option Instr). elim o as (λ o. Option CaseKind) [ None ↦ None | Some i ↦ operation i one.case_no ]) e ∙ one.has in
     record {
       case_no = one.case_no;
-      is = ap (λ (o : Option CaseKind). elim o as (λ o. Bool) [ None ↦ false | Some kind ↦ test kind ]) there ∙ one.passes;
+      is = wanted-passes script s (at_case g one.case_no) test one.kind (operates-wanted script s (at_case g one.case_no) one.kind there) one.passes;
     }
 
 -- where nobody is parked at an operation, nobody parked is a partner there
@@ -259,7 +312,7 @@ none-waits script s m g test none h =
     let p : Partner script s (is_waiting m) g test = partner script s (is_waiting m) g test h in
     let at : AtOffer script s p.number test = offers-at script s p.number p.instr test p.does.stands p.passes in
     never-both (is_parked_at script s m (at_case p.number at.case_no) test)
-    (and_from (is_waiting m p.number) (is_at script s (at_case p.number at.case_no) test) p.counted at.is) (none (at_case p.number at.case_no))
+    (and_from (is_waiting m p.number) (wants script s (at_case p.number at.case_no) test) p.counted at.is) (none (at_case p.number at.case_no))
 
 pub recv-alone : (script : Script) (s : State) (m : Schedule) (g c : ℕ) → Fits script s m → c < length script.decls → partner_in script m.senders c ≡ None
     → has_partner script s (is_waiting m) g (CaseKind.Recv c) ≡ false

@@ -69,6 +69,7 @@ recv-not s p timed o (Some (What.Chan cap)) none come =
     both-false (nat_lt 0 (item_count s o)) (is_closed s o) (ap (λ (xs : List ℕ). nat_lt 0 (length xs)) parts.0) parts.1
 recv-not s p timed o (Some What.Mutex) none come = not-cond_none (is_locked s o) (Entry.Lock p.g o) none
 recv-not s p timed o (Some What.Wg) none come = cond-none (is_done s o) (Entry.WgWait p.g o) none
+recv-not s p timed o (Some (What.Cond mutex)) none come = refl
 recv-not s p timed o (Some What.Function) none come = refl
 
 pub unready-alone : (script : Script) (s : State) (p : Party) (timed : ℕ → Bool) (kind : CaseKind) → goes_alone script s p kind ≡ None → NotCome script timed kind

@@ -14,11 +14,12 @@ use Rattle.gt_rules.specs.Change.{change_of}
 use Rattle.gt_rules.specs.declared.change.Move.{Move}
 use Rattle.gt_rules.specs.declared.change.Start.{Start}
 use Rattle.gt_schedule.specs.declared.status.RunStatus.{RunStatus}
-use Rattle.gt_schedule.specs.Schedule.{Schedule, status_of, is_queued, is_parked, queued_count, gone_on, turned, moved_by, begun_by, with_new, scheduled, schedule_after, parked, waiting_at, parked_at, taken}
+use Rattle.gt_schedule.specs.Schedule.{Schedule, status_of, is_queued, is_parked, queued_count, parties_at, gone_on, turned, moved_by, signalled_by, begun_by, with_new, scheduled, schedule_after, parked, waiting_at, parked_at, taken}
 use Rattle.gt_book.specs.View.{BookView, Enters, AreWoken, finish_by, finish_due}
 use Rattle.gt_machine.specs.Outcomes.{due_outcome}
 use Rattle.gt_model.proofs.Items.{numbered-change_same, numbered-change_other}
 use Rattle.gt_schedule.proofs.Counting.{count-change_numbered}
+use Rattle.gt_schedule.proofs.Relocked.{each-statuses}
 
 -- ---- the moves of the program's clock
 
@@ -118,12 +119,18 @@ gone_on-hands m x g false h = h
 turned-hands : (m : Schedule) (x : ℕ) (move : Move) (g : ℕ) → status_of (turned m x move) g ≡ Some RunStatus.InHand → status_of m g ≡ Some RunStatus.InHand
 turned-hands m x (Move.GoesOn case_no) g h = gone_on-hands m x g (is_parked (status_of m x)) h
 turned-hands m x (Move.FallsAsleep until) g h = parked-hands m x g h
+turned-hands m x (Move.Suspends k) g h = parked-hands m x g h
+turned-hands m x (Move.Relocks k) g h = h
 turned-hands m x Move.Ends g h = change_numbered-from m.statuses x g RunStatus.Ended RunStatus.InHand (λ k. cc) h
 turned-hands m x Move.Panics g h = h
 
 moved-hands : (m : Schedule) (o : Option (ℕ × Move)) (g : ℕ) → status_of (moved_by m o) g ≡ Some RunStatus.InHand → status_of m g ≡ Some RunStatus.InHand
 moved-hands m None g h = h
 moved-hands m (Some x) g h = turned-hands m x.0 x.1 g h
+
+signalled-hands : (m : Schedule) (o : Option ℕ) (g : ℕ) → status_of (signalled_by m o) g ≡ Some RunStatus.InHand → status_of m g ≡ Some RunStatus.InHand
+signalled-hands m None g h = h
+signalled-hands m (Some k) g h = sym (ap (λ (xs : List RunStatus). numbered xs g) (each-statuses m k (parties_at m.receivers k))) ∙ h
 
 begun-hands : (m : Schedule) (starts : List Start) (g : ℕ) → status_of (begun_by m starts) g ≡ Some RunStatus.InHand → status_of m g ≡ Some RunStatus.InHand
 begun-hands m [] g h = h
@@ -132,7 +139,9 @@ begun-hands m (x ∷ xs) g h = with_new-hands m.statuses g (begun-hands (with_ne
 pub scheduled-hands : (m : Schedule) (e : Entry) (g : ℕ) → status_of (scheduled m e) g ≡ Some RunStatus.InHand → status_of m g ≡ Some RunStatus.InHand
 scheduled-hands m e g h =
     let first : Schedule = moved_by m (change_of e).mover in
-    moved-hands m (change_of e).mover g (moved-hands first (change_of e).partner g (begun-hands (moved_by first (change_of e).partner) (change_of e).starts g h))
+    let both : Schedule = moved_by first (change_of e).partner in
+    moved-hands m (change_of e).mover g (moved-hands first (change_of e).partner g
+    (signalled-hands both (change_of e).broadcast g (begun-hands (signalled_by both (change_of e).broadcast) (change_of e).starts g h)))
 
 pub schedule_after-hands : (m : Schedule) (es : List Entry) (g : ℕ) → status_of (schedule_after m es) g ≡ Some RunStatus.InHand → status_of m g ≡ Some RunStatus.InHand
 schedule_after-hands m [] g h = h

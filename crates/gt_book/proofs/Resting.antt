@@ -161,4 +161,5 @@ chooses-rightly script s m g good fits h =
     by (Step.Waits t) e k = cc
     by (Step.Parks kind) e k = cc
     by (Step.Needs op) e k = cc
+    by (Step.Broadcasts c) e k = cc
     by Step.Nowhere e k = cc

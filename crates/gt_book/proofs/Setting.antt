@@ -40,6 +40,7 @@ pub record NeedsOnly (old : BookView) (g : ℕ) (op : TimerOp) (new : BookView) 
 
 does-timer : (old : BookView) (g : ℕ) (step : Step) (new : BookView) (op : TimerOp) → step_of old.script old.state old.schedule g ≡ Some step → is_enrolled op ≡ false → Does old g step new (Did.Timer op) → NeedsOnly old g op new
 does-timer old g (Step.Makes e) new op is other h = absurd (entered-no_timer (outcome_of new) op h.1)
+does-timer old g (Step.Broadcasts k) new op is other h = absurd (entered-no_timer (outcome_of new) op h.1)
 does-timer old g (Step.Waits t) new op is other h =
     let answer : Did.Timer op ≡ Did.Timer (TimerOp.Enrolled (ticket_of old.schedule g)) = h.1 in
     let enrolled : op ≡ TimerOp.Enrolled (ticket_of old.schedule g) = cc in
@@ -129,6 +130,7 @@ needs-not_enrolled old g op h =
 does-enrolled : (old : BookView) (g : ℕ) (step : Step) (new : BookView) (ticket : Ticket) → step_of old.script old.state old.schedule g ≡ Some step
     → Does old g step new (Did.Timer (TimerOp.Enrolled ticket)) → ParksUnder old g ticket new
 does-enrolled old g (Step.Makes e) new ticket is h = absurd (entered-no_timer (outcome_of new) (TimerOp.Enrolled ticket) h.1)
+does-enrolled old g (Step.Broadcasts k) new ticket is h = absurd (entered-no_timer (outcome_of new) (TimerOp.Enrolled ticket) h.1)
 does-enrolled old g (Step.Waits t) new ticket is h =
     let answer : Did.Timer (TimerOp.Enrolled ticket) ≡ Did.Timer (TimerOp.Enrolled (ticket_of old.schedule g)) = h.1 in
     record { way = inl (record { at = t; waits = is; parked = h.0 }); its = cc }

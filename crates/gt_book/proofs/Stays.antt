@@ -1,5 +1,5 @@
--- What was made stays made when an entry comes, what was closed stays closed, and the channels, mutexes and WaitGroups that it does not change stay as they are.
-use Rattle.std.proofs.Common.{◌≡◌, ◌≢◌, ℕ, zero, suc, ◌<◌, List, [], ◌∷◌, ◌++◌, length, drop, set, slice_index_or, eqb, refl, sym, ap, subst, ◌∙◌, Option, None, Some, Bool, true, false, ◌||◌, is_some, IfSome}
+-- What was made stays made when an entry comes, what was closed stays closed, and the channels, locks and counters that it does not change stay as they are.
+use Rattle.std.proofs.Common.{◌≡◌, ◌≢◌, ℕ, zero, suc, ◌<◌, List, [], ◌∷◌, ◌++◌, length, drop, set, slice_index_or, eqb, refl, sym, ap, subst, ◌∙◌, Option, None, Some, Bool, true, false, ◌||◌, is_some, IfSome, IsTrue}
 use Rattle.std.proofs.lemmas.Bool.{eqb-false}
 use Rattle.gt_model.specs.declared.script.Script.{Script}
 use Rattle.gt_model.specs.declared.script.Instr.{Instr}
@@ -7,10 +7,12 @@ use Rattle.gt_model.specs.declared.script.CaseKind.{CaseKind}
 use Rattle.gt_model.specs.declared.entry.Entry.{Entry}
 use Rattle.gt_model.specs.declared.state.Timer.{Timer}
 use Rattle.gt_model.specs.Good.{IsGood}
+use Rattle.gt_model.specs.declared.state.SyncState.{SyncState}
+use Rattle.gt_model.specs.Script.{is_cond, mutex_of}
 use Rattle.gt_model.specs.Tables.{at, change}
 use Rattle.gt_model.proofs.Declared.{chan_declared, mutex_declared, wg_declared}
 use Rattle.gt_rules.specs.State.{State, Channel, channel_at, sync_at, is_closed, unused, world_of}
-use Rattle.gt_rules.specs.After.{after, set_due, set_again, with_retimed, with_traded, with_stepped, with_items, shut, stepped, traded, number_of}
+use Rattle.gt_rules.specs.After.{after, set_due, set_again, with_retimed, with_traded, with_stepped, with_items, with_lock, owned, shut, stepped, traded, number_of}
 use Rattle.gt_rules.specs.Change.{Change, change_of}
 use Rattle.gt_rules.specs.Legal.{May}
 use Rattle.gt_rules.specs.declared.change.Move.{Move}
@@ -19,7 +21,9 @@ use Rattle.gt_rules.specs.declared.change.SyncStep.{SyncStep}
 use Rattle.gt_rules.specs.declared.change.Trade.{Trade}
 use Rattle.gt_facts.proofs.Lookups.{names-Does, names-Operates}
 use Rattle.gt_facts.proofs.Makers.{Trades, HasTrade, trades-May}
-use Rattle.gt_book.specs.Woken.{changed_object}
+use Rattle.gt_facts.proofs.Within.{mutex_of-is, relocking-cond}
+use Rattle.gt_facts.specs.Formed.{IsFormed}
+use Rattle.gt_book.specs.Woken.{stepped_object, signalled_for, changed_object}
 use Rattle.gt_book.proofs.Firm.{Stays, never-both, shut_in, or-false, both-false}
 
 -- ---- one item of a list changes
@@ -39,6 +43,14 @@ at-other (o ∷ xs) zero zero f n = absurd (n refl)
 at-other (o ∷ xs) zero (suc u) f n = refl
 at-other (o ∷ xs) (suc t) zero f n = refl
 at-other (o ∷ xs) (suc t) (suc u) f n = at-other xs t u f (λ e. n (ap suc e))
+
+-- what a change keeps of an item
+index-keeps : {X Y : Type 0} (P : X → Y) (xs : List X) (t u : ℕ) (f : X → X) (x : X) → ((y : X) → P (f y) ≡ P y) → P (slice_index_or (change xs t f) u x) ≡ P (slice_index_or xs u x)
+index-keeps P [] t u f x keeps = refl
+index-keeps P (y ∷ xs) zero zero f x keeps = keeps y
+index-keeps P (y ∷ xs) zero (suc u) f x keeps = refl
+index-keeps P (y ∷ xs) (suc t) zero f x keeps = refl
+index-keeps P (y ∷ xs) (suc t) (suc u) f x keeps = index-keeps P xs t u f x keeps
 
 index-other : {X : Type 0} (xs : List X) (t u : ℕ) (f : X → X) (x : X) → u ≢ t → slice_index_or (change xs t f) u x ≡ slice_index_or xs u x
 index-other [] t u f x n = refl
@@ -81,9 +93,14 @@ abbrev pub is_of : {X : Type 0} → Option (ℕ × X) → ℕ → Bool
 is_of None o = false
 is_of (Some x) o = eqb o x.0
 
+-- a step at a Cond is of its mutex
+abbrev pub is_step : Script → Option (ℕ × SyncStep) → ℕ → Bool
+is_step script None o = false
+is_step script (Some x) o = eqb o (stepped_object script x.0 x.1)
+
 -- whether a change is of a channel, or of a mutex or a WaitGroup
-abbrev pub alters : Change → ℕ → Bool
-alters c o = is_of c.channel o || is_of c.sync o
+abbrev pub alters : Script → Change → ℕ → Bool
+alters script c o = is_of c.channel o || is_step script c.sync o
 
 apart-first : (o c d : ℕ) → Some c ≡ Some d → eqb o d ≡ false → (eqb o c || false) ≡ false
 apart-first o c d is apart = let same : c ≡ d = cc in both-false (eqb o c) false (subst (λ d. eqb o d ≡ false) (sym same) apart) refl
@@ -92,42 +109,71 @@ apart-second : (o c d : ℕ) → Some c ≡ Some d → eqb o d ≡ false → eqb
 apart-second o c d is apart = let same : c ≡ d = cc in subst (λ d. eqb o d ≡ false) (sym same) apart
 
 -- an entry alters one object at most
-pub alters-one : (e : Entry) (d : ℕ) → changed_object (change_of e) ≡ Some d → (o : ℕ) → eqb o d ≡ false → alters (change_of e) o ≡ false
-alters-one (Entry.Make g c) d is o apart = apart-first o c d is apart
-alters-one (Entry.Send p c v) d is o apart = apart-first o c d is apart
-alters-one (Entry.Recv p c None) d is o apart = refl
-alters-one (Entry.Recv p c (Some v)) d is o apart = apart-first o c d is apart
-alters-one (Entry.Close g c) d is o apart = apart-first o c d is apart
-alters-one (Entry.Lock g m) d is o apart = apart-second o m d is apart
-alters-one (Entry.Unlock g m) d is o apart = apart-second o m d is apart
-alters-one (Entry.Add g w n) d is o apart = apart-second o w d is apart
-alters-one _ d is o apart = refl
+pub alters-one : (script : Script) (e : Entry) (d : ℕ) → changed_object script (change_of e) ≡ Some d → (o : ℕ) → eqb o d ≡ false → alters script (change_of e) o ≡ false
+alters-one script (Entry.Make g c) d is o apart = apart-first o c d is apart
+alters-one script (Entry.Send p c v) d is o apart = apart-first o c d is apart
+alters-one script (Entry.Recv p c None) d is o apart = refl
+alters-one script (Entry.Recv p c (Some v)) d is o apart = apart-first o c d is apart
+alters-one script (Entry.Close g c) d is o apart = apart-first o c d is apart
+alters-one script (Entry.Lock g m) d is o apart = apart-second o m d is apart
+alters-one script (Entry.Unlock g m) d is o apart = apart-second o m d is apart
+alters-one script (Entry.CondWait g k) d is o apart = apart-second o (mutex_of script k) d is apart
+alters-one script (Entry.CondWake g k) d is o apart = apart-second o (mutex_of script k) d is apart
+alters-one script (Entry.Add g w n) d is o apart = apart-second o w d is apart
+alters-one script _ d is o apart = refl
 
-pub alters-none : (e : Entry) → changed_object (change_of e) ≡ None → (o : ℕ) → alters (change_of e) o ≡ false
-alters-none (Entry.Make g c) none o = cc
-alters-none (Entry.Send p c v) none o = cc
-alters-none (Entry.Recv p c None) none o = refl
-alters-none (Entry.Recv p c (Some v)) none o = cc
-alters-none (Entry.Close g c) none o = cc
-alters-none (Entry.Lock g m) none o = cc
-alters-none (Entry.Unlock g m) none o = cc
-alters-none (Entry.Add g w n) none o = cc
-alters-none _ none o = refl
+pub alters-none : (script : Script) (e : Entry) → changed_object script (change_of e) ≡ None → (o : ℕ) → alters script (change_of e) o ≡ false
+alters-none script (Entry.Make g c) none o = cc
+alters-none script (Entry.Send p c v) none o = cc
+alters-none script (Entry.Recv p c None) none o = refl
+alters-none script (Entry.Recv p c (Some v)) none o = cc
+alters-none script (Entry.Close g c) none o = cc
+alters-none script (Entry.Lock g m) none o = cc
+alters-none script (Entry.Unlock g m) none o = cc
+alters-none script (Entry.CondWait g k) none o = cc
+alters-none script (Entry.CondWake g k) none o = cc
+alters-none script (Entry.Add g w n) none o = cc
+alters-none script _ none o = refl
+
+-- and who is signalled waits for it
+pub signals-none : (script : Script) (e : Entry) → signalled_for script (change_of e).mover ≡ None
+signals-none script (Entry.Sleep g None) = refl
+signals-none script (Entry.Sleep g (Some until)) = refl
+signals-none script _ = refl
+
+pub signals-one : (script : Script) (e : Entry) (o : Option ℕ) → changed_object script (change_of e) ≡ o → IfSome (signalled_for script (change_of e).partner) (λ d. o ≡ Some d)
+signals-one script (Entry.Signal g k None) o is = tt
+signals-one script (Entry.Signal g k (Some h)) o is = sym is
+signals-one script _ o is = tt
+
+pub signals-all : (script : Script) (e : Entry) (o : Option ℕ) → changed_object script (change_of e) ≡ o → IfSome (change_of e).broadcast (λ k. o ≡ Some (mutex_of script k))
+signals-all script (Entry.Broadcast g k count) o is = sym is
+signals-all script _ o is = tt
 
 -- and that is declared
 here-declared : (script : Script) (c d : ℕ) → c < length script.decls → Some c ≡ Some d → d < length script.decls
 here-declared script c d within is = let same : c ≡ d = cc in subst (λ d. d < length script.decls) same within
 
-pub altered-declared : (script : Script) (s : State) (e : Entry) (d : ℕ) → IsGood script → May script s e → changed_object (change_of e) ≡ Some d → d < length script.decls
-altered-declared script s (Entry.Make g c) d good may is = here-declared script c d (chan_declared script c (names-Does script s g (Instr.Make c) good may)) is
-altered-declared script s (Entry.Send p c v) d good may is = here-declared script c d (chan_declared script c (names-Operates script s p (CaseKind.Send c v) good may.0)) is
-altered-declared script s (Entry.Recv p c None) d good may is = cc
-altered-declared script s (Entry.Recv p c (Some v)) d good may is = here-declared script c d (chan_declared script c may.1) is
-altered-declared script s (Entry.Close g c) d good may is = here-declared script c d (chan_declared script c (names-Does script s g (Instr.Close c) good may)) is
-altered-declared script s (Entry.Lock g m) d good may is = here-declared script m d (mutex_declared script m may.1) is
-altered-declared script s (Entry.Unlock g m) d good may is = here-declared script m d (mutex_declared script m (names-Does script s g (Instr.Unlock m) good may)) is
-altered-declared script s (Entry.Add g w n) d good may is = here-declared script w d (wg_declared script w (names-Does script s g (Instr.Add w n) good may).0) is
-altered-declared script s _ d good may is = cc
+cond-declared : (script : Script) (k d : ℕ) → IsGood script → IsTrue (is_cond script k) → Some (mutex_of script k) ≡ Some d → d < length script.decls
+cond-declared script k d good cond is = here-declared script (mutex_of script k) d (mutex_declared script (mutex_of script k) (mutex_of-is script k good cond)) is
+
+pub altered-declared : (script : Script) (s : State) (e : Entry) (d : ℕ) → IsGood script → IsFormed script s → May script s e → changed_object script (change_of e) ≡ Some d
+    → d < length script.decls
+altered-declared script s (Entry.Make g c) d good formed may is = here-declared script c d (chan_declared script c (names-Does script s g (Instr.Make c) good may)) is
+altered-declared script s (Entry.Send p c v) d good formed may is =
+    here-declared script c d (chan_declared script c (names-Operates script s p (CaseKind.Send c v) good may.0)) is
+altered-declared script s (Entry.Recv p c None) d good formed may is = cc
+altered-declared script s (Entry.Recv p c (Some v)) d good formed may is = here-declared script c d (chan_declared script c may.1) is
+altered-declared script s (Entry.Close g c) d good formed may is = here-declared script c d (chan_declared script c (names-Does script s g (Instr.Close c) good may)) is
+altered-declared script s (Entry.Lock g m) d good formed may is = here-declared script m d (mutex_declared script m may.1) is
+altered-declared script s (Entry.Unlock g m) d good formed may is = here-declared script m d (mutex_declared script m (names-Does script s g (Instr.Unlock m) good may)) is
+altered-declared script s (Entry.CondWait g k) d good formed may is = cond-declared script k d good (names-Does script s g (Instr.CWait k) good may) is
+altered-declared script s (Entry.CondWake g k) d good formed may is = cond-declared script k d good (relocking-cond script s g k formed may.0) is
+altered-declared script s (Entry.Signal g k None) d good formed may is = cc
+altered-declared script s (Entry.Signal g k (Some h)) d good formed may is = cond-declared script k d good (names-Does script s g (Instr.Signal k) good may.0) is
+altered-declared script s (Entry.Broadcast g k count) d good formed may is = cond-declared script k d good (names-Does script s g (Instr.Broadcast k) good may.0) is
+altered-declared script s (Entry.Add g w n) d good formed may is = here-declared script w d (wg_declared script w (names-Does script s g (Instr.Add w n) good may).0) is
+altered-declared script s _ d good formed may is = cc
 
 -- ---- channels, mutexes and WaitGroups
 
@@ -178,21 +224,36 @@ same-traded : (s : State) (mover : Option (ℕ × Move)) (c : Option (ℕ × Tra
 same-traded s mover None u h = refl
 same-traded s mover (Some x) u h = at-other s.channels x.0 u (traded (world_of s (number_of mover)) x.1) (eqb-false u x.0 h)
 
-same-stepped : (s : State) (mover : Option (ℕ × Move)) (c : Option (ℕ × SyncStep)) (u : ℕ) → is_of c u ≡ false
-    → slice_index_or (with_stepped s mover s.syncs c) u unused ≡ sync_at s u
-same-stepped s mover None u h = refl
-same-stepped s mover (Some x) u h = index-other s.syncs x.0 u (stepped (world_of s (number_of mover)) x.1) unused (eqb-false u x.0 h)
+-- of a Cond its world alone changes
+same-step : {X : Type 0} (P : SyncState → X) (script : Script) (w : ℕ) (syncs : List SyncState) (o u : ℕ) (step : SyncStep) → ((v : ℕ) (y : SyncState) → P (owned v y) ≡ P y)
+    → u ≢ stepped_object script o step → P (slice_index_or (stepped script w syncs o step) u unused) ≡ P (slice_index_or syncs u unused)
+same-step P script w syncs o u SyncStep.Locks keeps other = ap P (index-other syncs o u (with_lock true) unused other)
+same-step P script w syncs o u SyncStep.Unlocks keeps other = ap P (index-other syncs o u (with_lock false) unused other)
+same-step P script w syncs o u (SyncStep.Adds n) keeps other = ap P (index-other syncs o u _ unused other)
+same-step P script w syncs o u SyncStep.Releases keeps other =
+    index-keeps P (change syncs (mutex_of script o) (with_lock false)) o u (owned w) unused (keeps w) ∙ ap P (index-other syncs (mutex_of script o) u (with_lock false) unused other)
+same-step P script w syncs o u SyncStep.Retakes keeps other = ap P (index-other syncs (mutex_of script o) u (with_lock true) unused other)
+
+same-stepped : {X : Type 0} (P : SyncState → X) (script : Script) (s : State) (mover : Option (ℕ × Move)) (c : Option (ℕ × SyncStep)) (u : ℕ) → ((v : ℕ) (y : SyncState) → P (owned v y) ≡ P y)
+    → is_step script c u ≡ false → P (slice_index_or (with_stepped script s mover s.syncs c) u unused) ≡ P (sync_at s u)
+same-stepped P script s mover None u keeps h = refl
+same-stepped P script s mover (Some x) u keeps h =
+    same-step P script (world_of s (number_of mover)) s.syncs x.0 u x.1 keeps (eqb-false u (stepped_object script x.0 x.1) h)
 
 -- ---- every entry
 
-pub stays-May : (script : Script) (s : State) (e : Entry) → IsGood script → May script s e → Stays s (after script s e) (alters (change_of e))
+pub stays-May : (script : Script) (s : State) (e : Entry) → IsGood script → May script s e → Stays s (after script s e) (alters script (change_of e))
 stays-May script s e good may = record {
   timers = made-retimed script s (change_of e).mover (change_of e).timer;
   made = made-traded s (change_of e).mover (change_of e).channel;
   closed = λ u. closed-traded script s (change_of e).mover (change_of e).channel u (trades-May script s e good may);
-  same = λ u h. same-traded s (change_of e).mover (change_of e).channel u (or-false (is_of (change_of e).channel u) (is_of (change_of e).sync u) h).0;
-  syncs = λ u h. same-stepped s (change_of e).mover (change_of e).sync u (or-false (is_of (change_of e).channel u) (is_of (change_of e).sync u) h).1;
+  same = λ u h. same-traded s (change_of e).mover (change_of e).channel u (apart script e u h).0;
+  locks = λ u h. same-stepped (λ (y : SyncState). y.locked) script s (change_of e).mover (change_of e).sync u (λ v y. refl) (apart script e u h).1;
+  counters = λ u h. same-stepped (λ (y : SyncState). y.counter) script s (change_of e).mover (change_of e).sync u (λ v y. refl) (apart script e u h).1;
 }
+  where
+    apart : (script : Script) (e : Entry) (u : ℕ) → alters script (change_of e) u ≡ false → (is_of (change_of e).channel u ≡ false) × (is_step script (change_of e).sync u ≡ false)
+    apart script e u h = or-false (is_of (change_of e).channel u) (is_step script (change_of e).sync u) h
 
 pub stays-wider : (s next : State) (x y : ℕ → Bool) → ((o : ℕ) → y o ≡ false → x o ≡ false) → Stays s next x → Stays s next y
 stays-wider s next x y wider stays = record {
@@ -200,8 +261,9 @@ stays-wider s next x y wider stays = record {
   made = stays.made;
   closed = stays.closed;
   same = λ c h. stays.same c (wider c h);
-  syncs = λ o h. stays.syncs o (wider o h);
+  locks = λ o h. stays.locks o (wider o h);
+  counters = λ o h. stays.counters o (wider o h);
 }
 
 pub stays-same : (s : State) (y : ℕ → Bool) → Stays s s y
-stays-same s y = record { timers = λ t h. h; made = λ c h. h; closed = λ c h. h; same = λ c h. refl; syncs = λ o h. refl }
+stays-same s y = record { timers = λ t h. h; made = λ c h. h; closed = λ c h. h; same = λ c h. refl; locks = λ o h. refl; counters = λ o h. refl }

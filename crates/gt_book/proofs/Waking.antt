@@ -1,7 +1,7 @@
 -- Who goes on at an object, of those that wait there: each entry may come and is of one that is firmly ready; where there is none, nobody parked is.
 use Rattle.std.proofs.Common.{◌≡◌, ℕ, zero, suc, cond, ◌+◌, ◌-◌, ◌<◌, List, [], ◌∷◌, ◌++◌, length, slice_get, nat_lt, eqb, refl, sym, ap, subst, ◌∙◌, arith, Option, None, Some, Bool, true, false, not, ◌||◌, is_some, is_none, IsTrue, ◌⊎◌, inl, inr}
 use Rattle.std.specs.Prelude.{MatchOption}
-use Rattle.std.proofs.lemmas.Bool.{eqb-true, eq-eqb, ltb-true, and_parts}
+use Rattle.std.proofs.lemmas.Bool.{eqb-true, eq-eqb, ltb-true, and_parts, and_from}
 use Rattle.gt_model.specs.declared.script.Script.{Script}
 use Rattle.gt_model.specs.declared.script.Instr.{Instr}
 use Rattle.gt_model.specs.declared.script.What.{What}
@@ -13,8 +13,8 @@ use Rattle.gt_model.specs.declared.entry.Limits.{Limits}
 use Rattle.gt_model.specs.declared.entry.Outcome.{Outcome}
 use Rattle.gt_model.specs.declared.entry.Reason.{Reason}
 use Rattle.gt_model.specs.Good.{IsGood}
-use Rattle.gt_model.specs.Script.{what_at, names_chan, names_mutex, names_wg, capacity_of}
-use Rattle.gt_rules.specs.State.{State, Channel, goroutine_at, channel_at, items_of, item_count, is_closed, is_locked, is_done, counter_of, stands_at}
+use Rattle.gt_model.specs.Script.{what_at, names_chan, names_mutex, names_wg, capacity_of, instr_at, is_mutex, is_cond, mutex_of}
+use Rattle.gt_rules.specs.State.{State, Channel, goroutine_at, channel_at, items_of, item_count, is_closed, is_locked, is_done, counter_of, stands_at, mode_of}
 use Rattle.gt_rules.specs.Operations.{operation, receives_from, sends_to}
 use Rattle.gt_rules.specs.Panics.{fault, case_fault, when, or_else, open_fault, panic_at}
 use Rattle.gt_rules.specs.Ready.{is_ready_alone, is_ready_recv, no_timer}
@@ -23,22 +23,28 @@ use Rattle.gt_rules.specs.Finish.{IsRunning}
 use Rattle.gt_rules.specs.History.{AllLegal, state_after}
 use Rattle.gt_rules.specs.After.{after}
 use Rattle.gt_rules.specs.Change.{change_of}
-use Rattle.gt_facts.proofs.Lookups.{AtOperation, at_operation, IsCase, is-case, locks-Operates, waits-Operates}
+use Rattle.gt_facts.proofs.Lookups.{AtOperation, at_operation, IsCase, is-case, locks-Operates, waits-Operates, mode_there}
 use Rattle.gt_facts.proofs.Makers.{gives-ready, free-ready, done-ready}
 use Rattle.gt_machine.specs.Machine.{state_of}
 use Rattle.gt_machine.specs.Outcomes.{due_outcome}
 use Rattle.gt_schedule.specs.Counts.{as_number, often}
-use Rattle.gt_schedule.specs.Schedule.{Schedule, at_case, object_of, parties_at, status_of, is_in_hand, is_parked, scheduled, Served}
+use Rattle.gt_schedule.specs.Schedule.{Schedule, at_case, object_of, parties_at, status_of, is_in_hand, is_parked, scheduled, Served, plainly}
 use Rattle.gt_schedule.specs.Scheduler.{schedule_of}
+use Rattle.gt_model.specs.declared.state.Goroutine.{Goroutine}
+use Rattle.gt_model.specs.declared.state.Mode.{Mode}
+use Rattle.gt_facts.specs.Formed.{IsFormed}
+use Rattle.gt_facts.proofs.Within.{mutex_of-is, suspended-cond, relocking-cond}
 use Rattle.gt_book.specs.declared.run.Run.{Run}
 use Rattle.gt_book.specs.Steps.{or_next, goes_alone, receives_alone, sends_alone, takes_alone}
-use Rattle.gt_book.specs.Woken.{first_alone, alone_of, woken_by, next_woken, changed_object}
+use Rattle.gt_book.specs.Woken.{first_alone, alone_of, woken_by, next_woken, changed_object, woken_in}
 use Rattle.gt_book.specs.Calm.{IsCalm, IsCalmBut, unmade}
 use Rattle.gt_book.specs.declared.book.Book.TheInside.{Inside}
 use Rattle.gt_book.specs.Book.{seen, IsKept}
 use Rattle.gt_book.specs.Run.{seen_of, CanMake, Makes, CanWake, Wakes, CanEnter, Entered, Ends}
-use Rattle.gt_book.specs.View.{BookView, Fits, AreWoken, Enters, is_waiting, is_at, is_parked_at, is_firm_at, with_entries, finish_due, outcome_of}
-use Rattle.gt_book.proofs.Firm.{operation_of, firm_on, firm-stood, firm-quiet, choice-sound, made-sound, case-there, never-both, both-false, panic-standing, calm-standing, open-no_fault, calm_but-calm}
+use Rattle.gt_book.specs.View.{BookView, Fits, AreWoken, Enters, is_waiting, is_parked_at, is_firm_at, with_entries, finish_due, outcome_of, wanted_at, wants}
+use Rattle.gt_book.proofs.Firm.{operation_of, firm_on, firm-stood, firm-quiet, choice-sound, made-sound, case-there, never-both, both-false, panic-standing, calm-standing, open-no_fault, calm_but-calm, stood, firm-locked}
+use Rattle.gt_book.proofs.Wanting.{Wanting, operates, suspends, relocks, wanting, operates-wanted, relocking-wanted}
+use Rattle.gt_book.proofs.Woken.{cond-unready, locked-unready, unready-locked, woken_as, woken-stands, woken-relocks, locked-none}
 use Rattle.gt_book.proofs.Fitting.{first-waiting, first-sending}
 use Rattle.gt_book.proofs.Stays.{alters}
 use Rattle.gt_book.proofs.Calm.{calm-but, calm-entered, calm_but-again}
@@ -92,7 +98,9 @@ pub record IsWoken (script : Script) (s : State) (m : Schedule) (c : ℕ) (e : E
   pub may : May script s e
   pub served : Served m e
   pub woken : AreWoken script s m (e ∷ [])
-  pub here : (o : ℕ) → eqb o c ≡ false → alters (change_of e) o ≡ false
+  pub here : (o : ℕ) → eqb o c ≡ false → alters script (change_of e) o ≡ false
+  pub alone : (change_of e).partner ≡ None
+  pub quiet : (change_of e).broadcast ≡ None
 
 -- what a receive gives, by the values that the channel keeps and whether it is closed
 abbrev GivesOf : List ℕ → Bool → Option ℕ → Type 0
@@ -182,6 +190,7 @@ none-getting s p o (Some (What.Chan cap)) h =
     let quiet = none-receiving p o (items_of s o) (is_closed s o) h in
     both-false (nat_lt 0 (item_count s o)) (is_closed s o) (ap (λ (xs : List ℕ). nat_lt 0 (length xs)) quiet.0) quiet.1
 none-getting s p o (Some What.Mutex) h = free-none (is_locked s o) (Entry.Lock p.g o) h
+none-getting s p o (Some (What.Cond mutex)) h = refl
 none-getting s p o (Some What.Wg) h = done-none (is_done s o) (Entry.WgWait p.g o) h
 none-getting s p o (Some What.Function) h = refl
 
@@ -328,11 +337,11 @@ panicking script s g (Instr.Select cases default_to) n c v stands has made shut 
     (subst (λ o. ChoosesClosed s o Reason.Closed) (sym at) (shut, refl))
 panicking script s g i n c v stands has made shut = cc
 
-takes-here : (p : Party) (c : ℕ) (v : Option ℕ) (o : ℕ) → eqb o c ≡ false → alters (change_of (Entry.Recv p c v)) o ≡ false
-takes-here p c None o h = refl
-takes-here p c (Some v) o h = both-false (eqb o c) false h refl
+takes-here : (script : Script) (p : Party) (c : ℕ) (v : Option ℕ) (o : ℕ) → eqb o c ≡ false → alters script (change_of (Entry.Recv p c v)) o ≡ false
+takes-here script p c None o h = refl
+takes-here script p c (Some v) o h = both-false (eqb o c) false h refl
 
-module _ (script : Script) (s : State) (m : Schedule) (c : ℕ) (good : IsGood script) (fits : Fits script s m) (but : IsCalmBut script s m (λ o. eqb o c)) where
+module _ (script : Script) (s : State) (m : Schedule) (c : ℕ) (good : IsGood script) (formed : IsFormed script s) (fits : Fits script s m) (but : IsCalmBut script s m (λ o. eqb o c)) where
   pub declared : c < length script.decls
   declared = but.declared c (eq-eqb c c refl)
 
@@ -352,7 +361,7 @@ module _ (script : Script) (s : State) (m : Schedule) (c : ℕ) (good : IsGood s
     firm x =
         if-true (is_firm_at script s m g) (λ quiet.
         never-both (is_ready_alone script s no_timer x.kind) (goes-ready script s (at_case g x.case_no) x.kind e x.goes)
-        (firm-quiet script s (is_waiting m) g i x.case_no x.kind (ap (firm_on script s (is_waiting m) g) (sym stands) ∙ (sym (firm-stood script s (is_waiting m) g (goroutine_at s g)) ∙ quiet)) x.has).alone)
+        (firm-quiet script s (is_waiting m) g i x.case_no x.kind (ap (firm_on script s (is_waiting m) g) (sym stands) ∙ firm-stood script s (is_waiting m) g (goroutine_at s g) quiet) x.has).alone)
 
     on-c : (x : Alone script s g i e) → object_of x.kind ≡ c
     on-c x =
@@ -373,7 +382,9 @@ module _ (script : Script) (s : State) (m : Schedule) (c : ℕ) (good : IsGood s
           may = (quiet-recv n has, chan, gives);
           served = (parked-served g waits, tt);
           woken = ((waits, firm x), tt);
-          here = takes-here (at_case g n) c v;
+          here = takes-here script (at_case g n) c v;
+          alone = refl;
+          quiet = refl;
         })
     receives x n has then (locks mutex free is) =
         subst (IsWoken script s m c) is (record {
@@ -381,6 +392,8 @@ module _ (script : Script) (s : State) (m : Schedule) (c : ℕ) (good : IsGood s
           served = (parked-served g waits, tt);
           woken = ((waits, firm x), tt);
           here = λ o h. h;
+          alone = refl;
+          quiet = refl;
         })
     receives x n has then (passes_by wg done is) =
         subst (IsWoken script s m c) is (record {
@@ -388,6 +401,8 @@ module _ (script : Script) (s : State) (m : Schedule) (c : ℕ) (good : IsGood s
           served = (parked-served g waits, tt);
           woken = ((waits, firm x), tt);
           here = λ o h. refl;
+          alone = refl;
+          quiet = refl;
         })
 
     panics : (x : Alone script s g i e) (n v : ℕ) → operation i n ≡ Some (CaseKind.Send c v) → is_closed s c ≡ true → IsWoken script s m c (Entry.Panic (at_case g n) Reason.Closed)
@@ -396,6 +411,8 @@ module _ (script : Script) (s : State) (m : Schedule) (c : ℕ) (good : IsGood s
       served = (parked-served g waits, tt);
       woken = ((waits, firm x), tt);
       here = λ o h. refl;
+      alone = refl;
+      quiet = refl;
     }
 
     sends : (x : Alone script s g i e) (n v : ℕ) → operation i n ≡ Some (CaseKind.Send c v) → is_closed s c ≡ false → nat_lt (item_count s c) (capacity_of script c) ≡ true
@@ -409,6 +426,8 @@ module _ (script : Script) (s : State) (m : Schedule) (c : ℕ) (good : IsGood s
           served = (parked-served g waits, tt);
           woken = ((waits, firm x), tt);
           here = λ o h. both-false (eqb o c) false h refl;
+          alone = refl;
+          quiet = refl;
         }
 
     woken-at : (x : Alone script s g i e) (kind : CaseKind) → x.kind ≡ kind → object_of kind ≡ c → IsWoken script s m c e
@@ -429,19 +448,55 @@ module _ (script : Script) (s : State) (m : Schedule) (c : ℕ) (good : IsGood s
     alone-woken : alone_of script s g (Some i) ≡ Some e → IsWoken script s m c e
     alone-woken h = let x : Alone script s g i e = alone script s g i e h in woken-at x x.kind refl (on-c x)
 
+  -- who was signalled at a Cond the mutex of which is free is firmly ready, and waits for c
+  module _ (g k : ℕ) (waits : is_waiting m g ≡ true) (mode : mode_of s g ≡ Some (Mode.Relocking k)) (free : is_locked s (mutex_of script k) ≡ false) where
+    relocks-firm : is_firm_at script s m g ≡ true
+    relocks-firm =
+        if-true (is_firm_at script s m g) (λ quiet.
+        never-both (is_locked s (mutex_of script k)) (firm-locked script s (is_waiting m) g k (goroutine_at s g) mode quiet) free)
+
+    relocks-c : eqb (mutex_of script k) c ≡ true
+    relocks-c = if-true (eqb (mutex_of script k) c) (λ apart. never-both (is_locked s (mutex_of script k)) (but.relocks g k waits mode apart) free)
+
+    relocks-woken : IsWoken script s m c (Entry.CondWake g k)
+    relocks-woken = record {
+      may = (mode, free);
+      served = (parked-served g waits, tt);
+      woken = ((waits, relocks-firm), tt);
+      here = λ o h. subst (λ d. eqb o d ≡ false) (sym (eqb-true (mutex_of script k) c relocks-c)) h;
+      alone = refl;
+      quiet = refl;
+    }
+
+  by-mode : (p : Party) (e : Entry) (r : Goroutine) (mode : Mode) → is_waiting m p.g ≡ true → goroutine_at s p.g ≡ Some r → r.mode ≡ mode → woken_as script s p.g r mode ≡ Some e
+      → IsWoken script s m c e
+  by-mode p e r Mode.At waits there is h =
+      let at : stands_at script s p.g ≡ instr_at script r.place =
+      ap (stood script) there ∙ ap (λ (mode : Mode). elim mode as (λ mode. Option Instr) [ Mode.At ↦ instr_at script r.place | _ ↦ None ]) is in
+      elim (instr_at script r.place) as (λ o. instr_at script r.place ≡ o → alone_of script s p.g o ≡ Some e → IsWoken script s m c e) [
+        | None ↦ λ q k. cc
+        | Some i ↦ λ q k. alone-woken p.g i e waits (at ∙ q) k
+      ] refl h
+  by-mode p e r (Mode.Sleeping until) waits there is h = cc
+  by-mode p e r (Mode.Suspended k) waits there is h = cc
+  by-mode p e r (Mode.Relocking k) waits there is h =
+      let parts = free-some (is_locked s (mutex_of script k)) (Entry.CondWake p.g k) e h in
+      subst (IsWoken script s m c) parts.1 (relocks-woken p.g k waits (mode_there s p.g r (Mode.Relocking k) there is) parts.0)
+  by-mode p e r Mode.Ended waits there is h = cc
+
   by-woken : (o : Option Party) (e : Entry) → ((p : Party) → o ≡ Some p → is_waiting m p.g ≡ true) → woken_by script s o ≡ Some e → IsWoken script s m c e
   by-woken None e parked h = cc
   by-woken (Some p) e parked h =
-      elim (stands_at script s p.g) as (λ o. stands_at script s p.g ≡ o → alone_of script s p.g o ≡ Some e → IsWoken script s m c e) [
+      elim (goroutine_at s p.g) as (λ o. goroutine_at s p.g ≡ o → (elim o as (λ o. Option Entry) [ None ↦ None | Some r ↦ woken_in script s p.g r ]) ≡ Some e → IsWoken script s m c e) [
         | None ↦ λ q k. cc
-        | Some i ↦ λ q k. alone-woken p.g i e (parked p refl) q k
+        | Some r ↦ λ q k. by-mode p e r r.mode (parked p refl) q refl k
       ] refl h
 
-  first-receiver : (p : Party) → slice_get (parties_at m.receivers c) 0 ≡ Some p → (is_waiting m p.g ≡ true) × (is_at script s p (receives_from c) ≡ true)
-  first-receiver p first = and_parts (is_waiting m p.g) (is_at script s p (receives_from c)) (first-waiting script s m p c fits declared first)
+  first-receiver : (p : Party) → slice_get (parties_at m.receivers c) 0 ≡ Some p → (is_waiting m p.g ≡ true) × (wants script s p (receives_from c) ≡ true)
+  first-receiver p first = and_parts (is_waiting m p.g) (wants script s p (receives_from c)) (first-waiting script s m p c fits declared first)
 
-  first-sender : (p : Party) → slice_get (parties_at m.senders c) 0 ≡ Some p → (is_waiting m p.g ≡ true) × (is_at script s p (sends_to c) ≡ true)
-  first-sender p first = and_parts (is_waiting m p.g) (is_at script s p (sends_to c)) (first-sending script s m p c fits declared first)
+  first-sender : (p : Party) → slice_get (parties_at m.senders c) 0 ≡ Some p → (is_waiting m p.g ≡ true) × (wants script s p (sends_to c) ≡ true)
+  first-sender p first = and_parts (is_waiting m p.g) (wants script s p (sends_to c)) (first-sending script s m p c fits declared first)
 
   pub is-woken : (e : Entry) → next_woken script s m c ≡ Some e → IsWoken script s m c e
   is-woken e h =
@@ -461,38 +516,63 @@ module _ (script : Script) (s : State) (m : Schedule) (c : ℕ) (good : IsGood s
   first-rests : (p : Party) (kind : CaseKind) → woken_by script s (Some p) ≡ None → operation_at script s p ≡ Some kind → goes_alone script s (at_case p.g p.case_no) kind ≡ None
   first-rests p kind none at =
       let on : AtOperation script s p kind = at_operation script s p kind at in
-      none-alone script s p.g on.instr p.case_no kind (ap (alone_of script s p.g) (sym on.stands) ∙ none) on.has
+      none-alone script s p.g on.instr p.case_no kind (sym (woken-stands script s p on.instr on.stands) ∙ none) on.has
 
-  rests-recv : (p : Party) → woken_by script s (slice_get (parties_at m.receivers c) 0) ≡ None → is_waiting m p.g ≡ true → operation_at script s p ≡ Some (CaseKind.Recv c)
+  -- so no receive from c is ready by itself
+  first-unready : (p : Party) (kind : CaseKind) → woken_by script s (Some p) ≡ None → Wanting script s p kind → kind ≡ CaseKind.Recv c → is_ready_recv s no_timer c (what_at script c) ≡ false
+  first-unready p kind none (operates _ at) is = none-getting s (at_case p.g p.case_no) c (what_at script c) (first-rests p (CaseKind.Recv c) none (at ∙ ap Some is))
+  first-unready p kind none (suspends k mode plain) is =
+      let here : k ≡ c = cc in
+      cond-unready s c (what_at script c) (subst (λ k. IsTrue (is_cond script k)) here (suspended-cond script s p.g k formed mode))
+  first-unready p kind none (relocks k mode plain) is =
+      let here : mutex_of script k ≡ c = cc in
+      let locked : is_locked s (mutex_of script k) ≡ true = locked-none (is_locked s (mutex_of script k)) (Entry.CondWake p.g k) (sym (woken-relocks script s p k mode) ∙ none) in
+      locked-unready s c (what_at script c) (subst (λ o. IsTrue (is_mutex script o)) here (mutex_of-is script k good (relocking-cond script s p.g k formed mode)))
+      (subst (λ o. is_locked s o ≡ true) here locked)
+
+  rests-recv : (p : Party) → woken_by script s (slice_get (parties_at m.receivers c) 0) ≡ None → is_waiting m p.g ≡ true → wanted_at script s p ≡ Some (CaseKind.Recv c)
       → is_ready_alone script s no_timer (CaseKind.Recv c) ≡ false
   rests-recv p none waits at =
-      let here : is_at script s p (receives_from c) ≡ true =
+      let here : wants script s p (receives_from c) ≡ true =
       ap (λ (o : Option CaseKind). elim o as (λ o. Bool) [ None ↦ false | Some kind ↦ receives_from c kind ]) at ∙ eq-eqb c c refl in
-      let parked : is_parked_at script s m p (receives_from c) ≡ true = rw (waits, here) refl in
+      let parked : is_parked_at script s m p (receives_from c) ≡ true = and_from (is_waiting m p.g) (wants script s p (receives_from c)) waits here in
       let first = one-first p (parties_at m.receivers c) (fits.waiting c p declared ∙ ap as_number parked) in
-      let its : operation_at script s first.0 ≡ Some (CaseKind.Recv c) = at-recv (operation_at script s first.0) c (first-receiver first.0 first.1).1 in
-      let rests : goes_alone script s (at_case first.0.g first.0.case_no) (CaseKind.Recv c) ≡ None =
-      first-rests first.0 (CaseKind.Recv c) (ap (woken_by script s) (sym first.1) ∙ none) its in
-      none-getting s (at_case first.0.g first.0.case_no) c (what_at script c) rests
+      let its : wanted_at script s first.0 ≡ Some (CaseKind.Recv c) = at-recv (wanted_at script s first.0) c (first-receiver first.0 first.1).1 in
+      first-unready first.0 (CaseKind.Recv c) (ap (woken_by script s) (sym first.1) ∙ none) (wanting script s first.0 (CaseKind.Recv c) its) refl
+
+  -- who waits to send stands at its send
+  sender-stands : (p : Party) (kind : CaseKind) (v : ℕ) → Wanting script s p kind → kind ≡ CaseKind.Send c v → operation_at script s p ≡ Some (CaseKind.Send c v)
+  sender-stands p kind v (operates _ at) is = at ∙ ap Some is
+  sender-stands p kind v (suspends k mode plain) is = cc
+  sender-stands p kind v (relocks k mode plain) is = cc
 
   rests-send : (p : Party) (v : ℕ) → woken_by script s (slice_get (parties_at m.senders c) 0) ≡ None → is_waiting m p.g ≡ true → operation_at script s p ≡ Some (CaseKind.Send c v)
       → is_ready_alone script s no_timer (CaseKind.Send c v) ≡ false
   rests-send p v none waits at =
-      let here : is_at script s p (sends_to c) ≡ true =
-      ap (λ (o : Option CaseKind). elim o as (λ o. Bool) [ None ↦ false | Some kind ↦ sends_to c kind ]) at ∙ eq-eqb c c refl in
-      let parked : is_parked_at script s m p (sends_to c) ≡ true = rw (waits, here) refl in
+      let here : wants script s p (sends_to c) ≡ true =
+      ap (λ (o : Option CaseKind). elim o as (λ o. Bool) [ None ↦ false | Some kind ↦ sends_to c kind ]) (operates-wanted script s p (CaseKind.Send c v) at) ∙ eq-eqb c c refl in
+      let parked : is_parked_at script s m p (sends_to c) ≡ true = and_from (is_waiting m p.g) (wants script s p (sends_to c)) waits here in
       let first = one-first p (parties_at m.senders c) (fits.sending c p declared ∙ ap as_number parked) in
-      let its : AtSend (operation_at script s first.0) c = at-send (operation_at script s first.0) c (first-sender first.0 first.1).1 in
+      let its : AtSend (wanted_at script s first.0) c = at-send (wanted_at script s first.0) c (first-sender first.0 first.1).1 in
+      let stands : operation_at script s first.0 ≡ Some (CaseKind.Send c its.value) = sender-stands first.0 (CaseKind.Send c its.value) its.value (wanting script s first.0 (CaseKind.Send c its.value) its.is) refl in
       let rests : goes_alone script s (at_case first.0.g first.0.case_no) (CaseKind.Send c its.value) ≡ None =
-      first-rests first.0 (CaseKind.Send c its.value) (ap (woken_by script s) (sym first.1) ∙ none) its.is in
+      first-rests first.0 (CaseKind.Send c its.value) (ap (woken_by script s) (sym first.1) ∙ none) stands in
       let quiet = none-sending (at_case first.0.g first.0.case_no) c its.value (is_closed s c) (nat_lt (item_count s c) (capacity_of script c)) rests in
       both-false (is_closed s c) (nat_lt (item_count s c) (capacity_of script c)) quiet.0 quiet.1
+
+  -- who waits for a mutex after a signal waits while it is locked
+  rests-locked : (g k : ℕ) → woken_by script s (slice_get (parties_at m.receivers c) 0) ≡ None → is_waiting m g ≡ true → mode_of s g ≡ Some (Mode.Relocking k) → mutex_of script k ≡ c
+      → is_locked s (mutex_of script k) ≡ true
+  rests-locked g k none waits mode here =
+      let at : wanted_at script s (plainly g) ≡ Some (CaseKind.Recv c) = relocking-wanted script s g k mode ∙ ap (λ o. Some (CaseKind.Recv o)) here in
+      let mutex : IsTrue (is_mutex script c) = subst (λ o. IsTrue (is_mutex script o)) here (mutex_of-is script k good (relocking-cond script s g k formed mode)) in
+      subst (λ o. is_locked s o ≡ true) (sym here) (unready-locked s c (what_at script c) mutex (rests-recv (plainly g) none waits at))
 
   -- no operation of one that waits is ready by itself
   rests : (p : Party) (kind : CaseKind) → woken_by script s (slice_get (parties_at m.receivers c) 0) ≡ None → woken_by script s (slice_get (parties_at m.senders c) 0) ≡ None
       → is_waiting m p.g ≡ true → operation_at script s p ≡ Some kind → object_of kind ≡ c → is_ready_alone script s no_timer kind ≡ false
   rests p (CaseKind.Recv o) none_receives none_sends waits at is =
-      subst (λ o. is_ready_alone script s no_timer (CaseKind.Recv o) ≡ false) (sym is) (rests-recv p none_receives waits (at ∙ ap (λ o. Some (CaseKind.Recv o)) is))
+      subst (λ o. is_ready_alone script s no_timer (CaseKind.Recv o) ≡ false) (sym is) (rests-recv p none_receives waits (operates-wanted script s p (CaseKind.Recv c) (at ∙ ap (λ o. Some (CaseKind.Recv o)) is)))
   rests p (CaseKind.Send d v) none_receives none_sends waits at is =
       subst (λ d. is_ready_alone script s no_timer (CaseKind.Send d v) ≡ false) (sym is) (rests-send p v none_sends waits (at ∙ ap (λ d. Some (CaseKind.Send d v)) is))
 
@@ -503,6 +583,10 @@ module _ (script : Script) (s : State) (m : Schedule) (c : ℕ) (good : IsGood s
       elim (eqb (object_of kind) c) as (λ b. eqb (object_of kind) c ≡ b → is_ready_alone script s no_timer kind ≡ false) [
         | true ↦ λ q. rests (at_case g n) kind none.0 none.1 waits at (eqb-true (object_of kind) c q)
         | false ↦ λ q. but.others g n kind waits at q
+      ] refl) (λ g k waits mode.
+      elim (eqb (mutex_of script k) c) as (λ b. eqb (mutex_of script k) c ≡ b → is_locked s (mutex_of script k) ≡ true) [
+        | true ↦ λ q. rests-locked g k none.0 waits mode (eqb-true (mutex_of script k) c q)
+        | false ↦ λ q. but.relocks g k waits mode q
       ] refl)
 
 -- ---- the run that lets them go on
@@ -526,7 +610,7 @@ pub record HasLists (m : Schedule) (c : ℕ) : Type 0 where
 pub waking-lists : (script : Script) (limits : Limits) (old now : Run) (c : ℕ) → Waking script limits old now c → HasLists (schedule_of now.scheduler) c
 waking-lists script limits old now c w =
     let within : c < length script.decls =
-    declared script (state_of now.machine) (schedule_of now.scheduler) c w.can.kept.way.sound.good w.can.kept.way.sound.fits w.can.but in
+    declared script (state_of now.machine) (schedule_of now.scheduler) c w.can.kept.way.sound.good w.can.kept.way.sound.formed w.can.kept.way.sound.fits w.can.but in
     record {
       receivers = subst (λ n. c < n) (sym w.can.kept.way.sound.fits.receivers) within;
       senders = subst (λ n. c < n) (sym w.can.kept.way.sound.fits.senders) within;
@@ -543,13 +627,16 @@ waking-less script limits old now new c e can makes =
 module _ (script : Script) (limits : Limits) (old now : Run) (c : ℕ) (e : Entry) (w : Waking script limits old now c) (next : next_woken script (state_of now.machine) (schedule_of now.scheduler) c ≡ Some e)
     (none : due_outcome limits (state_of now.machine) ≡ None) where
   goes : IsWoken script (state_of now.machine) (schedule_of now.scheduler) c e
-  goes = is-woken script (state_of now.machine) (schedule_of now.scheduler) c w.can.kept.way.sound.good w.can.kept.way.sound.fits w.can.but e next
+  goes = is-woken script (state_of now.machine) (schedule_of now.scheduler) c w.can.kept.way.sound.good w.can.kept.way.sound.formed w.can.kept.way.sound.fits w.can.but e next
 
   running : IsRunning limits (state_of now.machine)
   running = way-running (seen_of script limits now) w.can.kept.way none
 
   pub waking-can : CanMake script limits now e
   waking-can = record { kept = w.can.kept; running = running; may = goes.may; served = goes.served }
+
+  pub waking-alone : (change_of e).broadcast ≡ None
+  waking-alone = goes.quiet
 
   pub waking-more : (new : Run) → Makes script limits now e new → Waking script limits old new c
   waking-more new makes =
@@ -566,7 +653,7 @@ module _ (script : Script) (limits : Limits) (old now : Run) (c : ℕ) (e : Entr
         can = record {
           kept = makes.kept;
           but = subst (λ (b : BookView). IsCalmBut script b.state b.schedule (λ o. eqb o c)) (sym makes.is)
-              (calm_but-again script (state_of now.machine) (schedule_of now.scheduler) e c w.can.kept.way.sound.good goes.may w.can.kept.way.sound.fits goes.served goes.here w.can.but);
+              (calm_but-again script (state_of now.machine) (schedule_of now.scheduler) e c w.can.kept.way.sound.good goes.may w.can.kept.way.sound.fits goes.served goes.here goes.alone goes.quiet w.can.but);
         };
       }
 
@@ -578,7 +665,7 @@ wakes-none script limits old now c w none = record {
   each_woken = w.each_woken;
   is = w.is;
   kept = w.can.kept;
-  calm = λ due. none-woken script (state_of now.machine) (schedule_of now.scheduler) c w.can.kept.way.sound.good w.can.kept.way.sound.fits w.can.but none;
+  calm = λ due. none-woken script (state_of now.machine) (schedule_of now.scheduler) c w.can.kept.way.sound.good w.can.kept.way.sound.formed w.can.kept.way.sound.fits w.can.but none;
 }
 
 pub wakes-due : (script : Script) (limits : Limits) (old now : Run) (c : ℕ) (outcome : Outcome) → Waking script limits old now c → due_outcome limits (state_of now.machine) ≡ Some outcome
@@ -615,7 +702,7 @@ module _ (script : Script) (limits : Limits) (old mid : Run) (e : Entry) (can : 
   schedule-is : schedule_of mid.scheduler ≡ scheduled (schedule_of old.scheduler) e
   schedule-is = ap (λ (b : BookView). b.schedule) makes.is
 
-  pub entered-alone : changed_object (change_of e) ≡ None → Entered script limits old e mid
+  pub entered-alone : changed_object script (change_of e) ≡ None → Entered script limits old e mid
   entered-alone none = record {
     woken = [];
     legal = first-legal;
@@ -626,11 +713,11 @@ module _ (script : Script) (limits : Limits) (old mid : Run) (e : Entry) (can : 
         (calm-entered script (state_of old.machine) (schedule_of old.scheduler) e can.can.kept.way.sound.good can.can.may can.can.kept.way.sound.fits can.can.served none can.calm);
   }
 
-  pub can-wake : (c : ℕ) → changed_object (change_of e) ≡ Some c → CanWake script limits mid c
+  pub can-wake : (c : ℕ) → changed_object script (change_of e) ≡ Some c → CanWake script limits mid c
   can-wake c is = record {
     kept = makes.kept;
     but = subst (λ (b : BookView). IsCalmBut script b.state b.schedule (λ o. eqb o c)) (sym makes.is)
-        (calm-but script (state_of old.machine) (schedule_of old.scheduler) e c can.can.kept.way.sound.good can.can.may can.can.kept.way.sound.fits can.can.served is can.calm);
+        (calm-but script (state_of old.machine) (schedule_of old.scheduler) e c can.can.kept.way.sound.good can.can.kept.way.sound.formed can.can.may can.can.kept.way.sound.fits can.can.served is can.calm);
   }
 
   pub entered-woken : (new : Run) → Wakes script limits mid new → Entered script limits old e new

@@ -3,10 +3,12 @@ use Rattle.std.specs.Prelude.{ℕ, ◌<◌, ◌≡◌, Bool, true, false, is_non
 use Rattle.std.specs.declared.option.Option.{Option}
 use Rattle.std.specs.declared.option.Option.TheVariants.{None, Some}
 use Rattle.gt_model.specs.declared.script.Script.{Script}
+use Rattle.gt_model.specs.declared.state.Mode.{Mode}
+use Rattle.gt_model.specs.Script.{mutex_of}
 use Rattle.gt_model.specs.declared.script.Instr.{Instr}
 use Rattle.gt_model.specs.declared.script.CaseKind.{CaseKind}
 use Rattle.gt_model.specs.declared.entry.Reason.{Reason}
-use Rattle.gt_rules.specs.State.{State, stands_at}
+use Rattle.gt_rules.specs.State.{State, mode_of, stands_at, is_locked}
 use Rattle.gt_rules.specs.Panics.{case_fault, choice_fault}
 use Rattle.gt_rules.specs.Legal.{operation_at}
 use Rattle.gt_rules.specs.Ready.{has_partner, is_ready_alone, no_timer}
@@ -47,4 +49,6 @@ pub record IsCalmBut (script : Script) (s : State) (m : Schedule) (but : ℕ →
   pub partners : (g n : ℕ) (kind : CaseKind) → is_waiting m g ≡ true → operation_at script s (at_case g n) ≡ Some kind → has_partner script s (is_waiting m) g kind ≡ false
   pub others : (g n : ℕ) (kind : CaseKind) → is_waiting m g ≡ true → operation_at script s (at_case g n) ≡ Some kind → but (object_of kind) ≡ false
       → is_ready_alone script s no_timer kind ≡ false
+  -- who was signalled at a Cond waits while its mutex is locked
+  pub relocks : (g k : ℕ) → is_waiting m g ≡ true → mode_of s g ≡ Some (Mode.Relocking k) → but (mutex_of script k) ≡ false → is_locked s (mutex_of script k) ≡ true
   pub declared : (c : ℕ) → but c ≡ true → c < length script.decls

@@ -3,6 +3,7 @@ pub mod Steps
 pub mod Woken
 pub mod Calm
 pub mod Run
+pub mod Broadcasts
 pub mod Book
 pub mod Least
 pub mod Found

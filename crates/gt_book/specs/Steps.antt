@@ -1,6 +1,7 @@
 -- What a step of a goroutine is, and the entry of an operation.
 use Rattle.std.specs.Prelude.{ℕ, ◌+◌, zero, suc, [], slice_get, ◌≡◌, Bool, true, false, not, ◌||◌, MatchOption, is_some, is_none, nat_lt, ◌&&◌, ◌==◌, cond, List, ◌∷◌, length}
 use Rattle.std.specs.List.{list_any}
+use Rattle.std.specs.Option.{option_map}
 use Rattle.std.specs.declared.option.Option.{Option}
 use Rattle.std.specs.declared.option.Option.TheVariants.{None, Some}
 use Rattle.gt_model.specs.declared.script.Script.{Script}
@@ -13,7 +14,7 @@ use Rattle.gt_model.specs.declared.script.Case.{Case}
 use Rattle.gt_model.specs.declared.script.CaseKind.{CaseKind}
 use Rattle.gt_model.specs.Good.{awaits_timer}
 use Rattle.gt_model.specs.Script.{what_at, is_chan, is_timer, capacity_of}
-use Rattle.gt_rules.specs.State.{State, clock, stands_at, clock_of, due_of, next_number, sleeps_until, items_of, item_count, is_closed, is_locked, is_done}
+use Rattle.gt_rules.specs.State.{State, clock, stands_at, clock_of, due_of, next_number, sleeps_until, items_of, item_count, is_closed, is_locked, is_done, suspended_count}
 use Rattle.gt_rules.specs.Operations.{receives_from}
 use Rattle.gt_rules.specs.Panics.{fault, fault_case}
 use Rattle.gt_rules.specs.Ready.{is_due}
@@ -67,6 +68,7 @@ takes_alone s p o (Some (What.AfterFunc func)) = None
 takes_alone s p o (Some (What.Chan cap)) = None
 takes_alone s p o (Some What.Mutex) = cond (is_locked s o) None (Some (Entry.Lock p.g o))
 takes_alone s p o (Some What.Wg) = cond (is_done s o) (Some (Entry.WgWait p.g o)) None
+takes_alone s p o (Some (What.Cond mutex)) = None
 takes_alone s p o (Some What.Function) = None
 
 abbrev pub goes_alone : Script → State → Party → CaseKind → Option Entry
@@ -147,6 +149,9 @@ step_of_instr script s m g (Instr.Send c v) = plain_step (CaseKind.Send c v) (go
 step_of_instr script s m g (Instr.Close c) = Step.Makes (Entry.Close g c)
 step_of_instr script s m g (Instr.Lock k) = plain_step (CaseKind.Recv k) (goes_by script s m (plainly g) (CaseKind.Recv k))
 step_of_instr script s m g (Instr.Unlock k) = Step.Makes (Entry.Unlock g k)
+step_of_instr script s m g (Instr.CWait k) = Step.Makes (Entry.CondWait g k)
+step_of_instr script s m g (Instr.Signal k) = Step.Makes (Entry.Signal g k (option_map (λ (p : Party). p.g) (slice_get (parties_at m.receivers k) 0)))
+step_of_instr script s m g (Instr.Broadcast k) = Step.Broadcasts k
 step_of_instr script s m g (Instr.Add w n) = Step.Makes (Entry.Add g w n)
 step_of_instr script s m g (Instr.Wait w) = plain_step (CaseKind.Recv w) (goes_by script s m (plainly g) (CaseKind.Recv w))
 step_of_instr script s m g (Instr.Select cases default_to) = choice_step script s m g cases default_to
@@ -190,6 +195,7 @@ Does old g (Step.Waits t) new did =
 Does old g (Step.Parks kind) new did = (new ≡ with_schedule old (parked_at old.schedule (plainly g) kind)) × (did ≡ Did.Parked)
 Does old g (Step.Chooses timed) new did =
     (new ≡ with_schedule old (parked_cases old.schedule g (cases_of (stands_at old.script old.state g)))) × (did ≡ choice_answer (ticket_of old.schedule g) timed)
+Does old g (Step.Broadcasts k) new did = Enters old (Entry.Broadcast g k (suspended_count old.state k)) new × DidEnter new did
 Does old g (Step.Needs op) new did = (new ≡ old) × (did ≡ Did.Timer op)
 Does old g Step.Nowhere new did = ⊥
 

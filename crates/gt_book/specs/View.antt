@@ -1,10 +1,12 @@
 -- What a contract sees of a book.
-use Rattle.std.specs.Prelude.{ℕ, ◌+◌, ◌<◌, ◌≡◌, ◌&&◌, cond, Bool, false, is_none, slice_get, IsTrue, MatchOption, List, [], ◌∷◌, ◌++◌, length}
+use Rattle.std.specs.Prelude.{ℕ, zero, suc, ◌+◌, ◌<◌, ◌≡◌, ◌&&◌, cond, Bool, false, is_none, slice_get, IsTrue, MatchOption, List, [], ◌∷◌, ◌++◌, length, map}
+use Rattle.std.specs.Option.{option_and_then}
 use Rattle.std.specs.declared.option.Option.{Option}
 use Rattle.std.specs.declared.option.Option.TheVariants.{None, Some}
 use Rattle.gt_model.specs.declared.script.Script.{Script}
 use Rattle.gt_model.specs.declared.entry.Entry.{Entry}
 use Rattle.gt_model.specs.declared.entry.Party.{Party}
+use Rattle.gt_model.specs.declared.script.Decl.{Decl}
 use Rattle.gt_model.specs.declared.script.Instr.{Instr}
 use Rattle.gt_model.specs.declared.script.Case.{Case}
 use Rattle.gt_model.specs.declared.script.CaseKind.{CaseKind}
@@ -21,12 +23,13 @@ use Rattle.gt_facts.specs.Formed.{IsFormed}
 use Rattle.gt_rules.specs.Ready.{is_firm}
 use Rattle.gt_machine.specs.Outcomes.{outcome_in, due_outcome}
 use Rattle.gt_rules.specs.Legal.{operation_at}
-use Rattle.gt_rules.specs.Operations.{receives_from, sends_to, offers}
+use Rattle.gt_model.specs.Script.{instr_at, mutex_of}
+use Rattle.gt_rules.specs.Operations.{operation, receives_from, sends_to, offers}
 use Rattle.gt_rules.specs.Change.{Change, change_of}
 use Rattle.gt_rules.specs.declared.change.Move.{Move}
 use Rattle.gt_schedule.specs.declared.status.RunStatus.{RunStatus}
 use Rattle.gt_schedule.specs.Counts.{as_number, often}
-use Rattle.gt_schedule.specs.Schedule.{Schedule, at_case, first_schedule, status_of, is_parked, parties_at, scheduled, schedule_after, RunsQueued}
+use Rattle.gt_schedule.specs.Schedule.{Schedule, at_case, mutex_in, first_schedule, status_of, is_parked, parties_at, scheduled, schedule_after, RunsQueued}
 
 pub record BookView : Type 0 where
   pub script : Script
@@ -71,11 +74,18 @@ finish_due limits s = finish_by (due_outcome limits s)
 -- the goroutine that goes on, or panics
 abbrev pub goer : Option (ℕ × Move) → Option ℕ
 goer None = None
-goer (Some x) = elim x.1 [ Move.GoesOn case_no ↦ Some x.0 | Move.FallsAsleep until ↦ None | Move.Ends ↦ None | Move.Panics ↦ Some x.0 ]
+goer (Some x) = elim x.1 [
+  | Move.GoesOn case_no ↦ Some x.0
+  | Move.FallsAsleep until ↦ None
+  | Move.Suspends k ↦ None
+  | Move.Relocks k ↦ None
+  | Move.Ends ↦ None
+  | Move.Panics ↦ Some x.0
+]
 
--- whether a change is of one goroutine alone: it sets no timer, starts nobody and moves no clock
+-- whether a change is of one goroutine alone: it signals nobody, sets no timer, starts nobody and moves no clock
 abbrev pub is_own : Change → Bool
-is_own c = is_none c.partner && is_none c.timer && is_none (slice_get c.starts 0) && is_none c.clock
+is_own c = is_none c.partner && is_none c.broadcast && is_none c.timer && is_none (slice_get c.starts 0) && is_none c.clock
 
 -- the goroutine that makes an entry when it is woken: it goes on or panics, alone
 abbrev pub maker : Entry → Option ℕ
@@ -111,6 +121,8 @@ Agrees Mode.At RunStatus.Queued = Unit {0}
 Agrees Mode.At RunStatus.InHand = Unit {0}
 Agrees Mode.At (RunStatus.Parked since) = Unit {0}
 Agrees (Mode.Sleeping until) (RunStatus.Parked since) = Unit {0}
+Agrees (Mode.Suspended k) (RunStatus.Parked since) = Unit {0}
+Agrees (Mode.Relocking k) (RunStatus.Parked since) = Unit {0}
 Agrees Mode.Ended RunStatus.Ended = Unit {0}
 Agrees _ _ = ⊥
 
@@ -136,13 +148,35 @@ receiver_of script s g o = at_case g (case_of (receives_from o) (stands_at scrip
 abbrev pub stands_for : Script → State → ℕ → ℕ → Bool
 stands_for script s g o = elim (stands_at script s g) [ None ↦ false | Some i ↦ offers (receives_from o) i ]
 
--- whether a party is parked at such an operation
+-- what a goroutine wants that is plain: nothing under the number of a case
+abbrev pub wants_plainly : ℕ → ℕ → Option CaseKind
+wants_plainly o zero = Some (CaseKind.Recv o)
+wants_plainly o (suc k) = None
+
+-- what a party waits for: its operation; who is suspended a signal of its Cond; who was signalled there the Cond's mutex
+abbrev pub wanted : Script → ℕ → Goroutine → Option CaseKind
+wanted script case_no r = elim r.mode [
+  | Mode.At ↦ option_and_then (λ (i : Instr). operation i case_no) (instr_at script r.place)
+  | Mode.Sleeping until ↦ None
+  | Mode.Suspended k ↦ wants_plainly k case_no
+  | Mode.Relocking k ↦ wants_plainly (mutex_of script k) case_no
+  | Mode.Ended ↦ None
+]
+
+abbrev pub wanted_at : Script → State → Party → Option CaseKind
+wanted_at script s p = option_and_then (wanted script p.case_no) (goroutine_at s p.g)
+
+abbrev pub wants : Script → State → Party → (CaseKind → Bool) → Bool
+wants script s p test = elim (wanted_at script s p) [ None ↦ false | Some kind ↦ test kind ]
+
+-- whether a party is parked where it waits for what passes a test
 abbrev pub is_parked_at : Script → State → Schedule → Party → (CaseKind → Bool) → Bool
-is_parked_at script s m p test = is_waiting m p.g && is_at script s p test
+is_parked_at script s m p test = is_waiting m p.g && wants script s p test
 
 -- the schedule fits the state: the run queue has exactly those that are queued, and the lists at a declaration the parties that are parked there, each once
 pub record Fits (script : Script) (s : State) (m : Schedule) : Type 0 where
   pub as_many : length m.statuses ≡ length s.goroutines
+  pub mutexes : m.mutexes ≡ map (λ (d : Decl). mutex_in d.what) script.decls
   pub receivers : length m.receivers ≡ length script.decls
   pub senders : length m.senders ≡ length script.decls
   pub agree : (g : ℕ) (r : Goroutine) (status : RunStatus) → goroutine_at s g ≡ Some r → status_of m g ≡ Some status → Agrees r.mode status

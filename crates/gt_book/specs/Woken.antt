@@ -1,5 +1,5 @@
 -- Who goes on at an object after it changed, of those that wait there.
-use Rattle.std.specs.Prelude.{ℕ, ◌+◌, List, [], ◌∷◌, slice_get}
+use Rattle.std.specs.Prelude.{ℕ, ◌+◌, cond, List, [], ◌∷◌, slice_get}
 use Rattle.std.specs.declared.option.Option.{Option}
 use Rattle.std.specs.declared.option.Option.TheVariants.{None, Some}
 use Rattle.gt_model.specs.declared.script.Script.{Script}
@@ -8,7 +8,11 @@ use Rattle.gt_model.specs.declared.script.Case.{Case}
 use Rattle.gt_model.specs.declared.script.CaseKind.{CaseKind}
 use Rattle.gt_model.specs.declared.entry.Entry.{Entry}
 use Rattle.gt_model.specs.declared.entry.Party.{Party}
-use Rattle.gt_rules.specs.State.{State, stands_at}
+use Rattle.gt_rules.specs.State.{State, goroutine_at, is_locked}
+use Rattle.gt_model.specs.declared.state.Goroutine.{Goroutine}
+use Rattle.gt_model.specs.declared.state.Mode.{Mode}
+use Rattle.gt_model.specs.Script.{instr_at, mutex_of}
+use Rattle.gt_rules.specs.declared.change.Move.{Move}
 use Rattle.gt_rules.specs.Change.{Change}
 use Rattle.gt_rules.specs.declared.change.Trade.{Trade}
 use Rattle.gt_rules.specs.declared.change.SyncStep.{SyncStep}
@@ -32,20 +36,57 @@ alone_of script s g (Some i) = elim i [
   | _ ↦ None
 ]
 
+-- who was signalled at a Cond goes on where nobody has the mutex
+abbrev pub relocks : Script → State → ℕ → ℕ → Option Entry
+relocks script s g k = cond (is_locked s (mutex_of script k)) None (Some (Entry.CondWake g k))
+
+-- the entry of a goroutine that waits, where it can go on by itself. Who is suspended at a Cond waits for a signal
+abbrev pub woken_in : Script → State → ℕ → Goroutine → Option Entry
+woken_in script s g r = elim r.mode [
+  | Mode.At ↦ alone_of script s g (instr_at script r.place)
+  | Mode.Sleeping until ↦ None
+  | Mode.Suspended k ↦ None
+  | Mode.Relocking k ↦ relocks script s g k
+  | Mode.Ended ↦ None
+]
+
 abbrev pub woken_by : Script → State → Option Party → Option Entry
 woken_by script s None = None
-woken_by script s (Some p) = alone_of script s p.g (stands_at script s p.g)
+woken_by script s (Some p) = elim (goroutine_at s p.g) [ None ↦ None | Some r ↦ woken_in script s p.g r ]
 
 -- the entry of the one that goes on next: of receivers, and of senders, the one that has waited longest
 abbrev pub next_woken : Script → State → Schedule → ℕ → Option Entry
 next_woken script s m c =
     or_next (woken_by script s (slice_get (parties_at m.receivers c) 0)) (woken_by script s (slice_get (parties_at m.senders c) 0))
 
--- The object that an entry changes: a channel, or a mutex or a WaitGroup. No entry changes both
-abbrev pub changed_object : Change → Option ℕ
-changed_object c = either c.channel c.sync
+-- the mutex or the WaitGroup that a step changes, as far as somebody waits for it: of a Cond its mutex
+abbrev pub stepped_object : Script → ℕ → SyncStep → ℕ
+stepped_object script o SyncStep.Locks = o
+stepped_object script o SyncStep.Unlocks = o
+stepped_object script o (SyncStep.Adds n) = o
+stepped_object script o SyncStep.Releases = mutex_of script o
+stepped_object script o SyncStep.Retakes = mutex_of script o
+
+-- the mutex for which somebody waits once it is signalled
+abbrev pub signalled_for : Script → Option (ℕ × Move) → Option ℕ
+signalled_for script None = None
+signalled_for script (Some x) = elim x.1 [
+  | Move.GoesOn case_no ↦ None
+  | Move.FallsAsleep until ↦ None
+  | Move.Suspends k ↦ None
+  | Move.Relocks k ↦ Some (mutex_of script k)
+  | Move.Ends ↦ None
+  | Move.Panics ↦ None
+]
+
+-- The object at which an entry may let others go on: the channel, the mutex or the WaitGroup that it changes, or the mutex for which those wait whom it signals. It is one
+-- at most
+abbrev pub changed_object : Script → Change → Option ℕ
+changed_object script c = first_of c.channel c.sync (signalled_for script c.partner) c.broadcast
   where
-    either : Option (ℕ × Trade) → Option (ℕ × SyncStep) → Option ℕ
-    either (Some x) sync = Some x.0
-    either None (Some x) = Some x.0
-    either None None = None
+    first_of : Option (ℕ × Trade) → Option (ℕ × SyncStep) → Option ℕ → Option ℕ → Option ℕ
+    first_of (Some x) sync signalled broadcast = Some x.0
+    first_of None (Some x) signalled broadcast = Some (stepped_object script x.0 x.1)
+    first_of None None (Some m) broadcast = Some m
+    first_of None None None (Some k) = Some (mutex_of script k)
+    first_of None None None None = None

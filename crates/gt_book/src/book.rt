@@ -6,6 +6,7 @@ ghost use Rattle.gt_model.specs.Good.{IsGood, AreLimits};
 ghost use Rattle.gt_model.specs.Times.{greatest_time};
 ghost use Rattle.gt_rules.specs.Legal.{May};
 ghost use Rattle.gt_rules.specs.Finish.{IsIdle};
+ghost use Rattle.gt_rules.specs.Change.{change_of};
 ghost use Rattle.gt_rules.specs.Counted.{counted};
 ghost use Rattle.gt_model.specs.Tables.{least};
 ghost use Rattle.gt_model.specs.declared.entry.Entry.{Entry};
@@ -18,7 +19,8 @@ ghost use Rattle.gt_schedule.specs.Counts.{times};
 ghost use Rattle.gt_schedule.specs.Schedule.{parties_at, status_of, marks_at, marked, unmarked, HasMarkRoom, given_back, in_hand, IsLive, Served};
 ghost use Rattle.gt_schedule.specs.Schedule as schedule;
 ghost use Rattle.gt_book.specs.Least.{counted_of};
-ghost use Rattle.gt_book.specs.Steps.{Takes, Steps, step_of, chooses, cases_of, MayCommit, Commits, is_gone, is_receiving, entry_of, Clocks};
+ghost use Rattle.gt_book.specs.declared.step.Step.{Step};
+ghost use Rattle.gt_book.specs.Steps.{DidEnter, Takes, Steps, step_of, chooses, cases_of, MayCommit, Commits, is_gone, is_receiving, entry_of, Clocks};
 ghost use Rattle.gt_book.specs.View.{first_view, stands_for, receiver_of, case_of, outcome_of, with_entries, with_schedule, Enters, IsLawful};
 
 use crate::answers::{Commit, Did, Op, Pick, TimerOp};
@@ -251,7 +253,11 @@ impl Book {
         match self.next_step(g) {
             Step::Makes(entry) => {
                 self.enter(entry);
-                self.outcome().map_or(Did::Entered, Did::Over)
+                self.after_entry()
+            }
+            Step::Broadcasts(k) => {
+                self.broadcast(g, k);
+                self.after_entry()
             }
             Step::Waits(t) => {
                 let ticket = self.run.scheduler.park_at(g, CaseKind::Recv(t));
@@ -350,6 +356,13 @@ impl Book {
         next_step(&self.run.machine, &self.run.scheduler, &self.script, g).unwrap()
     }
 
+    /// The answer after an entry.
+    fn after_entry(&self) -> Did
+        ensures { DidEnter self.now result }
+    {
+        self.outcome().map_or(Did::Entered, Did::Over)
+    }
+
     /// Whether an operation comes too late.
     fn is_gone(&self, op: &Op) -> bool
         ensures { result ≡ is_gone self.now op.now }
@@ -404,14 +417,27 @@ impl Book {
         }
     }
 
-    /// Makes an entry, those of whoever goes on by it at the object that it changes, and the finish of the run where one is due then.
+    /// Makes an entry that is no broadcast, those of whoever goes on by it at the object that it changes, and the finish of the run where one is due then.
     fn enter(&mut self, entry: Entry)
         requires running { outcome_of self.old ≡ None }
         requires may { May self.old.script self.old.state entry }
         requires served { Served self.old.schedule entry }
+        requires alone { (change_of entry).broadcast ≡ None }
         ensures { Enters self.old entry self.new }
     {
         self.run.enter(&self.script, self.limits, entry);
+        self.run.end(self.limits);
+    }
+
+    /// A goroutine in hand signals all that wait at a Cond: it makes its entry and those of whoever goes on by it at the mutex, and the finish of the run
+    /// where one is due then.
+    fn broadcast(&mut self, g: u32, k: u32)
+        requires running { outcome_of self.old ≡ None }
+        requires in_hand { status_of self.old.schedule g ≡ Some RunStatus.InHand }
+        requires broadcasts { step_of self.old.script self.old.state self.old.schedule g ≡ Some (Step.Broadcasts k) }
+        ensures { Enters self.old (Entry.Broadcast g k (at.suspended_count self.old.state k)) self.new }
+    {
+        self.run.broadcast(&self.script, self.limits, g, k);
         self.run.end(self.limits);
     }
 }

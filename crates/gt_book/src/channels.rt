@@ -13,7 +13,7 @@ ghost use Rattle.gt_schedule.specs.Schedule.{object_of};
 ghost use Rattle.gt_book.specs.Steps as steps;
 ghost use Rattle.gt_book.specs.Woken as woken;
 
-use gt_machine::{Machine, capacity, is_chan, what_at};
+use gt_machine::{Machine, capacity, is_chan, mutex_of, what_at};
 use gt_model::{Case, CaseKind, Entry, Instr, Party, Reason, Script, What};
 use gt_schedule::{Scheduler, plainly};
 
@@ -161,11 +161,25 @@ fn first_alone(machine: &Machine, script: &Script, g: u32, cases: &[Case]) -> Op
     None
 }
 
+/// The entry of a goroutine that was signalled at a Cond, where nobody has the mutex.
+fn relocks(machine: &Machine, script: &Script, g: u32, k: u32) -> Option<Entry>
+    ensures { result ≡ woken.relocks script.now (state_of machine.now) g k }
+{
+    if machine.is_locked(mutex_of(script, k)) {
+        None
+    } else {
+        Some(Entry::CondWake { g, k })
+    }
+}
+
 /// The entry of the goroutine of a party that waits, where it can go on by itself.
 fn woken_by(machine: &Machine, script: &Script, p: Party) -> Option<Entry>
     requires { IsGood script.now }
     ensures { result ≡ woken.woken_by script.now (state_of machine.now) (Some p) }
 {
+    if let Some(k) = machine.relocking_at(p.g) {
+        return relocks(machine, script, p.g, k);
+    }
     match machine.stands_at(script, p.g)? {
         Instr::Recv { o } => goes_alone(machine, script, plainly(p.g), CaseKind::Recv(*o)),
         Instr::Send { c, v } => goes_alone(machine, script, plainly(p.g), CaseKind::Send(*c, *v)),

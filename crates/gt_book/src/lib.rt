@@ -3,6 +3,7 @@
 
 mod answers;
 mod book;
+mod broadcast;
 mod channels;
 mod choices;
 mod counted;

@@ -3,29 +3,53 @@
 ghost use Rattle.gt_model.specs.declared.entry.Entry.{Entry};
 ghost use Rattle.gt_model.specs.declared.entry.Limits.{Limits};
 ghost use Rattle.gt_model.specs.declared.script.Script.{Script};
-ghost use Rattle.std.specs.Prelude.{◌≡◌};
+ghost use Rattle.std.specs.Prelude.{◌≡◌, None};
 ghost use Rattle.gt_rules.specs.Change.{change_of};
-ghost use Rattle.gt_book.specs.Woken.{changed_object};
+ghost use Rattle.gt_book.specs.Woken.{stepped_object, signalled_for, changed_object};
 ghost use Rattle.gt_book.specs.Run.{CanMake, Makes, CanWake, Wakes, CanEnter, Entered, CanEnd, Ends};
 
 use crate::channels::next_woken;
-use gt_machine::Machine;
+use gt_machine::{Machine, mutex_of};
 use gt_model::{Entry, Limits, Script};
 use gt_room::Room;
-use gt_rules::{channel_of, sync_of};
+use gt_rules::{Move, SyncStep, broadcast_of, channel_of, partner_of, sync_of};
 use gt_schedule::Scheduler;
 
-/// The object that an entry changes: a channel, or a mutex or a WaitGroup.
-fn changed_object(entry: &Entry) -> Option<u32>
-    ensures { result ≡ changed_object (change_of entry.now) }
+/// The mutex or the WaitGroup that a step changes, as far as somebody waits for it: of a Cond its mutex.
+fn stepped_object(script: &Script, o: u32, step: SyncStep) -> u32
+    ensures { result ≡ stepped_object script.now o step }
 {
-    match channel_of(entry) {
-        Some((c, _)) => Some(c),
-        None => match sync_of(entry) {
-            Some((o, _)) => Some(o),
-            None => None,
-        },
+    match step {
+        SyncStep::Locks | SyncStep::Unlocks | SyncStep::Adds { .. } => o,
+        SyncStep::Releases | SyncStep::Retakes => mutex_of(script, o),
     }
+}
+
+/// The mutex for which somebody waits once it is signalled.
+fn signalled_for(script: &Script, partner: Option<(u32, Move)>) -> Option<u32>
+    ensures { result ≡ signalled_for script.now partner }
+{
+    match partner {
+        Some((_, Move::Relocks { cond })) => Some(mutex_of(script, cond)),
+        _ => None,
+    }
+}
+
+/// The object at which an entry may let others go on: the channel, the mutex or the WaitGroup that it changes, or the mutex for which those wait whom it
+/// signals.
+fn changed_object(script: &Script, entry: &Entry) -> Option<u32>
+    ensures { result ≡ changed_object script.now (change_of entry.now) }
+{
+    if let Some((c, _)) = channel_of(entry) {
+        return Some(c);
+    }
+    if let Some((o, step)) = sync_of(entry) {
+        return Some(stepped_object(script, o, step));
+    }
+    if let Some(mutex) = signalled_for(script, partner_of(entry)) {
+        return Some(mutex);
+    }
+    Some(mutex_of(script, broadcast_of(entry)?))
 }
 
 /// The entries that a run has made, the state after them, and who runs and who waits.
@@ -37,9 +61,10 @@ pub struct Run {
 }
 
 impl Run {
-    /// Makes an entry.
+    /// Makes an entry that is no broadcast.
     fn make(&mut self, script: &Script, entry: Entry)
-        requires { (limits : Limits) × CanMake script.now limits self.old entry }
+        requires can { (limits : Limits) × CanMake script.now limits self.old entry }
+        requires alone { (change_of entry).broadcast ≡ None }
         ensures { (limits : Limits) → CanMake script.now limits self.old entry → Makes script.now limits self.old entry self.new }
     {
         self.machine.apply(script, &entry);
@@ -48,7 +73,7 @@ impl Run {
     }
 
     /// Lets those go on that wait at an object and can, until none can or the run is to end.
-    fn wake(&mut self, script: &Script, limits: Limits, o: u32)
+    pub fn wake(&mut self, script: &Script, limits: Limits, o: u32)
         requires { CanWake script.now limits self.old o }
         ensures { Wakes script.now limits self.old self.new }
     {
@@ -60,13 +85,14 @@ impl Run {
         }
     }
 
-    /// Makes an entry, and those of whoever goes on by it at the object that it changes.
+    /// Makes an entry that is no broadcast, and those of whoever goes on by it at the object that it changes.
     pub fn enter(&mut self, script: &Script, limits: Limits, entry: Entry)
-        requires { CanEnter script.now limits self.old entry }
+        requires can { CanEnter script.now limits self.old entry }
+        requires alone { (change_of entry).broadcast ≡ None }
         ensures { Entered script.now limits self.old entry self.new }
     {
         self.make(script, entry);
-        if let Some(o) = changed_object(&entry) {
+        if let Some(o) = changed_object(script, &entry) {
             self.wake(script, limits, o);
         }
     }

@@ -1,11 +1,14 @@
 //! What a goroutine does next, by the state of the machine.
 
-ghost use Rattle.std.specs.Prelude.{◌≡◌, ◌<◌, ◌-◌, ◌^◌, length};
+ghost use Rattle.std.specs.Prelude.{◌≡◌, ◌<◌, ◌-◌, ◌^◌, length, slice_get};
+ghost use Rattle.std.specs.Option.{option_map};
+ghost use Rattle.gt_model.specs.declared.entry.Party.{Party};
 ghost use Rattle.gt_rules.specs.State as at;
 ghost use Rattle.gt_facts.specs.Formed.{IsFormed};
 ghost use Rattle.gt_machine.specs.Machine.{state_of};
 ghost use Rattle.gt_model.specs.Good.{IsGood, NamesRightly};
-ghost use Rattle.gt_schedule.specs.Scheduler.{schedule_of};
+ghost use Rattle.gt_schedule.specs.Schedule.{parties_at};
+ghost use Rattle.gt_schedule.specs.Scheduler.{schedule_of, IsScheduler};
 ghost use Rattle.gt_book.specs.Steps.{step_of, step_of_instr, HasLists};
 
 use crate::answers::TimerOp;
@@ -27,8 +30,19 @@ pub enum Step {
     Chooses(bool),
     /// Its instruction needs a timer's record.
     Needs(TimerOp),
+    /// It signals all that wait at this Cond.
+    Broadcasts(u32),
     /// It is at the bounds of a loop or at a jump, where nobody stands.
     Nowhere,
+}
+
+/// Who is signalled next at a Cond: who has waited longest there.
+fn waiting_at(scheduler: &Scheduler, k: u32) -> Option<u32>
+    requires kept { IsScheduler scheduler.now }
+    requires declared { k < length (schedule_of scheduler.now).receivers }
+    ensures { result ≡ option_map (λ (p : Party). p.g) (slice_get (parties_at (schedule_of scheduler.now).receivers k) 0) }
+{
+    Some(scheduler.first_receiver(k)?.g)
 }
 
 /// What an instruction without misuse is for goroutine `g`.
@@ -70,6 +84,13 @@ fn step_of_instr(
         Instr::Close { c } => Step::Makes(Entry::Close { g, c }),
         Instr::Lock { m } => plain_step(machine, scheduler, script, g, CaseKind::Recv(m)),
         Instr::Unlock { m } => Step::Makes(Entry::Unlock { g, m }),
+        Instr::CWait { k } => Step::Makes(Entry::CondWait { g, k }),
+        Instr::Signal { k } => Step::Makes(Entry::Signal {
+            g,
+            k,
+            woken: waiting_at(scheduler, k),
+        }),
+        Instr::Broadcast { k } => Step::Broadcasts(k),
         Instr::Add { w, n } => Step::Makes(Entry::Add { g, w, n }),
         Instr::Wait { w } => plain_step(machine, scheduler, script, g, CaseKind::Recv(w)),
         Instr::Select {

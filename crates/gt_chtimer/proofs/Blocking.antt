@@ -9,7 +9,8 @@ use Rattle.gt_schedule.specs.Schedule.{is_parked, IsLive}
 use Rattle.gt_schedule.specs.declared.status.Ticket.{Ticket}
 use Rattle.gt_book.specs.declared.answers.Commit.{Commit}
 use Rattle.gt_book.specs.Steps.{DidCommit}
-use Rattle.gt_book.specs.View.{BookView, outcome_of, receiver_of, stands_for, is_at, is_parked_at, is_waiting}
+use Rattle.gt_book.proofs.Wanting.{operates-wanted}
+use Rattle.gt_book.specs.View.{BookView, outcome_of, receiver_of, stands_for, wants, is_parked_at, is_waiting}
 use Rattle.gt_book.proofs.Committing.{receiver-at}
 use Rattle.gt_model.specs.declared.script.CaseKind.{CaseKind}
 use Rattle.gt_rules.specs.Operations.{offers, receives_from}
@@ -85,12 +86,14 @@ placed-received h r b p r' b' did commit got is tried placed =
     subst (IsPlaced h) (sym f.takes.rec) (record { here = placed.here; elsewhere = placed.elsewhere })
 
 -- a goroutine that is parked where it receives from a timer is parked there as the party that receives
-at-receiver : (b : BookView) (g t : ℕ) → stands_for b.script b.state g t ≡ true → is_at b.script b.state (receiver_of b.script b.state g t) (receives_from t) ≡ true
+at-receiver : (b : BookView) (g t : ℕ) → stands_for b.script b.state g t ≡ true → wants b.script b.state (receiver_of b.script b.state g t) (receives_from t) ≡ true
 at-receiver b g t waits =
     elim (stands_at b.script b.state g) as (λ o. stands_at b.script b.state g ≡ o → (elim o as (λ o. Bool) [ None ↦ false | Some i ↦ offers (receives_from t) i ]) ≡ true
-    → is_at b.script b.state (receiver_of b.script b.state g t) (receives_from t) ≡ true) [
+    → wants b.script b.state (receiver_of b.script b.state g t) (receives_from t) ≡ true) [
       | None ↦ λ e h. cc
-      | Some i ↦ λ e h. ap (λ (o : Option CaseKind). elim o as (λ o. Bool) [ None ↦ false | Some kind ↦ receives_from t kind ]) (receiver-at b.script b.state g t i e h) ∙ eq-eqb t t refl
+      | Some i ↦ λ e h.
+          ap (λ (o : Option CaseKind). elim o as (λ o. Bool) [ None ↦ false | Some kind ↦ receives_from t kind ])
+          (operates-wanted b.script b.state (receiver_of b.script b.state g t) (CaseKind.Recv t) (receiver-at b.script b.state g t i e h)) ∙ eq-eqb t t refl
     ] refl waits
 
 pub parked-receiver : (b : BookView) (ticket : Ticket) (t : ℕ) → IsLive b.schedule ticket → stands_for b.script b.state ticket.g t ≡ true

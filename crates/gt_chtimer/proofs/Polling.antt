@@ -32,7 +32,7 @@ use Rattle.gt_book.specs.declared.step.Step.{Step}
 use Rattle.gt_book.specs.Steps.{takes_alone, Steps, Does, Commits, is_gone, or_next, receives_alone, sends_alone, goes_alone, partner_in, meets_sender, meets_receiver, meets, goes_by, come_timer, step_or_panic}
 use Rattle.gt_book.specs.View.{BookView, Enters, IsLawful, outcome_of, receiver_of}
 use Rattle.gt_book.proofs.Committing.{may-poll}
-use Rattle.gt_book.proofs.Meeting.{receives-kind}
+use Rattle.gt_book.proofs.Wanting.{receives-kind}
 use Rattle.gt_book.proofs.Options.{ChoiceIs, case_goes, case_polls, all_rest, all_wait, choice-so}
 use Rattle.gt_rows.specs.declared.answers.PollDone.{PollDone}
 use Rattle.gt_rows.specs.Frames.{touched, period_touched}
@@ -104,6 +104,7 @@ both-timerless false o q h k = k
 takes-timerless : (s : State) (p : Party) (o : ℕ) (w : Option What) → IsTimerlessIf (takes_alone s p o w)
 takes-timerless s p o (Some What.Mutex) = both-timerless (is_locked s o) None (Some (Entry.Lock p.g o)) tt refl
 takes-timerless s p o (Some What.Wg) = both-timerless (is_done s o) (Some (Entry.WgWait p.g o)) None refl tt
+takes-timerless s p o (Some (What.Cond mutex)) = tt
 takes-timerless s p o (Some What.Timer) = tt
 takes-timerless s p o (Some What.Ticker) = tt
 takes-timerless s p o (Some (What.AfterFunc func)) = tt

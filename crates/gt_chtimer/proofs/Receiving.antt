@@ -19,6 +19,7 @@ use Rattle.gt_rec.specs.Changes.{received, taken}
 use Rattle.gt_book.specs.declared.answers.Commit.{Commit}
 use Rattle.gt_book.specs.declared.answers.Op.{Op}
 use Rattle.gt_book.specs.Steps.{Commits, MayCommit, is_gone}
+use Rattle.gt_chtimer.specs.Receive.{Takes, ReceivesBy}
 use Rattle.gt_book.specs.View.{BookView, Enters, IsLawful, outcome_of, is_parked_at}
 use Rattle.gt_book.proofs.Committing.{may-receive}
 use Rattle.gt_rows.specs.Agrees.{Agrees, kind_by, kind_of_what}
@@ -39,6 +40,7 @@ channel-what What.Ticker kind h is = refl
 channel-what (What.AfterFunc f) kind h is = let same : RecKind.Func ≡ kind = cc in absurd (no-channel kind RecKind.Func h same refl)
 channel-what What.Mutex kind h is = cc
 channel-what What.Wg kind h is = cc
+channel-what (What.Cond mutex) kind h is = cc
 channel-what What.Function kind h is = cc
 channel-what (What.Chan cap) kind h is = cc
 
@@ -120,3 +122,13 @@ receive-kept old r p t due next now new did lawful lent channel comes its is sho
           (channel-declared old.script old.state r lent.agrees channel) refl (ap (λ (r : Rec). r.id) is, ap (λ (r : Rec). r.kind) is) shows (ap (λ (r : Rec). r.period) is);
       bits = bits lent.bits;
     }
+
+-- it is the row of a receive
+pub receive-row : (old : BookView) (r : Rec) (p : Party) (t due : ℕ) (next : Option ℕ) (now : Rec) (new : BookView) (did : Commit) → ReceiveComes old p t due next → t ≡ r.id → now ≡ taken r next
+    → received r (clock old.state 0) ≡ Some (due, next) → Commits old (Op.TRecv p t due next) (is_gone old (Op.TRecv p t due next)) new did
+    → ReceivesBy r old p now new (Some did) (received r (clock old.state 0))
+receive-row old r p t due next now new did comes its is takes commits =
+    let all : Commits old (Op.TRecv p t due next) false new did = subst (λ b. Commits old (Op.TRecv p t due next) b new did) comes.in_time commits in
+    let entered : Enters old (Entry.TRecv p r.id due next) new = subst (λ t. Enters old (Entry.TRecv p t due next) new) its all.0 in
+    let row : Takes r old p due next now new did = record { entered = entered; rec = is; answer = all.1 } in
+    subst (ReceivesBy r old p now new (Some did)) (sym takes) row

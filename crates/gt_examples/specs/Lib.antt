@@ -28,3 +28,7 @@ pub mod Locks
 pub mod LocksTwice
 pub mod Negative
 pub mod UnlocksFree
+pub mod CondWaits
+pub mod Signals
+pub mod WaitsUnlocked
+pub mod LostSignal

@@ -36,6 +36,10 @@ ghost use Rattle.gt_examples.specs.Locks as locks;
 ghost use Rattle.gt_examples.specs.LocksTwice as locks_twice;
 ghost use Rattle.gt_examples.specs.Negative as negative;
 ghost use Rattle.gt_examples.specs.UnlocksFree as unlocks_free;
+ghost use Rattle.gt_examples.specs.CondWaits as cond_waits;
+ghost use Rattle.gt_examples.specs.Signals as signals;
+ghost use Rattle.gt_examples.specs.WaitsUnlocked as waits_unlocked;
+ghost use Rattle.gt_examples.specs.LostSignal as lost_signal;
 
 /// main sleeps for 5 ms and looks at the clock.
 pub fn sleeps_and_looks()
@@ -425,4 +429,68 @@ pub fn unlocks_a_free_mutex()
 /// A run goes on where a free mutex was unlocked.
 pub fn goes_on_after_a_free_unlock()
     ensures { IsVerdict unlocks_free.script default_limits unlocks_free.goes_on (Verdict.Illegal 1) }
+{}
+
+/// main waits at a Cond until another goroutine signals it, and goes on once the mutex is free.
+pub fn waits_at_a_cond()
+    ensures history { History cond_waits.script default_limits cond_waits.history Outcome.Exit }
+    ensures jumps { AllJump cond_waits.script 0 (first_state cond_waits.script) cond_waits.history }
+{}
+
+/// Who was signalled goes on while another one has the mutex.
+pub fn wakes_over_a_lock()
+    ensures { IsVerdict cond_waits.script default_limits cond_waits.wakes_over_a_lock (Verdict.Illegal 7) }
+{}
+
+/// Who waits at a Cond goes on without a signal.
+pub fn wakes_unsignalled()
+    ensures { IsVerdict cond_waits.script default_limits cond_waits.wakes_unsignalled (Verdict.Illegal 5) }
+{}
+
+/// A deadlock while a goroutine was signalled and the mutex is free.
+pub fn deadlock_beside_a_signal()
+    ensures { IsVerdict cond_waits.script default_limits cond_waits.deadlock_beside_a_signal (Verdict.Illegal 10) }
+{}
+
+/// Of two that wait at a Cond a signal wakes one, and a broadcast the other one.
+pub fn signals_and_broadcasts()
+    ensures history { History signals.script default_limits signals.history Outcome.Exit }
+    ensures jumps { AllJump signals.script 0 (first_state signals.script) signals.history }
+{}
+
+/// A signal wakes two.
+pub fn signal_wakes_two()
+    ensures { IsVerdict signals.script default_limits signals.wakes_two (Verdict.Illegal 12) }
+{}
+
+/// A signal wakes nobody while two wait.
+pub fn signal_wakes_nobody()
+    ensures { IsVerdict signals.script default_limits signals.wakes_nobody (Verdict.Illegal 8) }
+{}
+
+/// A broadcast counts a goroutine that was signalled before.
+pub fn broadcast_miscounts()
+    ensures { IsVerdict signals.script default_limits signals.miscounts (Verdict.Illegal 11) }
+{}
+
+/// Who waits at a Cond without its mutex unlocks a mutex that is free.
+pub fn waits_without_the_mutex()
+    ensures history { History waits_unlocked.script default_limits waits_unlocked.history Outcome.Panic }
+    ensures jumps { AllJump waits_unlocked.script 0 (first_state waits_unlocked.script) waits_unlocked.history }
+{}
+
+/// A run goes on where a goroutine waited at a Cond without its mutex.
+pub fn goes_on_without_the_mutex()
+    ensures { IsVerdict waits_unlocked.script default_limits waits_unlocked.goes_on (Verdict.Illegal 1) }
+{}
+
+/// A signal that comes before the wait is lost: who waits then waits for ever.
+pub fn signals_too_early()
+    ensures history { History lost_signal.script default_limits lost_signal.history Outcome.Deadlock }
+    ensures jumps { AllJump lost_signal.script 0 (first_state lost_signal.script) lost_signal.history }
+{}
+
+/// A signal wakes a goroutine that waits after it.
+pub fn signal_wakes_later()
+    ensures { IsVerdict lost_signal.script default_limits lost_signal.wakes_later (Verdict.Illegal 4) }
 {}

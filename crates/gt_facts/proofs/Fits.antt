@@ -1,4 +1,4 @@
--- What an entry that may come next changes is there to be changed: its goroutines live, its timer or its channel was made or is not yet, its clock ticks.
+-- What an entry that may come next changes is there to be changed: its goroutines live, its timer or its channel was made or is not yet, what steps is declared, its clock ticks.
 use Rattle.std.proofs.Common.{◌≡◌, ℕ, ◌<◌, List, length, sym, subst, ◌∙◌, arith, Option, None, Some, true, false, is_some, IsTrue, refl, IfSome, IsSomeAnd, MatchOption, ap}
 use Rattle.gt_model.specs.declared.script.Script.{Script}
 use Rattle.gt_model.specs.declared.script.Instr.{Instr}
@@ -7,23 +7,25 @@ use Rattle.gt_model.specs.declared.entry.Limits.{Limits}
 use Rattle.gt_model.specs.declared.entry.Party.{Party}
 use Rattle.gt_model.specs.declared.entry.Reason.{Reason}
 use Rattle.gt_model.specs.declared.script.CaseKind.{CaseKind}
-use Rattle.gt_model.specs.Script.{is_chan}
+use Rattle.gt_model.specs.Script.{is_chan, is_mutex, is_wg, is_cond, mutex_of}
+use Rattle.gt_model.proofs.Declared.{mutex_declared, wg_declared, cond_declared}
 use Rattle.gt_model.specs.declared.state.Goroutine.{Goroutine}
 use Rattle.gt_model.specs.declared.state.Mode.{Mode}
 use Rattle.gt_model.specs.Good.{IsGood}
-use Rattle.gt_rules.specs.State.{State, goroutine_at, stands_at, timer_at, sleeps_until}
+use Rattle.gt_rules.specs.State.{State, goroutine_at, mode_of, stands_at, timer_at, sleeps_until}
 use Rattle.gt_rules.specs.declared.change.Move.{Move}
 use Rattle.gt_rules.specs.declared.change.Setting.{Setting}
+use Rattle.gt_rules.specs.declared.change.SyncStep.{SyncStep}
 use Rattle.gt_rules.specs.declared.change.Trade.{Trade}
 use Rattle.gt_rules.specs.Change.{Change, change_of}
 use Rattle.gt_rules.specs.Legal.{May, MayPanic, ChoosesClosed, Operates, operation_at}
 use Rattle.gt_rules.specs.Panics.{panic_at, fault_at}
 use Rattle.gt_rules.specs.Finish.{Legal}
 use Rattle.gt_facts.specs.Formed.{IsFormed}
-use Rattle.gt_facts.proofs.Lookups.{Standing, standing, Asleep, sleeper, AtOperation, at_operation}
-use Rattle.gt_facts.proofs.Makers.{Maker, calls, receives, trades, pairs, wakes, ticks, panics, maker, Sets, sets, HasTrade, Trades, trades-May}
+use Rattle.gt_facts.proofs.Lookups.{Standing, standing, Asleep, sleeper, InMode, in-mode, AtOperation, at_operation, names-Does}
+use Rattle.gt_facts.proofs.Makers.{Maker, calls, receives, trades, pairs, wakes, ticks, panics, retakes, signals, maker, Sets, sets, HasTrade, Trades, trades-May}
 use Rattle.gt_facts.proofs.Still.{panic_stands}
-use Rattle.gt_facts.proofs.Within.{setting_within, chan_within}
+use Rattle.gt_facts.proofs.Within.{setting_within, chan_within, mutex_of-within, relocking-cond}
 
 -- a goroutine that has not ended
 pub record IsLive (s : State) (g : ℕ) : Type 0 where
@@ -43,11 +45,27 @@ pub record FitsChannel (script : Script) (s : State) (c : ℕ) (x : Trade) : Typ
   pub named : IsTrue (is_chan script c)
   pub has : HasTrade script s c x
 
+-- what a step names
+abbrev pub NamesSync : Script → ℕ → SyncStep → Type 0
+NamesSync script o SyncStep.Locks = IsTrue (is_mutex script o)
+NamesSync script o SyncStep.Unlocks = IsTrue (is_mutex script o)
+NamesSync script o (SyncStep.Adds n) = IsTrue (is_wg script o)
+NamesSync script o SyncStep.Releases = IsTrue (is_cond script o)
+NamesSync script o SyncStep.Retakes = IsTrue (is_cond script o)
+
+-- a mutex, a WaitGroup or a Cond that steps is declared as such and has its place, and the mutex of a Cond has one
+pub record FitsSync (script : Script) (s : State) (o : ℕ) (x : SyncStep) : Type 0 where
+  pub named : NamesSync script o x
+  pub within : o < length s.syncs
+  pub mutex : mutex_of script o < length s.syncs
+
 pub record Fits (script : Script) (s : State) (c : Change) : Type 0 where
   pub mover : IfSome c.mover (λ (m : ℕ × Move). IsLive s m.0)
   pub partner : IfSome c.partner (λ (m : ℕ × Move). IsLive s m.0)
+  pub broadcast : IfSome c.broadcast (λ k. IsTrue (is_cond script k))
   pub timer : IfSome c.timer (λ (x : ℕ × Setting). FitsTimer s x.0 x.1)
   pub channel : IfSome c.channel (λ (x : ℕ × Trade). FitsChannel script s x.0 x.1)
+  pub sync : IfSome c.sync (λ (x : ℕ × SyncStep). FitsSync script s x.0 x.1)
   pub clock : IfSome c.clock (λ (x : ℕ × ℕ). x.0 < length s.clocks)
 
 -- ---- who makes an entry lives
@@ -94,6 +112,12 @@ sleeps-live s g P h =
     let a : Asleep s g = sleeper s g P h in
     record { who = a.who; there = a.there; live = asleep-live a.who.mode a.until a.sleeps }
 
+-- who is in a mode in which it lives
+mode-live : (s : State) (g : ℕ) (mode : Mode) → (mode ≡ Mode.Ended → ⊥) → mode_of s g ≡ Some mode → IsLive s g
+mode-live s g mode lives h =
+    let a : InMode s g mode = in-mode s g mode h in
+    record { who = a.who; there = a.there; live = λ over. lives (sym a.its ∙ over) }
+
 live-Maker : (script : Script) (s : State) (m p : Option (ℕ × Move)) (k : Option (ℕ × ℕ)) → Maker script s m p k → IfSome m (λ (m : ℕ × Move). IsLive s m.0)
 live-Maker script s m q k (calls g i n does goes leaves) = stands-live script s g i does.stands
 live-Maker script s m q k (receives p t due call timer is come) = operates-live script s p (CaseKind.Recv t) call
@@ -101,6 +125,8 @@ live-Maker script s m q k (trades p kind call ready) = operates-live script s p 
 live-Maker script s m q k (pairs from to c v sends gets chan none other waits) = operates-live script s from (CaseKind.Send c v) sends
 live-Maker script s m q k (wakes g h) = sleeps-live s g _ h
 live-Maker script s m q k (panics p reason h) = may_panic-live script s p reason h
+live-Maker script s m q k (retakes g c relocks free) = mode-live s g (Mode.Relocking c) (λ over. cc) relocks
+live-Maker script s m q k (signals g c h does waits) = stands-live script s g (Instr.Signal c) does.stands
 live-Maker script s m q k _ = tt
 
 pub mover-fits : (script : Script) (s : State) (e : Entry) → May script s e → IfSome (change_of e).mover (λ (m : ℕ × Move). IsLive s m.0)
@@ -109,6 +135,7 @@ mover-fits script s e may = live-Maker script s (change_of e).mover (change_of e
 -- and so does its partner
 live-partner : (script : Script) (s : State) (m p : Option (ℕ × Move)) (k : Option (ℕ × ℕ)) → Maker script s m p k → IfSome p (λ (m : ℕ × Move). IsLive s m.0)
 live-partner script s m q k (pairs from to c v sends gets chan none other waits) = operates-live script s to (CaseKind.Recv c) gets
+live-partner script s m q k (signals g c h does waits) = mode-live s h (Mode.Suspended c) (λ over. cc) waits
 live-partner script s m q k _ = tt
 
 pub partner-fits : (script : Script) (s : State) (e : Entry) → May script s e → IfSome (change_of e).partner (λ (m : ℕ × Move). IsLive s m.0)
@@ -143,6 +170,40 @@ pub channel-fits : (script : Script) (s : State) (e : Entry) → IsGood script �
     → IfSome (change_of e).channel (λ (x : ℕ × Trade). FitsChannel script s x.0 x.1)
 channel-fits script s e good formed may = channel-trades script s (change_of e).channel formed (trades-May script s e good may)
 
+-- ---- what steps fits, and where a broadcast is made
+
+names-sync : (script : Script) (s : State) (e : Entry) → IsGood script → IsFormed script s → May script s e
+    → IfSome (change_of e).sync (λ (x : ℕ × SyncStep). NamesSync script x.0 x.1)
+names-sync script s (Entry.Lock g m) good formed may = may.1
+names-sync script s (Entry.Unlock g m) good formed may = names-Does script s g (Instr.Unlock m) good may
+names-sync script s (Entry.CondWait g k) good formed may = names-Does script s g (Instr.CWait k) good may
+names-sync script s (Entry.CondWake g k) good formed may = relocking-cond script s g k formed may.0
+names-sync script s (Entry.Add g w n) good formed may = (names-Does script s g (Instr.Add w n) good may).0
+names-sync script s _ good formed may = tt
+
+sync-declared : (script : Script) (o : ℕ) (x : SyncStep) → NamesSync script o x → o < length script.decls
+sync-declared script o SyncStep.Locks h = mutex_declared script o h
+sync-declared script o SyncStep.Unlocks h = mutex_declared script o h
+sync-declared script o (SyncStep.Adds n) h = wg_declared script o h
+sync-declared script o SyncStep.Releases h = cond_declared script o h
+sync-declared script o SyncStep.Retakes h = cond_declared script o h
+
+sync-names : (script : Script) (s : State) (o : Option (ℕ × SyncStep)) → IsGood script → IsFormed script s → IfSome o (λ (x : ℕ × SyncStep). NamesSync script x.0 x.1)
+    → IfSome o (λ (x : ℕ × SyncStep). FitsSync script s x.0 x.1)
+sync-names script s None good formed h = tt
+sync-names script s (Some x) good formed h =
+    let within : x.0 < length script.decls = sync-declared script x.0 x.1 h in
+    let mutex : mutex_of script x.0 < length script.decls = mutex_of-within script x.0 good within in
+    record { named = h; within = rw formed.syncs within; mutex = rw formed.syncs mutex }
+
+pub sync-fits : (script : Script) (s : State) (e : Entry) → IsGood script → IsFormed script s → May script s e
+    → IfSome (change_of e).sync (λ (x : ℕ × SyncStep). FitsSync script s x.0 x.1)
+sync-fits script s e good formed may = sync-names script s (change_of e).sync good formed (names-sync script s e good formed may)
+
+pub broadcast-fits : (script : Script) (s : State) (e : Entry) → IsGood script → May script s e → IfSome (change_of e).broadcast (λ k. IsTrue (is_cond script k))
+broadcast-fits script s (Entry.Broadcast g k count) good may = names-Does script s g (Instr.Broadcast k) good may.0
+broadcast-fits script s _ good may = tt
+
 -- ---- a clock that moves is one of those that tick
 
 clock-there : (script : Script) (s : State) → IsFormed script s → 0 < length s.clocks
@@ -160,11 +221,13 @@ pub fits-May : (script : Script) (s : State) (e : Entry) → IsGood script → I
 fits-May script s e good formed may = record {
   mover = mover-fits script s e may;
   partner = partner-fits script s e may;
+  broadcast = broadcast-fits script s e good may;
   timer = timer-fits script s e good formed may;
   channel = channel-fits script s e good formed may;
+  sync = sync-fits script s e good formed may;
   clock = clock-fits script s e formed may;
 }
 
 pub fits-Legal : (script : Script) (limits : Limits) (s : State) (e : Entry) → IsGood script → IsFormed script s → Legal script limits s e → Fits script s (change_of e)
-fits-Legal script limits s (Entry.Finish outcome) good formed legal = record { mover = tt; partner = tt; timer = tt; channel = tt; clock = tt }
+fits-Legal script limits s (Entry.Finish outcome) good formed legal = record { mover = tt; partner = tt; broadcast = tt; timer = tt; channel = tt; sync = tt; clock = tt }
 fits-Legal script limits s e good formed legal = fits-May script s e good formed legal.1

@@ -1,5 +1,5 @@
 -- The states that a run reaches are formed, and the program's clock never falls.
-use Rattle.std.proofs.Common.{◌≡◌, ℕ, zero, suc, ◌+◌, ◌<◌, ◌≤◌, List, [], ◌∷◌, ◌++◌, map, set, length, refl, sym, ap, subst, ◌∙◌, arith, slice_get, slice_index, Option, None, Some, Bool, true, false, IsSomeAnd, IfSome, option_map, drop, eqb}
+use Rattle.std.proofs.Common.{◌≡◌, ℕ, zero, suc, ◌+◌, ◌<◌, ◌≤◌, List, [], ◌∷◌, ◌++◌, map, set, length, refl, sym, ap, subst, ◌∙◌, arith, slice_get, slice_index, Option, None, Some, Bool, true, false, cond, IsTrue, IsSomeAnd, IfSome, option_map, drop, eqb}
 use Rattle.std.proofs.lemmas.Bool.{eqb-true, eqb-false}
 use Rattle.std.proofs.lemmas.List.{length-map, length-set}
 use Rattle.std.proofs.lemmas.Option.{slice_get_within}
@@ -20,15 +20,15 @@ use Rattle.gt_model.specs.declared.state.Timer.{Timer}
 use Rattle.gt_model.specs.declared.state.Mode.{Mode}
 use Rattle.gt_model.specs.Times.{greatest_time}
 use Rattle.gt_model.specs.Tables.{at, change, change_numbered, flatten}
-use Rattle.gt_rules.specs.State.{State, Channel, goroutine_at, stands_at, until_of, sleeps_until, clock, clock_of, world_of, timer_at, channel_at, item_count}
-use Rattle.gt_model.specs.Script.{code_of, instr_at, is_func, names_func, func_of, capacity_of}
+use Rattle.gt_rules.specs.State.{State, Channel, goroutine_at, mode_of, stands_at, until_of, suspended_at, relocking_at, is_suspended, sleeps_until, clock, clock_of, world_of, timer_at, channel_at, item_count}
+use Rattle.gt_model.specs.Script.{code_of, instr_at, is_func, is_cond, names_func, func_of, capacity_of}
 use Rattle.gt_model.specs.Good.{IsGood, IsGoodCode, DeclaresRightly, is_finish}
 use Rattle.gt_rules.specs.declared.change.Move.{Move}
 use Rattle.gt_rules.specs.declared.change.Setting.{Setting}
 use Rattle.gt_rules.specs.declared.change.Start.{Start}
 use Rattle.gt_rules.specs.declared.change.Trade.{Trade}
 use Rattle.gt_rules.specs.Change.{Change, change_of}
-use Rattle.gt_rules.specs.After.{after, first_state, moved_on, moved, in_mode, begun, set_due, set_again, timer_world, number_of, new_period, retimed, with_mover, with_starts, started_by, with_retimed, with_clock, with_items, shut, traded, with_traded}
+use Rattle.gt_rules.specs.After.{after, first_state, moved_on, moved, in_mode, begun, set_due, set_again, timer_world, number_of, new_period, retimed, with_mover, signalled, with_signalled, with_starts, started_by, with_retimed, with_clock, with_items, shut, traded, with_traded}
 use Rattle.gt_rules.specs.Legal.{May, Operates}
 use Rattle.gt_rules.specs.Operations.{operation}
 use Rattle.gt_rules.specs.Finish.{Legal}
@@ -37,8 +37,10 @@ use Rattle.gt_rules.specs.Places.{silent, silent_at, settled, next_of, place_aft
 use Rattle.gt_facts.specs.Formed.{IsFormed, IsFormedChannel, IsOnWay, IsPlaced, IsPlacedIn}
 use Rattle.gt_model.proofs.GoodCode.{HasItem, has_item, all_at, main_within}
 use Rattle.gt_facts.proofs.Landing.{way-forward, next-way, passes, Landed, landed}
-use Rattle.gt_facts.proofs.Lookups.{Standing, standing, AtOperation, at_operation}
-use Rattle.gt_facts.proofs.Makers.{Maker, calls, receives, trades, pairs, wakes, ticks, panics, maker, Leaves, Sets, sets, Trades, trades-May, Begins, AllBegin, starts, starts-few}
+use Rattle.gt_facts.proofs.Lookups.{Standing, standing, AtOperation, at_operation, mode_is, names-instr_at}
+use Rattle.gt_facts.proofs.Suspended.{suspended-mode, signals-other, all-signalled}
+pub use Rattle.gt_facts.proofs.Suspended.{length-signalled}
+use Rattle.gt_facts.proofs.Makers.{Maker, calls, receives, trades, pairs, wakes, ticks, panics, retakes, signals, maker, Leaves, Sets, sets, Trades, trades-May, Begins, AllBegin, starts, starts-few}
 use Rattle.gt_facts.proofs.Counters.{AreSyncs, syncs-finished, syncs-entered, syncs-first}
 use Rattle.gt_facts.proofs.Periods.{ArePeriods, periods-first, periods-entered}
 use Rattle.gt_facts.proofs.Within.{chan_within}
@@ -51,10 +53,15 @@ pub record AreClocks (clocks : List ℕ) : Type 0 where
   pub one : clocks ≡ slice_index clocks 0 ∷ []
   pub time : slice_index clocks 0 ≤ greatest_time
 
+-- who waits at a Cond, or for its mutex, waits at what is declared as one
+abbrev pub WaitsRightly : Script → Mode → Type 0
+WaitsRightly script mode = IfSome (suspended_at mode) (λ k. IsTrue (is_cond script k)) × IfSome (relocking_at mode) (λ k. IsTrue (is_cond script k))
+
 pub record IsFormedGoroutine (script : Script) (r : Goroutine) : Type 0 where
   pub world : r.world ≡ 0
   pub placed : IsPlaced script r
   pub until : IfSome (until_of r.mode) (λ until. until ≤ greatest_time)
+  pub conds : WaitsRightly script r.mode
 
 pub record IsFormedTimer (r : Timer) : Type 0 where
   pub world : r.world ≡ 0
@@ -81,6 +88,7 @@ formed-parts script s clocks gs few ts periods cs ys =
       time = clocks.time;
       placed = λ g r e. (gs.each g r e).placed;
       untils = λ g r e. (gs.each g r e).until;
+      conds = λ g r e. (gs.each g r e).conds;
       few = few;
       timers = ts.count;
       dues = λ t r e. (timer t r e).due;
@@ -96,7 +104,7 @@ clocks-of script s formed = record { one = formed.one_clock; time = formed.time 
 
 goroutines-of : (script : Script) (s : State) → IsFormed script s → AreGoroutines script s.goroutines
 goroutines-of script s formed = record {
-  each = λ g r e. record { world = formed.world.goroutines g r e; placed = formed.placed g r e; until = formed.untils g r e };
+  each = λ g r e. record { world = formed.world.goroutines g r e; placed = formed.placed g r e; until = formed.untils g r e; conds = formed.conds g r e };
 }
 
 timers-of : (script : Script) (s : State) → IsFormed script s → AreTimers script s.timers
@@ -182,7 +190,7 @@ begins script f good h =
 
 begun-formed : (script : Script) (w f : ℕ) → IsGood script → w ≡ 0 → f < length script.funcs → IsFormedGoroutine script (begun script w f)
 begun-formed script w f good zero_world h =
-    record { world = zero_world; placed = lands-placed script (record { func = f; at = 0; loops = 0 ∷ 0 ∷ 0 ∷ 0 ∷ [] }) good (begins script f good h); until = tt }
+    record { world = zero_world; placed = lands-placed script (record { func = f; at = 0; loops = 0 ∷ 0 ∷ 0 ∷ 0 ∷ [] }) good (begins script f good h); until = tt; conds = (tt, tt) }
 
 -- ---- the first state
 
@@ -216,6 +224,8 @@ formed-first script good =
 pub placed_inside : (code : List Instr) (p : Place) (m : Mode) → IsPlacedIn code p m → IsOnWay code p.at
 placed_inside code p Mode.At h = h.0
 placed_inside code p (Mode.Sleeping until) h = h.0
+placed_inside code p (Mode.Suspended k) h = h.0
+placed_inside code p (Mode.Relocking k) h = h.0
 placed_inside code p Mode.Ended h = h
 
 moved-formed : (script : Script) (s : State) (g n : ℕ) (i : Instr) (r : Goroutine) → IsGood script → IsFormed script s → stands_at script s g ≡ Some i → is_finish i ≡ false
@@ -224,6 +234,7 @@ moved-formed script s g n i r good formed h next e = record {
   world = formed.world.goroutines g r e;
   placed = after-placed script r.place n good (placed_inside (code_of script r.place.func) r.place r.mode (formed.placed g r e)) (follows script s g i r good formed h next e);
   until = tt;
+  conds = (tt, tt);
 }
 
 -- a sleeper goes on behind its sleep
@@ -231,23 +242,52 @@ placed_next : (code : List Instr) (p : Place) (now : ℕ) (m : Mode) → IsPlace
 placed_next code p now (Mode.Sleeping until) h k = h.1
 placed_next code p now _ h k = absurd k
 
+behind-formed : (script : Script) (s : State) (g : ℕ) (r : Goroutine) → IsGood script → IsFormed script s → goroutine_at s g ≡ Some r → IsOnWay (code_of script r.place.func) (r.place.at + 1)
+    → IsFormedGoroutine script (moved_on script 0 r)
+behind-formed script s g r good formed e behind = record {
+  world = formed.world.goroutines g r e;
+  placed = after-placed script r.place 0 good (placed_inside (code_of script r.place.func) r.place r.mode (formed.placed g r e)) behind;
+  until = tt;
+  conds = (tt, tt);
+}
+
 woken-formed : (script : Script) (s : State) (g now : ℕ) (r : Goroutine) → IsGood script → IsFormed script s → IsSomeAnd (sleeps_until s g) (λ until. until ≤ now) → goroutine_at s g ≡ Some r
     → IsFormedGoroutine script (moved_on script 0 r)
 woken-formed script s g now r good formed h e =
     let slept : IsSomeAnd (until_of r.mode) (λ until. until ≤ now) =
     subst (λ (o : Option Goroutine). IsSomeAnd (elim (option_map (λ (q : Goroutine). q.mode) o) [ None ↦ None | Some mode ↦ until_of mode ]) (λ until. until ≤ now)) e h in
-    record {
-      world = formed.world.goroutines g r e;
-      placed = after-placed script r.place 0 good (placed_inside (code_of script r.place.func) r.place r.mode (formed.placed g r e))
-          (placed_next (code_of script r.place.func) r.place now r.mode (formed.placed g r e) slept);
-      until = tt;
-    }
+    behind-formed script s g r good formed e (placed_next (code_of script r.place.func) r.place now r.mode (formed.placed g r e) slept)
+
+-- who was signalled at a Cond goes on behind its wait
+relocked-formed : (script : Script) (s : State) (g k : ℕ) (r : Goroutine) → IsGood script → IsFormed script s → mode_of s g ≡ Some (Mode.Relocking k) → goroutine_at s g ≡ Some r
+    → IsFormedGoroutine script (moved_on script 0 r)
+relocked-formed script s g k r good formed h e =
+    let placed : IsPlacedIn (code_of script r.place.func) r.place (Mode.Relocking k) =
+    subst (IsPlacedIn (code_of script r.place.func) r.place) (mode_is s g r (Mode.Relocking k) h e) (formed.placed g r e) in
+    behind-formed script s g r good formed e placed.1
+
+-- and who is signalled there waits for its mutex
+relocks-formed : (script : Script) (k : ℕ) (r : Goroutine) → IsFormedGoroutine script r → r.mode ≡ Mode.Suspended k → IsFormedGoroutine script (in_mode (Mode.Relocking k) r)
+relocks-formed script k r was its = record {
+  world = was.world;
+  placed = subst (IsPlacedIn (code_of script r.place.func) r.place) its was.placed;
+  until = tt;
+  conds = (tt, (subst (WaitsRightly script) its was.conds).0);
+}
+
+signalled-formed : (script : Script) (k : ℕ) (r : Goroutine) → IsFormedGoroutine script r → IsFormedGoroutine script (signalled k r)
+signalled-formed script k r was =
+    elim (is_suspended k r) as (λ b. is_suspended k r ≡ b → IsFormedGoroutine script (cond b (in_mode (Mode.Relocking k) r) r)) [
+      | true ↦ λ e. relocks-formed script k r was (suspended-mode k r e)
+      | false ↦ λ e. was
+    ] refl
 
 ended-formed : (script : Script) (s : State) (g : ℕ) (r : Goroutine) → IsFormed script s → goroutine_at s g ≡ Some r → IsFormedGoroutine script (in_mode Mode.Ended r)
 ended-formed script s g r formed e = record {
   world = formed.world.goroutines g r e;
   placed = placed_inside (code_of script r.place.func) r.place r.mode (formed.placed g r e);
   until = tt;
+  conds = (tt, tt);
 }
 
 -- a goroutine that leaves its instruction
@@ -259,7 +299,17 @@ leaves-formed script s g i (Move.FallsAsleep until) r good formed h leaves e =
       world = formed.world.goroutines g r e;
       placed = (placed_inside (code_of script r.place.func) r.place r.mode (formed.placed g r e), follows script s g i r good formed h leaves.0 e);
       until = leaves.1;
+      conds = (tt, tt);
     }
+leaves-formed script s g i (Move.Suspends k) r good formed h leaves e =
+    let on : instr_at script r.place ≡ Some (Instr.CWait k) = instr_there script s g i r h e ∙ ap Some leaves in
+    record {
+      world = formed.world.goroutines g r e;
+      placed = (placed_inside (code_of script r.place.func) r.place r.mode (formed.placed g r e), follows script s g i r good formed h (ap is_finish leaves) e);
+      until = tt;
+      conds = (names-instr_at script r.place (Instr.CWait k) good on, tt);
+    }
+leaves-formed script s g i (Move.Relocks k) r good formed h leaves e = absurd leaves
 leaves-formed script s g i Move.Ends r good formed h leaves e = ended-formed script s g r formed e
 leaves-formed script s g i Move.Panics r good formed h leaves e = (goroutines-of script s formed).each g r e
 
@@ -313,6 +363,7 @@ starts_what script What.Timer h k = cc
 starts_what script What.Ticker h k = cc
 starts_what script What.Mutex h k = cc
 starts_what script What.Wg h k = cc
+starts_what script (What.Cond mutex) h k = cc
 starts_what script (What.AfterFunc f) h k = h
 starts_what script (What.Chan cap) h k = cc
 starts_what script What.Function h k = cc
@@ -336,7 +387,7 @@ pub length-mover : (script : Script) (gs : List Goroutine) (m : Option (ℕ × M
 length-mover script gs None = refl
 length-mover script gs (Some m) = length-change_numbered gs m.0 (moved script m.1)
 
--- two who make an entry add nobody
+-- two who make an entry, or of whom one signals the other, add nobody
 pub length-movers : (script : Script) (gs : List Goroutine) (m p : Option (ℕ × Move)) → length (with_mover script (with_mover script gs m) p) ≡ length gs
 length-movers script gs m p = length-mover script (with_mover script gs m) p ∙ length-mover script gs m
 
@@ -367,6 +418,10 @@ mover-formed script s m q k good formed (pairs from to c v sends gets chan none 
     changed_goroutines script s from.g (moved_on script from.case_no) formed (λ r e. operates-formed script s from (CaseKind.Send c v) r good formed sends e)
 mover-formed script s m q k good formed (wakes g h) =
     changed_goroutines script s g (moved_on script 0) formed (λ r e. woken-formed script s g (clock_of s g) r good formed h e)
+mover-formed script s m q k good formed (retakes g c relocks free) =
+    changed_goroutines script s g (moved_on script 0) formed (λ r e. relocked-formed script s g c r good formed relocks e)
+mover-formed script s m q k good formed (signals g c h does waits) =
+    changed_goroutines script s g (moved_on script 0) formed (λ r e. moved-formed script s g 0 (Instr.Signal c) r good formed does.stands refl e)
 mover-formed script s m q k good formed (panics p reason h) =
     changed_goroutines script s p.g (moved script Move.Panics) formed (λ r e. (goroutines-of script s formed).each p.g r e)
 mover-formed script s m q k good formed _ = goroutines-of script s formed
@@ -380,7 +435,17 @@ partner-formed script s m q k good formed (pairs from to c v sends gets chan non
       operates-formed script s to (CaseKind.Recv c) r good formed gets
       (sym (numbered-change_other s.goroutines from.g to.g (moved_on script from.case_no) (λ same. other (sym same))) ∙ e));
 }
+partner-formed script s m q k good formed (signals g c h does waits) all = record {
+  each = all_numbered-change (IsFormedGoroutine script) (with_mover script s.goroutines m) h (in_mode (Mode.Relocking c)) all.each
+      (λ r e.
+      relocks-formed script c r (all.each h r e)
+      (mode_is s h r (Mode.Suspended c) waits
+      (sym (numbered-change_other s.goroutines g h (moved_on script 0) (signals-other script s g h c (Instr.Signal c) does.stands waits)) ∙ e)));
+}
 partner-formed script s m q k good formed _ all = all
+
+broadcast-formed : (script : Script) (gs : List Goroutine) (o : Option ℕ) → AreGoroutines script gs → AreGoroutines script (with_signalled gs o)
+broadcast-formed script gs o all = record { each = all-signalled (IsFormedGoroutine script) gs o all.each (signalled-formed script) }
 
 starter-formed : (script : Script) (s : State) (x : Start) → IsGood script → IsFormed script s → Begins script x → IsFormedGoroutine script (started_by script s x)
 starter-formed script s (Start.ByGoroutine g f) good formed h = begun-formed script (world_of s g) f good (world_of-zero script s g formed) h
@@ -503,13 +568,16 @@ formed-after script s e good formed may =
     let who : Maker script s c.mover c.partner c.clock = maker script s e may in
     let movers : List Goroutine = with_mover script (with_mover script s.goroutines c.mover) c.partner in
     let same : length movers ≡ length s.goroutines = length-movers script s.goroutines c.mover c.partner in
-    let more : length (with_starts script s movers c.starts) ≡ length movers + length c.starts = length-starts script s movers c.starts in
+    let woken : List Goroutine = with_signalled movers c.broadcast in
+    let kept : length woken ≡ length movers = length-signalled movers c.broadcast in
+    let more : length (with_starts script s woken c.starts) ≡ length woken + length c.starts = length-starts script s woken c.starts in
     let counts : length c.starts ≤ c.counted = starts-few e in
     let few : length s.goroutines ≤ s.entries + 1 = formed.few in
     let moved_once : AreGoroutines script (with_mover script s.goroutines c.mover) = mover-formed script s c.mover c.partner c.clock good formed who in
     formed-parts script (after script s e)
     (clocks-formed script s c.mover c.partner c.clock formed who)
-    (starts-formed script s movers c.starts good formed (starts script s e good may) (partner-formed script s c.mover c.partner c.clock good formed who moved_once))
+    (starts-formed script s woken c.starts good formed (starts script s e good may)
+    (broadcast-formed script movers c.broadcast (partner-formed script s c.mover c.partner c.clock good formed who moved_once)))
     (omega arith)
     (timers-formed script s c.mover c.timer formed (sets script s e good may))
     (periods-entered script s e may formed.periods)

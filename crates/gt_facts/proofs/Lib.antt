@@ -1,6 +1,7 @@
 pub mod Histories
 pub mod Lookups
 pub mod Partners
+pub mod Suspended
 pub mod Makers
 pub mod Periods
 pub mod Counters

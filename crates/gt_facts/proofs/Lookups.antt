@@ -1,4 +1,4 @@
--- What holds of each item of a list holds of one, and an item of a numbered list has its number; a goroutine where it stands, what it names and wants there, and one that sleeps.
+-- What holds of each item of a list holds of one, and an item of a numbered list has its number; a goroutine where it stands, what it names and wants there, and its mode.
 use Rattle.std.proofs.Common.{◌≡◌, ℕ, zero, suc, ◌+◌, ◌-◌, arith, subst, sym, List, [], ◌∷◌, refl, ap, slice_get, None, Some, option_map, Bool, true, false, eqb-true, ◌||◌, IsSomeAnd, IsTrue, ◌∙◌, Option}
 use Rattle.std.specs.List.{All, list_any, list_all, enumerate_from}
 use Rattle.std.proofs.lemmas.Bool.{and_parts, or_left, or_right}
@@ -7,7 +7,7 @@ use Rattle.gt_model.specs.declared.script.Instr.{Instr}
 use Rattle.gt_model.specs.declared.state.Goroutine.{Goroutine}
 use Rattle.gt_model.specs.declared.state.Mode.{Mode}
 use Rattle.gt_model.specs.Tables.{numbered}
-use Rattle.gt_rules.specs.State.{State, goroutine_at, stands, stands_at, until_of, sleeps_until}
+use Rattle.gt_rules.specs.State.{State, goroutine_at, mode_of, stands, stands_at, until_of, sleeps_until}
 use Rattle.gt_model.specs.Script.{instr_at, is_chan, is_mutex, is_wg, what_at, names_timer, names_chan, names_mutex, names_wg}
 use Rattle.gt_model.specs.declared.script.What.{What}
 use Rattle.gt_model.specs.declared.script.Func.{Func}
@@ -336,9 +336,34 @@ sleeper s g P h =
           elim r.mode as (λ mode. r.mode ≡ mode → IsSomeAnd (until_of mode) P → Asleep s g) [
             | Mode.At ↦ λ q l. absurd l
             | Mode.Sleeping until ↦ λ q l. record { who = r; there = e; until = until; sleeps = q }
+            | Mode.Suspended k ↦ λ q l. absurd l
+            | Mode.Relocking k ↦ λ q l. absurd l
             | Mode.Ended ↦ λ q l. absurd l
           ] refl k
     ] refl h
+
+-- a goroutine that is in a mode
+pub record InMode (s : State) (g : ℕ) (mode : Mode) : Type 0 where
+  pub who : Goroutine
+  pub there : goroutine_at s g ≡ Some who
+  pub its : who.mode ≡ mode
+
+pub in-mode : (s : State) (g : ℕ) (mode : Mode) → mode_of s g ≡ Some mode → InMode s g mode
+in-mode s g mode e =
+    elim (goroutine_at s g) as (λ o. goroutine_at s g ≡ o → option_map (λ (r : Goroutine). r.mode) o ≡ Some mode → InMode s g mode) [
+      | None ↦ λ there h. cc
+      | Some r ↦ λ there h. record { who = r; there = there; its = cc }
+    ] refl e
+
+pub mode_is : (s : State) (g : ℕ) (r : Goroutine) (mode : Mode) → mode_of s g ≡ Some mode → goroutine_at s g ≡ Some r → r.mode ≡ mode
+mode_is s g r mode h e =
+    let a : InMode s g mode = in-mode s g mode h in
+    let there : goroutine_at s g ≡ Some a.who = a.there in
+    let same : a.who ≡ r = cc in
+    subst (λ (q : Goroutine). q.mode ≡ mode) same a.its
+
+pub mode_there : (s : State) (g : ℕ) (r : Goroutine) (mode : Mode) → goroutine_at s g ≡ Some r → r.mode ≡ mode → mode_of s g ≡ Some mode
+mode_there s g r mode e its = ap (option_map (λ (r : Goroutine). r.mode)) e ∙ ap Some its
 
 -- a party that stands at an operation: its instruction has it under the party's case number
 pub record AtOperation (script : Script) (s : State) (p : Party) (kind : CaseKind) : Type 0 where

@@ -9,15 +9,16 @@ use Rattle.gt_model.specs.declared.script.Instr.{Instr}
 use Rattle.gt_model.specs.declared.entry.Entry.{Entry}
 use Rattle.gt_model.specs.declared.entry.Party.{Party}
 use Rattle.gt_model.specs.declared.entry.Reason.{Reason}
+use Rattle.gt_model.specs.declared.state.Mode.{Mode}
 use Rattle.gt_model.specs.declared.state.Timer.{Timer}
 use Rattle.gt_model.specs.Times.{greatest_time}
 use Rattle.gt_model.specs.declared.script.Case.{Case}
 use Rattle.gt_model.specs.declared.script.CaseKind.{CaseKind}
 use Rattle.gt_model.specs.declared.script.What.{What}
-use Rattle.gt_model.specs.Script.{what_at, names_timer, names_chan, names_mutex, names_wg, is_func, is_timer, is_chan, capacity_of, is_ticker}
+use Rattle.gt_model.specs.Script.{what_at, names_timer, names_chan, names_mutex, names_wg, is_func, is_timer, is_chan, mutex_of, capacity_of, is_ticker}
 use Rattle.gt_model.specs.Good.{IsGood, is_finish, is_setting}
 use Rattle.gt_model.proofs.Declared.{timer_setting, func_setting}
-use Rattle.gt_rules.specs.State.{is_locked, counter_of, State, Channel, goroutine_at, stands, world_of, clock, clock_of, sleeps_until, next_number, timer_at, due_of, period_at, channel_at, items_of, item_count, is_closed, is_open}
+use Rattle.gt_rules.specs.State.{is_locked, counter_of, mode_of, suspended_count, State, Channel, goroutine_at, stands, world_of, clock, clock_of, sleeps_until, next_number, timer_at, due_of, period_at, channel_at, items_of, item_count, is_closed, is_open}
 use Rattle.gt_rules.specs.Panics.{panic_of, fault, fault_at, fault_case, case_fault, choice_fault, when, or_else, open_fault, zero_ticker}
 use Rattle.gt_rules.specs.Ready.{is_due, is_ready_instr, is_ready_case, is_ready_alone, is_ready_recv, has_partner, partner_waits, has_come, everyone}
 use Rattle.gt_rules.specs.Operations.{operation, polls, receives_from, sends_to}
@@ -30,6 +31,7 @@ use Rattle.gt_rules.specs.Legal.{May, MayPanic, ChoosesClosed, Does, Operates, o
 use Rattle.gt_rules.specs.Finish.{IsIdle}
 use Rattle.gt_facts.proofs.Lookups.{locks-Operates, waits-Operates, names-Does, names-Operates, operates-Does, does-Operates, AtOperation, at_operation, HasAny, any-has, IsCase, is-case, ReceivesFrom, receives-recv, SendsTo, sends-send}
 use Rattle.gt_facts.proofs.Partners.{Partner, partner}
+use Rattle.gt_facts.proofs.Suspended.{Waiter, waiter}
 
 -- ---- times
 
@@ -42,10 +44,12 @@ sleep_end-time now (suc d) = due_at-time now (suc d)
 
 -- ---- who makes an entry
 
--- a goroutine moves on from its instruction so: an end has nothing behind it, and a sleep has a time
+-- a goroutine moves on from its instruction so: an end has nothing behind it, a sleep has a time, and who waits at a Cond is signalled by another one
 abbrev pub Leaves : Instr → Move → Type 0
 Leaves i (Move.GoesOn case_no) = is_finish i ≡ false
 Leaves i (Move.FallsAsleep until) = (is_finish i ≡ false) × (until ≤ greatest_time)
+Leaves i (Move.Suspends k) = i ≡ Instr.CWait k
+Leaves i (Move.Relocks k) = ⊥
 Leaves i Move.Ends = Unit {0}
 Leaves i Move.Panics = Unit {0}
 
@@ -67,6 +71,10 @@ pub data Maker (script : Script) (s : State) : Option (ℕ × Move) → Option (
   -- the program's clock, and a misuse
   ticks : (to : ℕ) → clock s 0 < to → to ≤ greatest_time → Maker script s None None (Some (0, to))
   panics : (p : Party) (reason : Reason) → MayPanic script s p reason → Maker script s (Some (p.g, Move.Panics)) None None
+  -- who was signalled at a Cond the mutex of which is free, and who signals another one
+  retakes : (g k : ℕ) → mode_of s g ≡ Some (Mode.Relocking k) → is_locked s (mutex_of script k) ≡ false → Maker script s (Some (g, Move.GoesOn 0)) None None
+  signals : (g k h : ℕ) → Does script s g (Instr.Signal k) → mode_of s h ≡ Some (Mode.Suspended k)
+      → Maker script s (Some (g, Move.GoesOn 0)) (Some (h, Move.Relocks k)) None
 
 asleep-leaves : (d : ℕ) (until : Option ℕ) → IfSome until (λ u. u ≤ greatest_time) → Leaves (Instr.Sleep d) (sleeps until)
 asleep-leaves d None time = refl
@@ -84,6 +92,7 @@ chan-ready s c v What.Ticker h gives timed = cc
 chan-ready s c v (What.AfterFunc func) h gives timed = cc
 chan-ready s c v What.Mutex h gives timed = cc
 chan-ready s c v What.Wg h gives timed = cc
+chan-ready s c v (What.Cond mutex) h gives timed = cc
 chan-ready s c v What.Function h gives timed = cc
 
 -- what is received from a channel makes the receive ready by itself
@@ -128,6 +137,11 @@ maker script s (Entry.Lock g m) may =
     calls g (Instr.Lock m) (Move.GoesOn 0) may.0
     (λ timed counts me. or_left (is_ready_alone script s timed (CaseKind.Recv m)) _ (free-ready s m (what_at script m) may.1 may.2 timed)) refl
 maker script s (Entry.Unlock g m) may = calls g (Instr.Unlock m) (Move.GoesOn 0) may (λ timed counts me. refl) refl
+maker script s (Entry.CondWait g k) may = calls g (Instr.CWait k) (Move.Suspends k) may (λ timed counts me. refl) refl
+maker script s (Entry.CondWake g k) may = retakes g k may.0 may.1
+maker script s (Entry.Signal g k None) may = calls g (Instr.Signal k) (Move.GoesOn 0) may.0 (λ timed counts me. refl) refl
+maker script s (Entry.Signal g k (Some h)) may = signals g k h may.0 may.1
+maker script s (Entry.Broadcast g k count) may = calls g (Instr.Broadcast k) (Move.GoesOn 0) may.0 (λ timed counts me. refl) refl
 maker script s (Entry.Add g w n) may = calls g (Instr.Add w n) (Move.GoesOn 0) may (λ timed counts me. refl) refl
 maker script s (Entry.WgWait g w) may =
     calls g (Instr.Wait w) (Move.GoesOn 0) may.0
@@ -363,6 +377,7 @@ gives-not script s p w o What.Mutex good idle now gets is ready =
 gives-not script s p w o What.Wg good idle now gets is ready =
     let waits = waits-Operates script s p o good gets (ap names_wg is) in
     idle (Entry.WgWait p.g o) (waits.0, ap names_wg is, eqb-true (counter_of s o) 0 ready)
+gives-not script s p w o (What.Cond mutex) good idle now gets is ready = cc
 gives-not script s p w o What.Function good idle now gets is ready = cc
 
 recv-not : (script : Script) (s : State) (p : Party) (w o : ℕ) → IsGood script → IsIdle script s → clock_of s p.g ≡ clock s w → Operates script s p (CaseKind.Recv o)
@@ -517,6 +532,11 @@ default-not script s g cases (Some to) good idle does h =
           (ap (option_map (λ (c : Case). c.kind)) (slice_get-get_or cases k d below)) does));
     })
 
+-- who signals wakes somebody where one waits, and nobody where nobody does
+signal-not : (script : Script) (s : State) (g k n : ℕ) → IsIdle script s → Does script s g (Instr.Signal k) → suspended_count s k ≡ n → ⊥
+signal-not script s g k zero idle does count = idle (Entry.Signal g k None) (does, count)
+signal-not script s g k (suc n) idle does count = let one : Waiter s k = waiter s k n count in idle (Entry.Signal g k (Some one.number)) (does, one.waits)
+
 -- who stands at an instruction that is ready, and makes no misuse, has an entry: the program is not idle
 pub idle-not : (script : Script) (s : State) (g w : ℕ) (i : Instr) → IsGood script → IsIdle script s → clock_of s g ≡ clock s w → Does script s g i
     → is_ready_instr script s (has_come s w) everyone g i ≡ true → ⊥
@@ -535,6 +555,9 @@ idle-not script s g w (Instr.Send c v) good idle now does ready =
 idle-not script s g w (Instr.Close c) good idle now does ready = idle (Entry.Close g c) does
 idle-not script s g w (Instr.Lock m) good idle now does ready = plain-not script s g w (Instr.Lock m) (CaseKind.Recv m) good idle now does refl ready
 idle-not script s g w (Instr.Unlock m) good idle now does ready = idle (Entry.Unlock g m) does
+idle-not script s g w (Instr.CWait k) good idle now does ready = idle (Entry.CondWait g k) does
+idle-not script s g w (Instr.Signal k) good idle now does ready = signal-not script s g k (suspended_count s k) idle does refl
+idle-not script s g w (Instr.Broadcast k) good idle now does ready = idle (Entry.Broadcast g k (suspended_count s k)) (does, refl)
 idle-not script s g w (Instr.Add k n) good idle now does ready = idle (Entry.Add g k n) does
 idle-not script s g w (Instr.Wait k) good idle now does ready = plain-not script s g w (Instr.Wait k) (CaseKind.Recv k) good idle now does refl ready
 idle-not script s g w Instr.Finish good idle now does ready = idle (Entry.End g) does

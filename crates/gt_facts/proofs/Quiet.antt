@@ -118,6 +118,7 @@ recv_not s timed t (Some (What.AfterFunc func)) later h = refl
 recv_not s timed t (Some (What.Chan cap)) later h = h
 recv_not s timed t (Some What.Mutex) later h = h
 recv_not s timed t (Some What.Wg) later h = h
+recv_not s timed t (Some (What.Cond mutex)) later h = refl
 recv_not s timed t (Some What.Function) later h = refl
 
 -- so it is with each operation of who stands there
@@ -180,6 +181,8 @@ not_ready script s g r quiet e Mode.At at =
     ] refl
     (subst (λ (m : Mode). is_firm_in script s everyone g r m ≡ false) at (not_firm script s g r quiet e))
 not_ready script s g r quiet e (Mode.Sleeping until) at = sleeps_on script s g until r quiet e at
+not_ready script s g r quiet e (Mode.Suspended k) at = refl
+not_ready script s g r quiet e (Mode.Relocking k) at = subst (λ (m : Mode). is_firm_in script s everyone g r m ≡ false) at (not_firm script s g r quiet e)
 not_ready script s g r quiet e Mode.Ended at = refl
 
 func_not : (script : Script) (s : State) (t : ℕ) (r : Timer) → IsQuiet script s → timer_at s t ≡ Some r → IsTrue (is_func script t) → is_due r.due (clock s r.world) ≡ false

@@ -1,5 +1,5 @@
 -- A program is idle exactly where it stands still: who is ready has an entry that may come next, and who is not has none.
-use Rattle.std.proofs.Common.{◌≡◌, ℕ, zero, suc, ◌≤◌, refl, sym, ap, subst, ◌∙◌, Option, None, Some, Bool, true, false, ◌||◌, ◌==◌, ◌≢◌, is_some, IsTrue, IsSomeAnd, MatchOption}
+use Rattle.std.proofs.Common.{◌≡◌, ℕ, zero, suc, ◌≤◌, refl, sym, ap, subst, ◌∙◌, Option, None, Some, Bool, true, false, not, ◌||◌, ◌==◌, ◌≢◌, is_some, IsTrue, IsSomeAnd, MatchOption}
 use Rattle.std.specs.Option.{option_map}
 use Rattle.std.proofs.lemmas.Bool.{leb-true, le-leb, eq-eqb, and_from}
 pub use Rattle.std.proofs.lemmas.Bool.{or_left, or_right}
@@ -11,10 +11,10 @@ use Rattle.gt_model.specs.declared.entry.Reason.{Reason}
 use Rattle.gt_model.specs.declared.state.Goroutine.{Goroutine}
 use Rattle.gt_model.specs.declared.state.Timer.{Timer}
 use Rattle.gt_model.specs.declared.state.Mode.{Mode}
-use Rattle.gt_rules.specs.State.{State, goroutine_at, stands, stands_at, until_of, sleeps_until, clock, clock_of, world_of, next_number, timer_at, due_of, is_closed}
+use Rattle.gt_rules.specs.State.{State, goroutine_at, stands, stands_at, until_of, sleeps_until, clock, clock_of, world_of, mode_of, next_number, timer_at, due_of, is_closed, is_locked}
 use Rattle.gt_model.specs.declared.script.CaseKind.{CaseKind}
 use Rattle.gt_model.specs.declared.script.What.{What}
-use Rattle.gt_model.specs.Script.{instr_at, what_at, names_timer, is_func, is_timer, capacity_of}
+use Rattle.gt_model.specs.Script.{instr_at, what_at, names_timer, is_func, is_timer, mutex_of, capacity_of}
 use Rattle.gt_rules.specs.Panics.{fault, fault_at, fault_case, panic_of, panic_at}
 use Rattle.gt_rules.specs.Operations.{operation, polls, receives_from}
 use Rattle.gt_rules.specs.Ready.{is_due, is_ready, is_ready_in, is_ready_at, is_ready_instr, is_ready_case, is_ready_alone, is_ready_recv, has_partner, partner_waits, has_come, everyone}
@@ -24,9 +24,9 @@ use Rattle.gt_rules.specs.Change.{change_of}
 use Rattle.gt_rules.specs.Legal.{May, MayPanic, ChoosesClosed, Does, Operates, operation_at}
 use Rattle.gt_rules.specs.Finish.{IsIdle, IsProgramClock}
 use Rattle.gt_facts.specs.Still.{IsStill}
-use Rattle.gt_facts.proofs.Lookups.{Standing, standing, AtOperation, at_operation, operates-Does, operation-any, offers-operation, Asleep, sleeper}
+use Rattle.gt_facts.proofs.Lookups.{Standing, standing, AtOperation, at_operation, operates-Does, operation-any, offers-operation, Asleep, sleeper, InMode, in-mode, mode_there}
 use Rattle.gt_facts.proofs.Partners.{Partner, partner-waits}
-use Rattle.gt_facts.proofs.Makers.{Maker, calls, receives, trades, pairs, wakes, fires, ticks, panics, maker, idle-not}
+use Rattle.gt_facts.proofs.Makers.{Maker, calls, receives, trades, pairs, wakes, fires, ticks, panics, retakes, signals, maker, idle-not}
 
 -- ---- a still program is idle
 
@@ -69,6 +69,13 @@ wakes_not script s g still h =
     subst (λ (m : Mode). is_ready_in script s g a.who m ≡ true) (sym a.sleeps) (le-leb a.until (clock s a.who.world) here) in
     true_false (is_ready script s g a.who) ready (still.nobody_ready g a.who a.there)
 
+-- who was signalled at a Cond goes on where its mutex is free
+retakes_not : (script : Script) (s : State) (g k : ℕ) → IsStill script s → mode_of s g ≡ Some (Mode.Relocking k) → is_locked s (mutex_of script k) ≡ false → ⊥
+retakes_not script s g k still relocks free =
+    let a : InMode s g (Mode.Relocking k) = in-mode s g (Mode.Relocking k) relocks in
+    let ready : is_ready script s g a.who ≡ true = subst (λ (m : Mode). is_ready_in script s g a.who m ≡ true) (sym a.its) (ap not free) in
+    true_false (is_ready script s g a.who) ready (still.nobody_ready g a.who a.there)
+
 -- the receive of a timer is ready where its time has come
 timer-ready : (s : State) (timed : ℕ → Bool) (t : ℕ) (o : Option What) → IsTrue (names_timer o) → timed t ≡ true → is_ready_recv s timed t o ≡ true
 timer-ready s timed t (Some What.Timer) timer come = come
@@ -77,6 +84,7 @@ timer-ready s timed t (Some (What.AfterFunc func)) timer come = cc
 timer-ready s timed t (Some (What.Chan cap)) timer come = cc
 timer-ready s timed t (Some What.Mutex) timer come = cc
 timer-ready s timed t (Some What.Wg) timer come = cc
+timer-ready s timed t (Some (What.Cond mutex)) timer come = cc
 timer-ready s timed t (Some What.Function) timer come = cc
 timer-ready s timed t None timer come = cc
 
@@ -212,6 +220,8 @@ clock-Maker script s m q k still (wakes g h) = absurd (wakes_not script s g stil
 clock-Maker script s m q k still (fires t func h) = absurd (fires_not script s t still func h)
 clock-Maker script s m q k still (ticks to up most) = refl
 clock-Maker script s m q k still (panics p reason h) = absurd (may-panic_not script s p reason still h)
+clock-Maker script s m q k still (retakes g c relocks free) = absurd (retakes_not script s g c still relocks free)
+clock-Maker script s m q k still (signals g c h does waits) = absurd (goes_not script s g (Instr.Signal c) still does (λ w. refl))
 
 moves-clock : (script : Script) (s : State) (e : Entry) → May script s e → is_some (change_of e).clock ≡ true → IsProgramClock e
 moves-clock script s (Entry.Clock zero to) may h = tt
@@ -268,6 +278,12 @@ ready_not script s g r good idle e (Mode.Sleeping until) at ready =
     let come : until ≤ clock_of s g = subst (λ now. until ≤ now) (sym now) (leb-true until (clock s r.world) ready) in
     let sleeps : sleeps_until s g ≡ Some until = until_there s g r e ∙ ap until_of at in
     idle (Entry.Wake g) (subst (λ (o : Option ℕ). IsSomeAnd o (λ until. until ≤ clock_of s g)) (sym sleeps) come)
+ready_not script s g r good idle e (Mode.Suspended k) at ready = cc
+ready_not script s g r good idle e (Mode.Relocking k) at ready = idle (Entry.CondWake g k) (mode_there s g r (Mode.Relocking k) e at, free_is (is_locked s (mutex_of script k)) ready)
+  where
+    free_is : (b : Bool) → not b ≡ true → b ≡ false
+    free_is true h = cc
+    free_is false h = refl
 ready_not script s g r good idle e Mode.Ended at ready = cc
 
 func_not : (script : Script) (s : State) (t : ℕ) (r : Timer) → IsIdle script s → timer_at s t ≡ Some r → IsTrue (is_func script t) → is_due r.due (clock s r.world) ≡ true → ⊥

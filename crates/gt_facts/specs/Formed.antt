@@ -8,9 +8,9 @@ use Rattle.gt_model.specs.declared.state.Goroutine.{Goroutine}
 use Rattle.gt_model.specs.declared.state.Timer.{Timer}
 use Rattle.gt_model.specs.declared.state.Mode.{Mode}
 use Rattle.gt_model.specs.Times.{greatest_time}
-use Rattle.gt_rules.specs.State.{State, Channel, clock, goroutine_at, timer_at, channel_at, counter_of, until_of}
+use Rattle.gt_rules.specs.State.{State, Channel, clock, goroutine_at, timer_at, channel_at, counter_of, until_of, suspended_at, relocking_at}
 use Rattle.gt_model.specs.Good.{most_added}
-use Rattle.gt_model.specs.Script.{code_of, is_ticker, is_chan, capacity_of}
+use Rattle.gt_model.specs.Script.{code_of, is_ticker, is_chan, is_cond, capacity_of}
 use Rattle.gt_rules.specs.Places.{silent_at}
 use Rattle.gt_facts.specs.Quiet.{IsOneWorld}
 
@@ -19,10 +19,12 @@ pub record IsOnWay (code : List Instr) (at : ℕ) : Type 0 where
   pub within : at < length code
   pub entered : (i depth past : ℕ) → slice_get code i ≡ Some (Instr.LoopTop depth 0 past) → i < at → at < past → ⊥
 
--- a place in a code: a goroutine stands at an instruction that makes an entry, and a sleeper goes on behind it
+-- a place in a code: a goroutine stands at an instruction that makes an entry, and who sleeps or waits at a Cond goes on behind it
 abbrev pub IsPlacedIn : List Instr → Place → Mode → Type 0
 IsPlacedIn code p Mode.At = IsOnWay code p.at × (silent_at code p ≡ None)
 IsPlacedIn code p (Mode.Sleeping until) = IsOnWay code p.at × IsOnWay code (p.at + 1)
+IsPlacedIn code p (Mode.Suspended k) = IsOnWay code p.at × IsOnWay code (p.at + 1)
+IsPlacedIn code p (Mode.Relocking k) = IsOnWay code p.at × IsOnWay code (p.at + 1)
 IsPlacedIn code p Mode.Ended = IsOnWay code p.at
 
 abbrev pub IsPlaced : Script → Goroutine → Type 0
@@ -47,6 +49,8 @@ pub record IsFormed (script : Script) (s : State) : Type 0 where
   -- each goroutine stands in its code, and sleeps until a time
   pub placed : (g : ℕ) (r : Goroutine) → goroutine_at s g ≡ Some r → IsPlaced script r
   pub untils : (g : ℕ) (r : Goroutine) → goroutine_at s g ≡ Some r → IfSome (until_of r.mode) (λ until. until ≤ greatest_time)
+  -- who waits at a Cond waits at what is declared as one
+  pub conds : (g : ℕ) (r : Goroutine) → goroutine_at s g ≡ Some r → IfSome (suspended_at r.mode) (λ k. IsTrue (is_cond script k)) × IfSome (relocking_at r.mode) (λ k. IsTrue (is_cond script k))
   -- an entry makes one goroutine at most
   pub few : length s.goroutines ≤ s.entries + 1
   -- there is a timer or none for each declaration, and it is due at a time
@@ -56,7 +60,7 @@ pub record IsFormed (script : Script) (s : State) : Type 0 where
   pub periods : (t : ℕ) (r : Timer) → timer_at s t ≡ Some r → IsPeriod (is_ticker script t) r.period
   -- there is a channel or none for each declaration
   pub channels : length s.channels ≡ length script.decls
-  -- there is what is kept of mutexes and WaitGroups for each declaration
+  -- there is what is kept of mutexes, WaitGroups and Conds for each declaration
   pub syncs : length s.syncs ≡ length script.decls
   -- each entry has added a million to a counter at most
   pub counters : (w : ℕ) → counter_of s w ≤ most_added * s.entries

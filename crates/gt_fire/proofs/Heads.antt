@@ -38,6 +38,7 @@ what-func What.Ticker h = cc
 what-func (What.AfterFunc f) h = refl
 what-func What.Mutex h = cc
 what-func What.Wg h = cc
+what-func (What.Cond mutex) h = cc
 what-func What.Function h = cc
 what-func (What.Chan cap) h = cc
 
@@ -55,6 +56,7 @@ what-no_sleep What.Ticker h = cc
 what-no_sleep (What.AfterFunc f) h = cc
 what-no_sleep What.Mutex h = cc
 what-no_sleep What.Wg h = cc
+what-no_sleep (What.Cond mutex) h = cc
 what-no_sleep What.Function h = cc
 what-no_sleep (What.Chan cap) h = cc
 
@@ -77,6 +79,7 @@ what-no_deadline What.Ticker h = cc
 what-no_deadline (What.AfterFunc f) h = cc
 what-no_deadline What.Mutex h = cc
 what-no_deadline What.Wg h = cc
+what-no_deadline (What.Cond mutex) h = cc
 what-no_deadline What.Function h = cc
 what-no_deadline (What.Chan cap) h = cc
 

@@ -13,10 +13,10 @@ use Rattle.gt_model.specs.declared.script.What.{What}
 use Rattle.gt_model.specs.declared.script.Instr.{Instr}
 use Rattle.gt_model.specs.declared.script.Case.{Case}
 use Rattle.gt_model.specs.declared.script.CaseKind.{CaseKind}
-use Rattle.gt_model.specs.Script.{what_at, names_timer, names_func, names_chan, names_mutex, names_wg, is_chan as model_is_chan, is_timer as model_is_timer, is_mutex as model_is_mutex, is_wg as model_is_wg}
+use Rattle.gt_model.specs.Script.{what_at, names_timer, names_func, names_chan, names_mutex, names_wg, names_cond, is_chan as model_is_chan, is_timer as model_is_timer, is_mutex as model_is_mutex, is_wg as model_is_wg, is_cond as model_is_cond}
 use Rattle.gt_model.specs.Good.{is_setting as model_is_setting, gives_values as model_gives_values, awaits_timer as model_awaits, OperatesRightly, IsGoodChoice, is_finish, is_line, NamesRightly, DeclaresRightly, IsGoodInstr, IsGoodCode, IsGood, function_name}
 use Rattle.gt_table.specs.declared.form.Kind.{Kind}
-use Rattle.gt_table.specs.Forms.{is_kind_function, is_kind_setting, is_kind_timer, is_kind_chan, is_kind_source, is_kind_mutex, is_kind_wg}
+use Rattle.gt_table.specs.Forms.{is_kind_function, is_kind_setting, is_kind_timer, is_kind_chan, is_kind_source, is_kind_mutex, is_kind_wg, is_kind_cond}
 use Rattle.gt_names.specs.declared.names.Declared.{Declared}
 use Rattle.gt_names.specs.Names.{Names, find}
 use Rattle.gt_grammar.specs.declared.progress.OpenBlock.{OpenBlock}
@@ -84,6 +84,9 @@ names-mutex names script known m p = names-object names script known is_kind_mut
 names-wg : (names : Names) (script : Script) → AllKnown names script → (w : ℕ) → IsPlace names is_kind_wg w → model_is_wg script w ≡ true
 names-wg names script known w p = names-object names script known is_kind_wg names_wg (λ what. (is_of_kind what).wg) w p
 
+names-cond : (names : Names) (script : Script) → AllKnown names script → (k : ℕ) → IsPlace names is_kind_cond k → model_is_cond script k ≡ true
+names-cond names script known k p = names-object names script known is_kind_cond names_cond (λ what. (is_of_kind what).condition) k p
+
 -- what stands last is of each instruction that sets a timer
 names_rightly-by : (names : Names) (script : Script) → AllKnown names script → (i : Instr) → Refers names i → NamesRightly script i
 names_rightly-by names script known (Instr.Sleep d) r = r
@@ -97,6 +100,9 @@ names_rightly-by names script known (Instr.Lock m) r = names-mutex names script 
 names_rightly-by names script known (Instr.Unlock m) r = names-mutex names script known m r
 names_rightly-by names script known (Instr.Add w n) r = (names-wg names script known w r.0, r.1)
 names_rightly-by names script known (Instr.Wait w) r = names-wg names script known w r
+names_rightly-by names script known (Instr.CWait k) r = names-cond names script known k r
+names_rightly-by names script known (Instr.Signal k) r = names-cond names script known k r
+names_rightly-by names script known (Instr.Broadcast k) r = names-cond names script known k r
 names_rightly-by names script known (Instr.LoopTop depth count past) r = absurd r
 names_rightly-by names script known (Instr.LoopEnd depth top) r = absurd r
 names_rightly-by names script known (Instr.Select cases default_to) r = absurd r
@@ -334,6 +340,7 @@ funcs-good names script known (closes ∷ rest) inside (inner ∷ outer) n f k r
 declares-by : (names : Names) (script : Script) → AllKnown names script → (what : What) → Starts names what → DeclaresRightly script what
 declares-by names script known (What.AfterFunc f) s = omega (arith, s.2, func-within script s.0.name s.0.declared (known s.0.name s.0.declared s.0.known) s.1)
 declares-by names script known (What.Chan cap) s = s
+declares-by names script known (What.Cond mutex) s = names-mutex names script known mutex s
 declares-by names script known What.Function s = absurd s
 declares-by names script known _ s = tt
 

@@ -15,7 +15,7 @@ use Rattle.gt_table.specs.declared.form.Kind.{Kind}
 use Rattle.gt_table.specs.declared.form.Role.{Role}
 use Rattle.gt_table.specs.declared.form.Step.{Step}
 use Rattle.gt_table.specs.declared.table.Keyword.{Keyword}
-use Rattle.gt_table.specs.Forms.{is_kind_function, is_kind_setting, is_kind_chan, is_kind_source, is_kind_mutex, is_kind_wg}
+use Rattle.gt_table.specs.Forms.{is_kind_function, is_kind_setting, is_kind_chan, is_kind_source, is_kind_mutex, is_kind_wg, is_kind_cond}
 use Rattle.gt_table.specs.Table.{form_of, step_of}
 use Rattle.gt_names.specs.declared.names.Declared.{Declared}
 use Rattle.gt_names.specs.Names.{Names, is_free_name}
@@ -81,6 +81,9 @@ mutex-at names q v h = place-by names is_kind_mutex q v (names q) refl h
 
 wg-at : (names : Names) (q : List ℕ) (v : ℕ) → value_of names Arg.WaitGroup q ≡ Some v → IsPlace names is_kind_wg v
 wg-at names q v h = place-by names is_kind_wg q v (names q) refl h
+
+cond-at : (names : Names) (q : List ℕ) (v : ℕ) → value_of names Arg.Cond q ≡ Some v → IsPlace names is_kind_cond v
+cond-at names q v h = place-by names is_kind_cond q v (names q) refl h
 
 function-by : (names : Names) (q : List ℕ) (v : ℕ) (o : Option Declared) → names q ≡ o → option_and_then function_place o ≡ Some v → (r : Ref names) × (is_kind_function r.declared.kind ≡ true) × (v ≡ r.declared.func)
 function-by names q v None e h = cc
@@ -168,6 +171,7 @@ fits names Keyword.AfterFunc w u a b first second = (refl, refl, function-by nam
 fits names Keyword.Chan w u a b first second = (refl, refl, number-most most_capacity u b second)
 fits names Keyword.Mutex w u a b first second = (refl, refl, tt)
 fits names Keyword.Wg w u a b first second = (refl, refl, tt)
+fits names Keyword.Cond w u a b first second = (refl, refl, mutex-at names u b second)
 fits names Keyword.Func w u a b first second = (refl, refl, refl)
 fits names Keyword.Loop w u a b first second = (refl, refl, number-most 1000000 w a first)
 fits names Keyword.CaseRecv w u a b first second = ticks-by names w a (names w) refl first
@@ -184,6 +188,9 @@ fits names Keyword.Unlock w u a b first second = mutex-at names w a first
 fits names Keyword.Add w u a b first second = (wg-at names w a first, addable b (added-most u b second))
 fits names Keyword.Done w u a b first second = (wg-at names w a first, omega arith)
 fits names Keyword.Wait w u a b first second = wg-at names w a first
+fits names Keyword.CWait w u a b first second = cond-at names w a first
+fits names Keyword.Signal w u a b first second = cond-at names w a first
+fits names Keyword.Broadcast w u a b first second = cond-at names w a first
 fits names Keyword.New w u a b first second = (setting-at names w a first, duration-value u b second)
 fits names Keyword.Reset w u a b first second = (setting-at names w a first, duration-value u b second)
 fits names _ w u a b first second = tt

@@ -2,11 +2,11 @@
 use Rattle.std.proofs.Common.{◌≡◌, ℕ, Bool, false, cond, ◌||◌, Option, Some, None, refl, sym, ap, ◌∙◌}
 use Rattle.std.specs.Option.{option_map}
 use Rattle.gt_model.specs.declared.script.What.{What}
-use Rattle.gt_model.specs.Script.{names_timer, names_func, names_chan, names_mutex, names_wg}
+use Rattle.gt_model.specs.Script.{names_timer, names_func, names_chan, names_mutex, names_wg, names_cond}
 use Rattle.gt_model.specs.Good.{is_function}
 use Rattle.gt_lines.specs.Words.{next}
 use Rattle.gt_table.specs.declared.form.Kind.{Kind}
-use Rattle.gt_table.specs.Forms.{is_kind_function, is_kind_setting, is_kind_timer, is_kind_chan, is_kind_source, is_kind_mutex, is_kind_wg}
+use Rattle.gt_table.specs.Forms.{is_kind_function, is_kind_setting, is_kind_timer, is_kind_chan, is_kind_source, is_kind_mutex, is_kind_wg, is_kind_cond}
 use Rattle.gt_names.specs.Names.{Names, functions_with}
 use Rattle.gt_grammar.proofs.Rightly.{kind_in, Starts}
 
@@ -18,13 +18,14 @@ pub record IsOfKind (what : What) : Type 0 where
   pub chan : names_chan (Some what) ≡ is_kind_chan (kind_in what)
   pub mutex : names_mutex (Some what) ≡ is_kind_mutex (kind_in what)
   pub wg : names_wg (Some what) ≡ is_kind_wg (kind_in what)
+  pub condition : names_cond (Some what) ≡ is_kind_cond (kind_in what)
   pub function : is_function what ≡ is_kind_function (kind_in what)
   pub functions : (f : ℕ) → functions_with (kind_in what) f ≡ cond (is_function what) (next f) f
 
 -- the first clause makes the second one stand for each other kind alone
 pub is_of_kind : (what : What) → IsOfKind what
-is_of_kind What.Timer = record { setting = refl; source = refl; timer = refl; chan = refl; mutex = refl; wg = refl; function = refl; functions = λ f. refl }
-is_of_kind _ = record { setting = refl; source = refl; timer = refl; chan = refl; mutex = refl; wg = refl; function = refl; functions = λ f. refl }
+is_of_kind What.Timer = record { setting = refl; source = refl; timer = refl; chan = refl; mutex = refl; wg = refl; condition = refl; function = refl; functions = λ f. refl }
+is_of_kind _ = record { setting = refl; source = refl; timer = refl; chan = refl; mutex = refl; wg = refl; condition = refl; function = refl; functions = λ f. refl }
 
 -- what a line declares that opens nothing is no function
 pub no_function : (names : Names) (what : What) → Starts names what → is_function what ≡ false

@@ -6,7 +6,7 @@ use Rattle.gt_model.specs.declared.script.CaseKind.{CaseKind}
 use Rattle.gt_model.specs.Good.{most_capacity, IsAddable}
 use Rattle.gt_model.specs.Times.{greatest_time}
 use Rattle.gt_table.specs.declared.form.Kind.{Kind}
-use Rattle.gt_table.specs.Forms.{is_kind_function, is_kind_setting, is_kind_timer, is_kind_chan, is_kind_source, is_kind_mutex, is_kind_wg}
+use Rattle.gt_table.specs.Forms.{is_kind_function, is_kind_setting, is_kind_timer, is_kind_chan, is_kind_source, is_kind_mutex, is_kind_wg, is_kind_cond}
 use Rattle.gt_names.specs.declared.names.Declared.{Declared}
 use Rattle.gt_names.specs.Names.{Names, Naming, is_free_name, Declaration, declaration}
 use Rattle.gt_grammar.specs.declared.progress.OpenBlock.{OpenBlock}
@@ -21,6 +21,7 @@ kind_in (What.AfterFunc func) = Kind.AfterFunc
 kind_in (What.Chan cap) = Kind.Chan
 kind_in What.Mutex = Kind.Mutex
 kind_in What.Wg = Kind.Wg
+kind_in (What.Cond mutex) = Kind.Cond
 kind_in What.Function = Kind.Function
 
 -- the place of a declared name, and whether it is among the first ones
@@ -73,6 +74,9 @@ Refers names (Instr.Lock m) = IsPlace names is_kind_mutex m
 Refers names (Instr.Unlock m) = IsPlace names is_kind_mutex m
 Refers names (Instr.Add w n) = IsPlace names is_kind_wg w × IsAddable n
 Refers names (Instr.Wait w) = IsPlace names is_kind_wg w
+Refers names (Instr.CWait k) = IsPlace names is_kind_cond k
+Refers names (Instr.Signal k) = IsPlace names is_kind_cond k
+Refers names (Instr.Broadcast k) = IsPlace names is_kind_cond k
 Refers names (Instr.LoopTop depth count past) = ⊥
 Refers names (Instr.LoopEnd depth top) = ⊥
 Refers names (Instr.Select cases default_to) = ⊥
@@ -85,7 +89,7 @@ abbrev pub RefersCase : Names → Bool → CaseKind → Type 0
 RefersCase names awaits (CaseKind.Recv o) = (p : IsPlace names is_kind_source o) × (awaits ≡ is_kind_timer p.ref.declared.kind)
 RefersCase names awaits (CaseKind.Send c v) = IsPlace names is_kind_chan c × (awaits ≡ false)
 
--- what a declaration starts is declared as such, and its capacity is in range
+-- what a declaration starts or locks is declared as such, and its capacity is in range
 abbrev pub Starts : Names → What → Type 0
 Starts names What.Timer = Unit {0}
 Starts names What.Ticker = Unit {0}
@@ -93,6 +97,7 @@ Starts names (What.AfterFunc f) = (r : Ref names) × (is_kind_function r.declare
 Starts names (What.Chan cap) = cap ≤ most_capacity
 Starts names What.Mutex = Unit {0}
 Starts names What.Wg = Unit {0}
+Starts names (What.Cond mutex) = IsPlace names is_kind_mutex mutex
 Starts names What.Function = ⊥
 
 -- a name that is spelled rightly and declared by none of the first n declarations

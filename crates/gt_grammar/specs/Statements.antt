@@ -10,7 +10,7 @@ use Rattle.gt_lines.specs.Number.{number_of}
 use Rattle.gt_table.specs.declared.form.Arg.{Arg}
 use Rattle.gt_table.specs.declared.form.Step.{Step}
 use Rattle.gt_table.specs.declared.table.Keyword.{Keyword}
-use Rattle.gt_table.specs.Forms.{is_wanted, is_kind_function, is_kind_setting, is_kind_timer, is_kind_chan, is_kind_source, is_kind_mutex, is_kind_wg}
+use Rattle.gt_table.specs.Forms.{is_wanted, is_kind_function, is_kind_setting, is_kind_timer, is_kind_chan, is_kind_source, is_kind_mutex, is_kind_wg, is_kind_cond}
 use Rattle.gt_table.specs.Table.{keyword_of, case_keyword_of, form_of, step_of}
 use Rattle.gt_names.specs.declared.names.Declared.{Declared}
 use Rattle.gt_names.specs.Names.{Names, is_free_name}
@@ -87,6 +87,9 @@ mutex_place d = if is_kind_mutex d.kind then Some d.place else None
 abbrev pub wg_place : Declared → Option ℕ
 wg_place d = if is_kind_wg d.kind then Some d.place else None
 
+abbrev pub cond_place : Declared → Option ℕ
+cond_place d = if is_kind_cond d.kind then Some d.place else None
+
 abbrev pub function_place : Declared → Option ℕ
 function_place d = if is_kind_function d.kind then Some d.func else None
 
@@ -114,6 +117,7 @@ value_of names Arg.Channel word = option_and_then channel_place (names word)
 value_of names Arg.Source word = option_and_then source_place (names word)
 value_of names Arg.Mutex word = option_and_then mutex_place (names word)
 value_of names Arg.WaitGroup word = option_and_then wg_place (names word)
+value_of names Arg.Cond word = option_and_then cond_place (names word)
 value_of names Arg.Function word = option_and_then function_place (names word)
 value_of names Arg.Duration word = duration_of word
 value_of names Arg.Number word = number_of word

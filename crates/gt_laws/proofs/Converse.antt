@@ -12,7 +12,7 @@ use Rattle.gt_rules.specs.History.{AllLegal, History}
 use Rattle.gt_facts.proofs.Histories.{AllLegal-append}
 use Rattle.gt_facts.proofs.Still.{still-IsIdle}
 use Rattle.gt_laws.specs.Told.{ending_told}
-use Rattle.gt_laws.specs.Laws.{AtEach, InOrder, InTime, IsFresh, PassesOn, UsesRightly, ChoosesRightly, IsAlone, AddsUp}
+use Rattle.gt_laws.specs.Laws.{AtEach, InOrder, InTime, IsFresh, PassesOn, UsesRightly, ChoosesRightly, IsAlone, AddsUp, IsSignalled}
 use Rattle.gt_laws.specs.Ends.{IsOn, SaysRightly, EndsRightly}
 use Rattle.gt_laws.proofs.Shown.{ending-told, entries-told}
 use Rattle.gt_laws.proofs.GoesOn.{reached, told-stuck}
@@ -65,8 +65,9 @@ pub record Lawful (script : Script) (limits : Limits) (h : List Entry) : Type 0 
   pub uses : AtEach (UsesRightly script) h
   pub passes : AtEach (PassesOn script) h
   pub chooses : AtEach (ChoosesRightly script) h
-  pub alone : AtEach IsAlone h
+  pub alone : AtEach (IsAlone script) h
   pub adds_up : AtEach AddsUp h
+  pub signals : AtEach (IsSignalled script) h
   pub ends : AtEach (EndsRightly script limits) h
 
 legal-on : (script : Script) (limits : Limits) (h front rest : List Entry) → Lawful script limits h → h ≡ front ++ rest → AllLegal script limits (first_state script) front
@@ -85,6 +86,7 @@ legal-on script limits h front (e ∷ rest) l is before =
         chooses = l.chooses front e rest is;
         alone = l.alone front e rest is;
         adds_up = l.adds_up front e rest is;
+        signals = l.signals front e rest is;
       };
       ends = l.ends front e rest is;
     } in

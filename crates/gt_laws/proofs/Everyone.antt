@@ -1,6 +1,7 @@
 -- The goroutines and the timers that a history tells are those of the state after it.
-use Rattle.std.proofs.Common.{◌≡◌, ◌≢◌, ℕ, zero, suc, List, [], ◌∷◌, ◌++◌, map, set, slice_get, refl, sym, ap, subst, ◌∙◌, Option, None, Some, IfSome, option_map, append_assoc, append-nil}
+use Rattle.std.proofs.Common.{◌≡◌, ◌≢◌, ℕ, zero, suc, ◌+◌, ◌==◌, List, [], ◌∷◌, ◌++◌, map, set, slice_get, refl, sym, ap, subst, ◌∙◌, cond, if◌then◌else◌, Option, None, Some, Bool, true, false, IfSome, option_map, append_assoc, append-nil, count_by}
 use Rattle.std.proofs.lemmas.List.{map-append, map-set}
+use Rattle.std.proofs.lemmas.List.Sums.{sum_by-cons}
 use Rattle.gt_model.specs.declared.script.Script.{Script}
 use Rattle.gt_model.specs.declared.script.Decl.{Decl}
 use Rattle.gt_model.specs.declared.script.Instr.{Instr}
@@ -14,15 +15,17 @@ use Rattle.gt_model.specs.Good.{IsGood}
 use Rattle.gt_model.specs.Script.{instr_at, func_of}
 use Rattle.gt_model.specs.Tables.{at, numbered, change, change_numbered}
 use Rattle.gt_model.proofs.Items.{numbered-change_other}
-use Rattle.gt_rules.specs.State.{State, clock_of, goroutine_at, world_of, until_of, sleeps_until, stands, stands_at, period_at}
+use Rattle.gt_rules.specs.State.{State, clock_of, goroutine_at, mode_of, world_of, until_of, sleeps_until, stands, stands_at, period_at, suspended_at, is_suspended, suspended_count}
 use Rattle.gt_rules.specs.declared.change.Move.{Move}
 use Rattle.gt_rules.specs.declared.change.Setting.{Setting}
 use Rattle.gt_rules.specs.declared.change.Start.{Start}
 use Rattle.gt_rules.specs.Change.{change_of}
-use Rattle.gt_rules.specs.After.{after, first_state, moved, number_of, duration_of, period_of, new_period, set_due, set_again, timer_world, retimed, with_mover, started_by, with_starts, with_retimed}
+use Rattle.gt_rules.specs.Places.{place_after}
+use Rattle.gt_rules.specs.After.{after, first_state, in_mode, moved, number_of, duration_of, period_of, new_period, set_due, set_again, timer_world, retimed, with_mover, with_signalled, started_by, with_starts, with_retimed}
+use Rattle.gt_rules.specs.After as rules
 use Rattle.gt_rules.specs.History.{AllLegal, state_after}
 use Rattle.gt_facts.proofs.Fits.{Fits, IsLive}
-use Rattle.gt_laws.specs.Told.{clock_told, beginner, Wait, awake, asleep, ToldGoroutine, ToldTimer, Everyone, world_in, owner_in, period_in, led, with_led, begun_by, mover_world, period_by, with_period, timed, with_timed, everyone_by, everyone_first, everyone_told, goroutine_told, world_told, owner_told, period_told, now_told, wait_of, until_in, until_told, stands_in, stands_of, stands_told}
+use Rattle.gt_laws.specs.Told.{clock_told, beginner, Wait, awake, asleep, suspended, signalled, ToldGoroutine, ToldTimer, Everyone, world_in, owner_in, period_in, led, with_led, waken, with_woken, begun_by, mover_world, period_by, with_period, timed, with_timed, everyone_by, everyone_first, everyone_told, goroutine_told, world_told, owner_told, period_told, now_told, wait_of, wait_told, until_in, until_told, waits_in, suspended_told, stands_in, stands_of, stands_told}
 use Rattle.gt_laws.proofs.Shown.{AreTwo, shown-told, clock-told}
 
 -- ---- what is shown of a state
@@ -30,11 +33,15 @@ use Rattle.gt_laws.proofs.Shown.{AreTwo, shown-told, clock-told}
 abbrev pub place_in : Place → Mode → Option Place
 place_in place Mode.At = Some place
 place_in place (Mode.Sleeping until) = Some place
+place_in place (Mode.Suspended k) = Some place
+place_in place (Mode.Relocking k) = Some place
 place_in place Mode.Ended = None
 
 abbrev pub wait_in : Mode → Wait
 wait_in Mode.At = awake
 wait_in (Mode.Sleeping until) = asleep until
+wait_in (Mode.Suspended k) = suspended k
+wait_in (Mode.Relocking k) = signalled k
 wait_in Mode.Ended = awake
 
 abbrev pub shown : Goroutine → ToldGoroutine
@@ -76,17 +83,25 @@ numbered-map f xs (suc i) = slice_get-map f xs i
 
 -- ---- who moves
 
+live-place : (place : Place) (mode : Mode) → (mode ≡ Mode.Ended → ⊥) → place_in place mode ≡ Some place
+live-place place Mode.At live = refl
+live-place place (Mode.Sleeping until) live = refl
+live-place place (Mode.Suspended k) live = refl
+live-place place (Mode.Relocking k) live = refl
+live-place place Mode.Ended live = absurd (live refl)
+
+-- somebody of this world at this place, who waits so
+abbrev who : ℕ → Wait → Option Place → ToldGoroutine
+who w wait place = record { world = w; place = place; wait = wait }
+
 led-mode : (script : Script) (m : Move) (w : ℕ) (place : Place) (mode : Mode) → (mode ≡ Mode.Ended → ⊥)
     → shown (moved script m (record { world = w; place = place; mode = mode })) ≡ led script m (shown (record { world = w; place = place; mode = mode }))
-led-mode script m w place Mode.Ended live = absurd (live refl)
-led-mode script (Move.GoesOn case_no) w place Mode.At live = refl
-led-mode script (Move.FallsAsleep until) w place Mode.At live = refl
-led-mode script Move.Ends w place Mode.At live = refl
-led-mode script Move.Panics w place Mode.At live = refl
-led-mode script (Move.GoesOn case_no) w place (Mode.Sleeping until) live = refl
-led-mode script (Move.FallsAsleep later) w place (Mode.Sleeping until) live = refl
-led-mode script Move.Ends w place (Mode.Sleeping until) live = refl
-led-mode script Move.Panics w place (Mode.Sleeping until) live = refl
+led-mode script (Move.GoesOn case_no) w place mode live = sym (ap (λ (o : Option Place). who w awake (option_map (place_after script case_no) o)) (live-place place mode live))
+led-mode script (Move.FallsAsleep until) w place mode live = sym (ap (who w (asleep until)) (live-place place mode live))
+led-mode script (Move.Suspends k) w place mode live = sym (ap (who w (suspended k)) (live-place place mode live))
+led-mode script (Move.Relocks k) w place mode live = sym (ap (who w (signalled k)) (live-place place mode live))
+led-mode script Move.Ends w place mode live = refl
+led-mode script Move.Panics w place mode live = refl
 
 lives : (s : State) (g : ℕ) (r : Goroutine) → IsLive s g → goroutine_at s g ≡ Some r → r.mode ≡ Mode.Ended → ⊥
 lives s g r live e =
@@ -113,6 +128,25 @@ says-both script s m (Some p) live alive two =
     map-change_numbered shown (moved script p.1) (led script p.1) (with_mover script s.goroutines m) p.0
     (λ r e. led-mode script p.1 r.world r.place r.mode (second-live script s m p.0 r two alive e))
     ∙ ap (λ rs. change_numbered rs p.0 (led script p.1)) (says-led script s m live)
+
+-- ---- who is signalled by a broadcast
+
+shown-woken : (k w : ℕ) (place : Place) (mode : Mode) → shown (rules.signalled k (record { world = w; place = place; mode = mode })) ≡ waken k (shown (record { world = w; place = place; mode = mode }))
+shown-woken k w place Mode.At = refl
+shown-woken k w place (Mode.Sleeping until) = refl
+shown-woken k w place (Mode.Suspended at) =
+    elim (at == k) as (λ b. shown (cond b (record { world = w; place = place; mode = Mode.Relocking k }) (record { world = w; place = place; mode = Mode.Suspended at }))
+    ≡ record { world = w; place = Some place; wait = if b then signalled k else suspended at }) [ true ↦ refl | false ↦ refl ]
+shown-woken k w place (Mode.Relocking at) = refl
+shown-woken k w place Mode.Ended = refl
+
+map-both : {X Y : Type 0} (f : X → Y) (g : X → X) (k : Y → Y) (xs : List X) → ((x : X) → f (g x) ≡ k (f x)) → map f (map g xs) ≡ map k (map f xs)
+map-both f g k [] one = refl
+map-both f g k (x ∷ xs) one = ap (λ y. y ∷ map f (map g xs)) (one x) ∙ ap (λ ys. k (f x) ∷ ys) (map-both f g k xs one)
+
+says-woken : (gs : List Goroutine) (o : Option ℕ) → map shown (with_signalled gs o) ≡ with_woken (map shown gs) o
+says-woken gs None = refl
+says-woken gs (Some k) = map-both shown (rules.signalled k) (waken k) gs (λ r. shown-woken k r.world r.place r.mode)
 
 -- ---- who starts
 
@@ -154,6 +188,8 @@ pub stands-shown : (script : Script) (place : Place) (mode : Mode)
     → (elim mode as (λ m. Option Instr) [ Mode.At ↦ instr_at script place | _ ↦ None ]) ≡ stands_in script (place_in place mode) (wait_in mode)
 stands-shown script place Mode.At = refl
 stands-shown script place (Mode.Sleeping until) = refl
+stands-shown script place (Mode.Suspended k) = refl
+stands-shown script place (Mode.Relocking k) = refl
 stands-shown script place Mode.Ended = refl
 
 stands-of : (script : Script) (o : Option Goroutine) → (elim o as (λ o. Option Instr) [ None ↦ None | Some r ↦ stands script r ]) ≡ stands_of script (option_map shown o)
@@ -208,8 +244,10 @@ one-everyone : (script : Script) (s : State) (e : Entry) → Fits script s (chan
     → show (after script s e) ≡ everyone_by script (show s) (change_of e)
 one-everyone script s e fits two =
     both _ _ _ _
-    (says-begun script s (with_mover script (with_mover script s.goroutines (change_of e).mover) (change_of e).partner) (change_of e).starts
-    ∙ ap (λ rs. rs ++ map (begun_by script (show s)) (change_of e).starts) (says-both script s (change_of e).mover (change_of e).partner fits.mover fits.partner two))
+    (says-begun script s (with_signalled (with_mover script (with_mover script s.goroutines (change_of e).mover) (change_of e).partner) (change_of e).broadcast) (change_of e).starts
+    ∙ ap (λ rs. rs ++ map (begun_by script (show s)) (change_of e).starts)
+    (says-woken (with_mover script (with_mover script s.goroutines (change_of e).mover) (change_of e).partner) (change_of e).broadcast
+    ∙ ap (λ rs. with_woken rs (change_of e).broadcast) (says-both script s (change_of e).mover (change_of e).partner fits.mover fits.partner two)))
     (says-timed script s (change_of e).mover (change_of e).timer)
 
 none-timed : (decls : List Decl) → map timer_in (map (λ (d : Decl). None) decls) ≡ map (λ (d : Decl). None) decls
@@ -254,6 +292,8 @@ now-told script limits g h good legal =
 pub until-shown : (mode : Mode) → until_of mode ≡ until_in (wait_in mode)
 until-shown Mode.At = refl
 until-shown (Mode.Sleeping until) = refl
+until-shown (Mode.Suspended k) = refl
+until-shown (Mode.Relocking k) = refl
 until-shown Mode.Ended = refl
 
 pub until-told : (script : Script) (limits : Limits) (g : ℕ) (h : List Entry) → IsGood script → AllLegal script limits (first_state script) h
@@ -268,3 +308,78 @@ pub stands-told : (script : Script) (limits : Limits) (g : ℕ) (h : List Entry)
     → stands_at script (state_after script (first_state script) h) g ≡ stands_told script g h
 stands-told script limits g h good legal =
     stands-of script (goroutine_at (state_after script (first_state script) h) g) ∙ ap (stands_of script) (goroutine-told script limits g h good legal)
+
+-- ---- who waits at a Cond
+
+pub wait-told : (script : Script) (limits : Limits) (g : ℕ) (h : List Entry) → IsGood script → AllLegal script limits (first_state script) h
+    → wait_of (option_map shown (goroutine_at (state_after script (first_state script) h) g)) ≡ wait_told script g h
+wait-told script limits g h good legal = ap wait_of (goroutine-told script limits g h good legal)
+
+-- and who waits at a Cond is in the mode of that wait
+signalled-mode : (k : ℕ) (mode : Mode) → wait_in mode ≡ signalled k → mode ≡ Mode.Relocking k
+signalled-mode k Mode.At e = cc
+signalled-mode k (Mode.Sleeping until) e = cc
+signalled-mode k (Mode.Suspended at) e = cc
+signalled-mode k (Mode.Relocking at) e = let same : at ≡ k = cc in ap Mode.Relocking same
+signalled-mode k Mode.Ended e = cc
+
+suspended-mode : (k : ℕ) (mode : Mode) → wait_in mode ≡ suspended k → mode ≡ Mode.Suspended k
+suspended-mode k Mode.At e = cc
+suspended-mode k (Mode.Sleeping until) e = cc
+suspended-mode k (Mode.Suspended at) e = let same : at ≡ k = cc in ap Mode.Suspended same
+suspended-mode k (Mode.Relocking at) e = cc
+suspended-mode k Mode.Ended e = cc
+
+-- who is in a mode waits as that mode says
+mode-wait : (o : Option Goroutine) (mode : Mode) → option_map (λ (r : Goroutine). r.mode) o ≡ Some mode → wait_of (option_map shown o) ≡ wait_in mode
+mode-wait None mode e = cc
+mode-wait (Some r) mode e = let same : r.mode ≡ mode = cc in ap wait_in same
+
+wait-signalled : (o : Option Goroutine) (k : ℕ) → wait_of (option_map shown o) ≡ signalled k → option_map (λ (r : Goroutine). r.mode) o ≡ Some (Mode.Relocking k)
+wait-signalled None k e = cc
+wait-signalled (Some r) k e = ap Some (signalled-mode k r.mode e)
+
+wait-suspended : (o : Option Goroutine) (k : ℕ) → wait_of (option_map shown o) ≡ suspended k → option_map (λ (r : Goroutine). r.mode) o ≡ Some (Mode.Suspended k)
+wait-suspended None k e = cc
+wait-suspended (Some r) k e = ap Some (suspended-mode k r.mode e)
+
+pub relocks-told : (script : Script) (limits : Limits) (g k : ℕ) (h : List Entry) → IsGood script → AllLegal script limits (first_state script) h
+    → mode_of (state_after script (first_state script) h) g ≡ Some (Mode.Relocking k) → wait_told script g h ≡ signalled k
+relocks-told script limits g k h good legal is =
+    sym (wait-told script limits g h good legal) ∙ mode-wait (goroutine_at (state_after script (first_state script) h) g) (Mode.Relocking k) is
+
+pub told-relocks : (script : Script) (limits : Limits) (g k : ℕ) (h : List Entry) → IsGood script → AllLegal script limits (first_state script) h
+    → wait_told script g h ≡ signalled k → mode_of (state_after script (first_state script) h) g ≡ Some (Mode.Relocking k)
+told-relocks script limits g k h good legal is =
+    wait-signalled (goroutine_at (state_after script (first_state script) h) g) k (wait-told script limits g h good legal ∙ is)
+
+pub suspends-told : (script : Script) (limits : Limits) (g k : ℕ) (h : List Entry) → IsGood script → AllLegal script limits (first_state script) h
+    → mode_of (state_after script (first_state script) h) g ≡ Some (Mode.Suspended k) → wait_told script g h ≡ suspended k
+suspends-told script limits g k h good legal is =
+    sym (wait-told script limits g h good legal) ∙ mode-wait (goroutine_at (state_after script (first_state script) h) g) (Mode.Suspended k) is
+
+pub told-suspends : (script : Script) (limits : Limits) (g k : ℕ) (h : List Entry) → IsGood script → AllLegal script limits (first_state script) h
+    → wait_told script g h ≡ suspended k → mode_of (state_after script (first_state script) h) g ≡ Some (Mode.Suspended k)
+told-suspends script limits g k h good legal is =
+    wait-suspended (goroutine_at (state_after script (first_state script) h) g) k (wait-told script limits g h good legal ∙ is)
+
+-- and how many wait there
+waits-shown : (k : ℕ) (mode : Mode) → (elim (suspended_at mode) as (λ o. Bool) [ None ↦ false | Some at ↦ at == k ]) ≡ waits_in k (wait_in mode)
+waits-shown k Mode.At = refl
+waits-shown k (Mode.Sleeping until) = refl
+waits-shown k (Mode.Suspended at) = refl
+waits-shown k (Mode.Relocking at) = refl
+waits-shown k Mode.Ended = refl
+
+count-map : {X Y : Type 0} (p : X → Bool) (q : Y → Bool) (m : X → Y) (xs : List X) → ((x : X) → p x ≡ q (m x)) → count_by p xs ≡ count_by q (map m xs)
+count-map p q m [] same = refl
+count-map p q m (x ∷ xs) same =
+    sum_by-cons (λ x. cond (p x) 1 0) x xs
+    ∙ (ap (λ b. cond b 1 0 + count_by p xs) (same x)
+    ∙ (ap (λ n. cond (q (m x)) 1 0 + n) (count-map p q m xs same) ∙ sym (sum_by-cons (λ y. cond (q y) 1 0) (m x) (map m xs))))
+
+pub suspended-told : (script : Script) (limits : Limits) (k : ℕ) (h : List Entry) → IsGood script → AllLegal script limits (first_state script) h
+    → suspended_count (state_after script (first_state script) h) k ≡ suspended_told script k h
+suspended-told script limits k h good legal =
+    count-map (is_suspended k) (λ (r : ToldGoroutine). waits_in k r.wait) shown (state_after script (first_state script) h).goroutines (λ r. waits-shown k r.mode)
+    ∙ ap (λ (all : Everyone). count_by (λ (r : ToldGoroutine). waits_in k r.wait) all.goroutines) (everyone-told script limits h good legal)

@@ -14,7 +14,7 @@ use Rattle.gt_model.specs.declared.state.Goroutine.{Goroutine}
 use Rattle.gt_model.specs.declared.state.Mode.{Mode}
 use Rattle.gt_model.specs.declared.state.Timer.{Timer}
 use Rattle.gt_model.specs.Good.{IsGood}
-use Rattle.gt_model.specs.Script.{instr_at, what_at, is_func, is_chan, capacity_of}
+use Rattle.gt_model.specs.Script.{instr_at, what_at, is_func, is_chan, mutex_of, capacity_of}
 use Rattle.gt_model.specs.Tables.{flatten}
 use Rattle.gt_rules.specs.State.{State, clock, goroutine_at, timer_at, due_of, stands, channel_at, item_count, is_closed, is_made}
 use Rattle.gt_rules.specs.Panics.{fault, fault_at, fault_case, falls_below, case_fault, choice_fault, faulty_case, open_fault, or_else, when, zero_ticker}
@@ -90,6 +90,7 @@ misuse-told script limits h (Instr.Make c) good legal = ap (λ b. when b Reason.
 misuse-told script limits h (Instr.Send c v) good legal = unopened-told script limits h c good legal
 misuse-told script limits h (Instr.Close c) good legal = unopened-told script limits h c good legal
 misuse-told script limits h (Instr.Unlock m) good legal = ap (λ b. when (not b) Reason.Unlocked) (held-told script limits m h good legal)
+misuse-told script limits h (Instr.CWait k) good legal = ap (λ b. when (not b) Reason.Unlocked) (held-told script limits (mutex_of script k) h good legal)
 misuse-told script limits h (Instr.Add w n) good legal = ap (λ counter. when (falls_below counter n) Reason.Negative) (counter-told script limits w h good legal)
 misuse-told script limits h (Instr.Select cases default_to) good legal = choice-told script limits h cases good legal
 misuse-told script limits h _ good legal = refl
@@ -176,7 +177,7 @@ room-told script limits h c room good legal =
     same-lt n room (length (sent_told c h)) (room + taken_told c h) (λ l. omega arith) (λ l. omega arith)
 
 gives-told : (script : Script) (limits : Limits) (h : List Entry) (w o : ℕ) (what : Option What) → IsGood script → AllLegal script limits (first_state script) h
-    → is_ready_recv (reached script h) (has_come (reached script h) w) o what ≡ gives_told h (clock_told w h) o what
+    → is_ready_recv (reached script h) (has_come (reached script h) w) o what ≡ gives_told script h (clock_told w h) o what
 gives-told script limits h w o None good legal = refl
 gives-told script limits h w o (Some What.Timer) good legal =
     ap (λ (due : Option ℕ). is_due due (clock (reached script h) w)) (due-told script limits o h good legal)
@@ -190,6 +191,7 @@ gives-told script limits h w o (Some (What.Chan cap)) good legal =
     ∙ ap (λ b. nat_lt (taken_told o h) (length (sent_told o h)) || b) (closed-told script limits o h good legal)
 gives-told script limits h w o (Some What.Mutex) good legal = ap not (held-told script limits o h good legal)
 gives-told script limits h w o (Some What.Wg) good legal = ap (λ n. n == 0) (counter-told script limits o h good legal)
+gives-told script limits h w o (Some (What.Cond mutex)) good legal = refl
 gives-told script limits h w o (Some What.Function) good legal = refl
 
 pub alone-told : (script : Script) (limits : Limits) (h : List Entry) (w : ℕ) (kind : CaseKind) → IsGood script → AllLegal script limits (first_state script) h
@@ -243,6 +245,8 @@ ready-told : (script : Script) (limits : Limits) (h : List Entry) (g : ℕ) (r :
     → is_ready_in script (reached script h) g r mode ≡ goes_on_in script h g (clock_told r.world h) (place_in r.place mode) (wait_in mode)
 ready-told script limits h g r Mode.At good legal = at-told script limits h g r.world (instr_at script r.place) good legal
 ready-told script limits h g r (Mode.Sleeping until) good legal = ap (λ now. nat_le until now) (clock-told script limits r.world h good legal)
+ready-told script limits h g r (Mode.Suspended k) good legal = refl
+ready-told script limits h g r (Mode.Relocking k) good legal = ap not (held-told script limits (mutex_of script k) h good legal)
 ready-told script limits h g r Mode.Ended good legal = refl
 
 abbrev ready_in : Script → State → ℕ → Option Goroutine → Bool

@@ -8,7 +8,7 @@ use Rattle.gt_model.specs.Good.{IsGood}
 use Rattle.gt_rules.specs.State.{State}
 use Rattle.gt_rules.specs.Finish.{Legal}
 use Rattle.gt_rules.specs.History.{History}
-use Rattle.gt_laws.specs.Laws.{AtEach, InOrder, InTime, IsFresh, PassesOn, UsesRightly, ChoosesRightly, IsAlone, AddsUp}
+use Rattle.gt_laws.specs.Laws.{AtEach, InOrder, InTime, IsFresh, PassesOn, UsesRightly, ChoosesRightly, IsAlone, AddsUp, IsSignalled}
 use Rattle.gt_laws.proofs.GoesOn.{reached}
 use Rattle.gt_laws.proofs.Rows.{Behind, Obeys, Rule, row}
 use Rattle.gt_laws.proofs.Comes.{Comes, each}
@@ -45,8 +45,12 @@ pub each-chooses_rightly : (script : Script) (limits : Limits) (h : List Entry) 
     → AtEach (ChoosesRightly script) h
 each-chooses_rightly = each (λ script limits. ChoosesRightly script) (λ script limits front e c. (obeys script limits front e c).chooses)
 
-pub each-alone : (script : Script) (limits : Limits) (h : List Entry) (outcome : Outcome) → IsGood script → History script limits h outcome → AtEach IsAlone h
-each-alone = each (λ script limits. IsAlone) (λ script limits front e c. (obeys script limits front e c).alone)
+pub each-alone : (script : Script) (limits : Limits) (h : List Entry) (outcome : Outcome) → IsGood script → History script limits h outcome → AtEach (IsAlone script) h
+each-alone = each (λ script limits. IsAlone script) (λ script limits front e c. (obeys script limits front e c).alone)
 
 pub each-adds_up : (script : Script) (limits : Limits) (h : List Entry) (outcome : Outcome) → IsGood script → History script limits h outcome → AtEach AddsUp h
 each-adds_up = each (λ script limits. AddsUp) (λ script limits front e c. (obeys script limits front e c).adds_up)
+
+pub each-signalled : (script : Script) (limits : Limits) (h : List Entry) (outcome : Outcome) → IsGood script → History script limits h outcome
+    → AtEach (IsSignalled script) h
+each-signalled = each (λ script limits. IsSignalled script) (λ script limits front e c. (obeys script limits front e c).signals)

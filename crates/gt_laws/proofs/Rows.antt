@@ -13,7 +13,7 @@ use Rattle.gt_model.specs.declared.entry.Party.{Party}
 use Rattle.gt_model.specs.declared.entry.Reason.{Reason}
 use Rattle.gt_model.specs.declared.state.Timer.{Timer}
 use Rattle.gt_model.specs.Good.{IsGood}
-use Rattle.gt_model.specs.Script.{is_ticker, capacity_of}
+use Rattle.gt_model.specs.Script.{is_ticker, mutex_of, capacity_of}
 use Rattle.gt_rules.specs.State.{State, Channel, clock, clock_of, world_of, stands_at, sleeps_until, timer_at, due_of, period_at, next_number, channel_at, items_of, item_count, is_closed, is_open}
 use Rattle.gt_rules.specs.Operations.{polls}
 use Rattle.gt_rules.specs.Panics.{panic_at, when, or_else, falls_below}
@@ -22,16 +22,16 @@ use Rattle.gt_rules.specs.Ready as ready
 use Rattle.gt_rules.specs.declared.change.Setting.{Setting}
 use Rattle.gt_rules.specs.declared.change.Trade.{Trade}
 use Rattle.gt_rules.specs.After.{first_state, timer_world}
-use Rattle.gt_rules.specs.Legal.{May, Does, Defaults, Operates, is_polling, due_at, sleep_end, was_set, LeavesBy}
+use Rattle.gt_rules.specs.Legal.{May, Does, Defaults, Operates, Signals, is_polling, due_at, sleep_end, was_set, LeavesBy}
 use Rattle.gt_rules.specs.History.{AllLegal}
 use Rattle.gt_facts.proofs.Makers.{Sets, sets, was_made, none-when, Trades, trades-May, IsOpened, is_open-IsOpened}
 use Rattle.gt_laws.specs.Told.{clock_told, due_told, made_told, opened_told, closed_told, sent_told, taken_told, held_told, counter_told, now_told, owner_told, period_told, started_told, stands_told, operation_told, polls_in, polls_told, until_told}
 use Rattle.gt_laws.specs.GoesOn.{alone_told, misuse_in, misuse_told}
-use Rattle.gt_laws.specs.Laws.{InOrder, InTime, IsFresh, PassesOn, UsesRightly, ChoosesRightly, IsAlone, AddsUp, IsNoMisuse, answer_told, gives_some}
+use Rattle.gt_laws.specs.Laws.{InOrder, InTime, IsFresh, PassesOn, UsesRightly, ChoosesRightly, IsAlone, AddsUp, IsSignalled, IsNoMisuse, answer_told, gives_some}
 use Rattle.gt_laws.proofs.Shown.{clock-told, due-told, made-told, started-told}
 use Rattle.gt_laws.proofs.Channels.{closed_in, opened-told, closed-told, kept-told, count-told, drop-first}
 use Rattle.gt_laws.proofs.Syncs.{held-told, counter-told}
-use Rattle.gt_laws.proofs.Everyone.{now-told, owner-told, period-told, stands-told, until-told, world-told}
+use Rattle.gt_laws.proofs.Everyone.{now-told, owner-told, period-told, stands-told, until-told, world-told, relocks-told, told-relocks, suspends-told, told-suspends, suspended-told}
 use Rattle.gt_laws.proofs.GoesOn.{reached, alone-told}
 use Rattle.gt_laws.proofs.Panics.{panic-told, operation-told, calm-in, in-calm, Misuses, may-told, told-may}
 
@@ -48,8 +48,9 @@ pub record Obeys (script : Script) (front : List Entry) (e : Entry) : Type 0 whe
   pub uses : UsesRightly script front e
   pub passes : PassesOn script front e
   pub chooses : ChoosesRightly script front e
-  pub alone : IsAlone front e
+  pub alone : IsAlone script front e
   pub adds_up : AddsUp front e
+  pub signals : IsSignalled script front e
 
 -- the rule of an entry: that of a finish is no row of May
 abbrev pub Rule : Script → State → Entry → Type 0
@@ -254,6 +255,7 @@ defaults-told {script} {limits} {front} b g d =
           ∙ none-any (λ (c : Case). alone_told script front (now_told script g front) c.kind) d.cases (λ k x h. sym (alone b g _) ∙ d.none k x h);
       alone = tt;
       adds_up = tt;
+      signals = tt;
     }
 
 told-defaults : {script : Script} {limits : Limits} {front : List Entry} (b : Behind script limits front) (g : ℕ) → Obeys script front (Entry.Default g) → Defaults script (reached script front) g
@@ -270,27 +272,49 @@ told-defaults {script} {limits} {front} b g o =
 
 -- ---- who unlocks a mutex or adds to a counter, without a misuse
 
-held-there : {script : Script} {limits : Limits} {front : List Entry} (b : Behind script limits front) (g m : ℕ) → Does script (reached script front) g (Instr.Unlock m)
-    → held_told m front ≡ true
-held-there {script} {limits} {front} b g m may =
-    not-false (held_told m front) (none-when (not (held_told m front)) Reason.Unlocked (no-misuse b g (Instr.Unlock m) (told b g (Instr.Unlock m) may.stands) (calm-told b g may.calm)))
+-- the misuse of who unlocks a mutex that is free
+held-there : (held : Bool) → when (not held) Reason.Unlocked ≡ None → held ≡ true
+held-there held none = not-false held (none-when (not held) Reason.Unlocked none)
+
+calm-there : {script : Script} {limits : Limits} {front : List Entry} (b : Behind script limits front) (g : ℕ) (i : Instr) → Does script (reached script front) g i
+    → misuse_told script front i ≡ None
+calm-there {script} {limits} {front} b g i may = no-misuse b g i (told b g i may.stands) (calm-told b g may.calm)
 
 unlock-told : {script : Script} {limits : Limits} {front : List Entry} (b : Behind script limits front) (g m : ℕ) → Does script (reached script front) g (Instr.Unlock m)
     → Obeys script front (Entry.Unlock g m)
 unlock-told {script} {limits} {front} b g m may =
-    let held : held_told m front ≡ true = held-there b g m may in
-    record { order = told b g (Instr.Unlock m) may.stands; time = tt; fresh = tt; uses = held; passes = tt; chooses = tt; alone = held; adds_up = tt }
+    let held : held_told script m front ≡ true = held-there (held_told script m front) (calm-there b g (Instr.Unlock m) may) in
+    record { order = told b g (Instr.Unlock m) may.stands; time = tt; fresh = tt; uses = held; passes = tt; chooses = tt; alone = held; adds_up = tt; signals = tt }
 
 above-there : {script : Script} {limits : Limits} {front : List Entry} (b : Behind script limits front) (g w : ℕ) (n : ℤ) → Does script (reached script front) g (Instr.Add w n)
     → falls_below (counter_told w front) n ≡ false
 above-there {script} {limits} {front} b g w n may =
-    none-when (falls_below (counter_told w front) n) Reason.Negative (no-misuse b g (Instr.Add w n) (told b g (Instr.Add w n) may.stands) (calm-told b g may.calm))
+    none-when (falls_below (counter_told w front) n) Reason.Negative (calm-there b g (Instr.Add w n) may)
 
 add-told : {script : Script} {limits : Limits} {front : List Entry} (b : Behind script limits front) (g w : ℕ) (n : ℤ) → Does script (reached script front) g (Instr.Add w n)
     → Obeys script front (Entry.Add g w n)
 add-told {script} {limits} {front} b g w n may =
     let above : falls_below (counter_told w front) n ≡ false = above-there b g w n may in
-    record { order = told b g (Instr.Add w n) may.stands; time = tt; fresh = tt; uses = above; passes = tt; chooses = tt; alone = tt; adds_up = above }
+    record { order = told b g (Instr.Add w n) may.stands; time = tt; fresh = tt; uses = above; passes = tt; chooses = tt; alone = tt; adds_up = above; signals = tt }
+
+-- ---- who waits at a Cond, and who signals
+
+waits-told : {script : Script} {limits : Limits} {front : List Entry} (b : Behind script limits front) (g k : ℕ) → Does script (reached script front) g (Instr.CWait k)
+    → Obeys script front (Entry.CondWait g k)
+waits-told {script} {limits} {front} b g k may =
+    let held : held_told script (mutex_of script k) front ≡ true = held-there (held_told script (mutex_of script k) front) (calm-there b g (Instr.CWait k) may) in
+    record { order = told b g (Instr.CWait k) may.stands; time = tt; fresh = tt; uses = held; passes = tt; chooses = tt; alone = held; adds_up = tt; signals = tt }
+
+-- who is signalled waits at the Cond, or nobody does
+signals-told : {script : Script} {limits : Limits} {front : List Entry} (b : Behind script limits front) (g k : ℕ) (woken : Option ℕ) → Signals (reached script front) k woken
+    → IsSignalled script front (Entry.Signal g k woken)
+signals-told {script} {limits} {front} b g k None h = sym (suspended-told script limits k front b.good b.before) ∙ h
+signals-told {script} {limits} {front} b g k (Some other) h = suspends-told script limits other k front b.good b.before h
+
+told-signals : {script : Script} {limits : Limits} {front : List Entry} (b : Behind script limits front) (g k : ℕ) (woken : Option ℕ)
+    → IsSignalled script front (Entry.Signal g k woken) → Signals (reached script front) k woken
+told-signals {script} {limits} {front} b g k None h = suspended-told script limits k front b.good b.before ∙ h
+told-signals {script} {limits} {front} b g k (Some other) h = told-suspends script limits other k front b.good b.before h
 
 -- ---- whose time has come
 
@@ -369,9 +393,9 @@ Row script front e = (Rule script (reached script front) e → Obeys script fron
 pub row : {script : Script} {limits : Limits} {front : List Entry} (b : Behind script limits front) (e : Entry) → Row script front e
 row b (Entry.Say g n) = (λ may. assumption (told b g (Instr.Say n) may.stands), λ o. does b g (Instr.Say n) o.order refl)
 row b (Entry.Now g at) =
-    (λ may. record { order = told b g Instr.Now may.0.stands; time = may.1 ∙ now b g; fresh = tt; uses = tt; passes = tt; chooses = tt; alone = tt; adds_up = tt }, λ o. (does b g Instr.Now o.order refl, o.time ∙ sym (now b g)))
+    (λ may. record { order = told b g Instr.Now may.0.stands; time = may.1 ∙ now b g; fresh = tt; uses = tt; passes = tt; chooses = tt; alone = tt; adds_up = tt; signals = tt }, λ o. (does b g Instr.Now o.order refl, o.time ∙ sym (now b g)))
 row b (Entry.Go g child f) = (
-  λ may. record { order = (told b g (Instr.Go f) may.0.stands, may.1 ∙ next b); time = tt; fresh = tt; uses = tt; passes = tt; chooses = tt; alone = tt; adds_up = tt },
+  λ may. record { order = (told b g (Instr.Go f) may.0.stands, may.1 ∙ next b); time = tt; fresh = tt; uses = tt; passes = tt; chooses = tt; alone = tt; adds_up = tt; signals = tt },
   λ o. (does b g (Instr.Go f) o.order.0 refl, o.order.1 ∙ sym (next b)),
 )
 row b (Entry.End g) = (λ may. assumption (told b g Instr.Finish may.stands), λ o. does b g Instr.Finish o.order refl)
@@ -385,11 +409,12 @@ row b (Entry.Sleep g until) = (
     chooses = tt;
     alone = tt;
     adds_up = tt;
+    signals = tt;
   },
   λ o. (o.order.0, does b g (Instr.Sleep o.order.0) o.order.1 refl, o.order.2 ∙ ap (λ time. sleep_end time o.order.0) (sym (now b g))),
 )
 row {script} {limits} {front} b (Entry.Wake g) = (
-  λ may. record { order = some-and (until_told script g front) _ (wakes-told b g may); time = wakes-told b g may; fresh = tt; uses = tt; passes = tt; chooses = tt; alone = tt; adds_up = tt },
+  λ may. record { order = some-and (until_told script g front) _ (wakes-told b g may); time = wakes-told b g may; fresh = tt; uses = tt; passes = tt; chooses = tt; alone = tt; adds_up = tt; signals = tt },
   λ o. told-wakes b g o.time,
 )
 row {script} {limits} {front} b (Entry.New g t due) = (
@@ -402,6 +427,7 @@ row {script} {limits} {front} b (Entry.New g t due) = (
     chooses = tt;
     alone = tt;
     adds_up = tt;
+    signals = tt;
   },
   λ o. (o.order.0, does b g (Instr.New t o.order.0) o.order.1 (no-misuse b g _ o.order.1 o.uses.1), o.order.2 ∙ ap (λ time. due_at time o.order.0) (sym (now b g))),
 )
@@ -415,6 +441,7 @@ row {script} {limits} {front} b (Entry.Stop g t answer) = (
     chooses = tt;
     alone = tt;
     adds_up = tt;
+    signals = tt;
   },
   λ o. (does b g (Instr.Stop t) o.order (used-made front t o.uses), o.fresh ∙ sym (was b t)),
 )
@@ -428,6 +455,7 @@ row {script} {limits} {front} b (Entry.Reset g t answer due) = (
     chooses = tt;
     alone = tt;
     adds_up = tt;
+    signals = tt;
   },
   λ o. (
     o.order.0,
@@ -446,6 +474,7 @@ row {script} {limits} {front} b (Entry.TRecv p t due later) = (
     chooses = tt;
     alone = tt;
     adds_up = tt;
+    signals = tt;
   },
   λ o. (
     told-operates b p (CaseKind.Recv t) o.uses.1 o.order.0,
@@ -465,6 +494,7 @@ row {script} {limits} {front} b (Entry.FireFunc t child) = (
     chooses = tt;
     alone = tt;
     adds_up = tt;
+    signals = tt;
   },
   λ o. (o.order.0, told-fires b t o.time, o.order.1 ∙ sym (next b)),
 )
@@ -480,6 +510,7 @@ row {script} {limits} {front} b (Entry.Make g c) = (
         chooses = tt;
         alone = tt;
         adds_up = tt;
+        signals = tt;
       },
   λ o. does b g (Instr.Make c) o.order (ap (λ b. when b Reason.Twice) o.uses),
 )
@@ -496,6 +527,7 @@ row {script} {limits} {front} b (Entry.Send p c v) = (
         chooses = tt;
         alone = tt;
         adds_up = tt;
+        signals = tt;
       },
   λ o. (told-operates b p (CaseKind.Send c v) o.uses.2 o.order, open-there b c o.uses.0 o.uses.1, told-room b c o.passes.1),
 )
@@ -511,6 +543,7 @@ row {script} {limits} {front} b (Entry.Recv p c (Some v)) = (
         chooses = tt;
         alone = tt;
         adds_up = tt;
+        signals = tt;
       },
   λ o. (told-operates b p (CaseKind.Recv c) o.uses.1 o.order.0, o.order.1, next-told b c ∙ o.passes),
 )
@@ -524,6 +557,7 @@ row {script} {limits} {front} b (Entry.Recv p c None) = (
     chooses = tt;
     alone = tt;
     adds_up = tt;
+    signals = tt;
   },
   λ o. (
     told-operates b p (CaseKind.Recv c) o.uses.1 o.order.0,
@@ -544,6 +578,7 @@ row {script} {limits} {front} b (Entry.Pair from to c v) = (
         chooses = sym (both-told b from.g to.g) ∙ not-true _ may.5;
         alone = tt;
         adds_up = tt;
+        signals = tt;
       },
   λ o. (
     told-operates b from (CaseKind.Send c v) o.uses.2 o.order.0,
@@ -566,6 +601,7 @@ row {script} {limits} {front} b (Entry.Close g c) = (
         chooses = tt;
         alone = tt;
         adds_up = tt;
+        signals = tt;
       },
   λ o. does b g (Instr.Close c) o.order (used-open front c o.uses.0 o.uses.1),
 )
@@ -580,10 +616,54 @@ row {script} {limits} {front} b (Entry.Lock g m) = (
     chooses = tt;
     alone = sym (held-told script limits m front b.good b.before) ∙ may.2;
     adds_up = tt;
+    signals = tt;
   },
   λ o. (does b g (Instr.Lock m) o.order.0 refl, o.order.1, held-told script limits m front b.good b.before ∙ o.alone),
 )
 row b (Entry.Unlock g m) = (λ may. unlock-told b g m may, λ o. does b g (Instr.Unlock m) o.order (ap (λ h. when (not h) Reason.Unlocked) o.uses))
+row b (Entry.CondWait g k) = (λ may. waits-told b g k may, λ o. does b g (Instr.CWait k) o.order (ap (λ h. when (not h) Reason.Unlocked) o.uses))
+row {script} {limits} {front} b (Entry.CondWake g k) = (
+  λ may. record {
+    order = relocks-told script limits g k front b.good b.before may.0;
+    time = tt;
+    fresh = tt;
+    uses = tt;
+    passes = tt;
+    chooses = tt;
+    alone = sym (held-told script limits (mutex_of script k) front b.good b.before) ∙ may.1;
+    adds_up = tt;
+    signals = tt;
+  },
+  λ o. (told-relocks script limits g k front b.good b.before o.order, held-told script limits (mutex_of script k) front b.good b.before ∙ o.alone),
+)
+row b (Entry.Signal g k woken) = (
+  λ may. record {
+    order = told b g (Instr.Signal k) may.0.stands;
+    time = tt;
+    fresh = tt;
+    uses = tt;
+    passes = tt;
+    chooses = tt;
+    alone = tt;
+    adds_up = tt;
+    signals = signals-told b g k woken may.1;
+  },
+  λ o. (does b g (Instr.Signal k) o.order refl, told-signals b g k woken o.signals),
+)
+row {script} {limits} {front} b (Entry.Broadcast g k count) = (
+  λ may. record {
+    order = told b g (Instr.Broadcast k) may.0.stands;
+    time = tt;
+    fresh = tt;
+    uses = tt;
+    passes = tt;
+    chooses = tt;
+    alone = tt;
+    adds_up = tt;
+    signals = may.1 ∙ suspended-told script limits k front b.good b.before;
+  },
+  λ o. (does b g (Instr.Broadcast k) o.order refl, o.signals ∙ sym (suspended-told script limits k front b.good b.before)),
+)
 row b (Entry.Add g w n) = (λ may. add-told b g w n may, λ o. does b g (Instr.Add w n) o.order (ap (λ below. when below Reason.Negative) o.uses))
 row {script} {limits} {front} b (Entry.WgWait g w) = (
   λ may. record {
@@ -595,18 +675,19 @@ row {script} {limits} {front} b (Entry.WgWait g w) = (
     chooses = tt;
     alone = tt;
     adds_up = sym (counter-told script limits w front b.good b.before) ∙ may.2;
+    signals = tt;
   },
   λ o. (does b g (Instr.Wait w) o.order.0 refl, o.order.1, counter-told script limits w front b.good b.before ∙ o.adds_up),
 )
 row {script} {limits} {front} b (Entry.Clock zero to) = (
-  λ may. record { order = tt; time = (subst (λ time. time < to) (clock-told script limits 0 front b.good b.before) may.0, may.1); fresh = tt; uses = tt; passes = tt; chooses = tt; alone = tt; adds_up = tt },
+  λ may. record { order = tt; time = (subst (λ time. time < to) (clock-told script limits 0 front b.good b.before) may.0, may.1); fresh = tt; uses = tt; passes = tt; chooses = tt; alone = tt; adds_up = tt; signals = tt },
   λ o. (subst (λ time. time < to) (sym (clock-told script limits 0 front b.good b.before)) o.time.0, o.time.1),
 )
 row b (Entry.Clock (suc world) to) = (λ may. absurd may, λ o. o.time)
 row {script} {limits} {front} b (Entry.Panic p reason) = (
   λ may.
       let at : Misuses script front (stands_told script p.g front) p.case_no reason = may-told script limits p reason front b.good b.before may in
-      record { order = ap (λ (o : Option Instr). is_some o) at.stands; time = tt; fresh = tt; uses = (at.instr, at.stands, at.is); passes = tt; chooses = tt; alone = tt; adds_up = tt },
+      record { order = ap (λ (o : Option Instr). is_some o) at.stands; time = tt; fresh = tt; uses = (at.instr, at.stands, at.is); passes = tt; chooses = tt; alone = tt; adds_up = tt; signals = tt },
   λ o. told-may script limits p reason front b.good b.before (record { instr = o.uses.0; stands = o.uses.1; is = o.uses.2 }),
 )
-row b (Entry.Finish outcome) = (λ may. record { order = tt; time = tt; fresh = tt; uses = tt; passes = tt; chooses = tt; alone = tt; adds_up = tt }, λ o. tt)
+row b (Entry.Finish outcome) = (λ may. record { order = tt; time = tt; fresh = tt; uses = tt; passes = tt; chooses = tt; alone = tt; adds_up = tt; signals = tt }, λ o. tt)

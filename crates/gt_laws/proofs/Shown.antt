@@ -2,6 +2,7 @@
 use Rattle.std.proofs.Common.{◌≡◌, ◌≢◌, ℕ, zero, suc, ◌+◌, ◌<◌, ◌==◌, List, [], ◌∷◌, length, map, set, slice_index, refl, sym, ap, subst, ◌∙◌, arith, if◌then◌else◌, Option, None, Some, Bool, true, false, is_some, IfSome, unwrap_or}
 use Rattle.gt_model.specs.declared.script.Script.{Script}
 use Rattle.gt_model.specs.declared.script.Decl.{Decl}
+use Rattle.gt_model.specs.declared.script.Instr.{Instr}
 use Rattle.gt_model.specs.declared.entry.Entry.{Entry}
 use Rattle.gt_model.specs.declared.entry.Limits.{Limits}
 use Rattle.gt_model.specs.declared.state.Timer.{Timer}
@@ -12,13 +13,14 @@ use Rattle.gt_rules.specs.State.{State, clock, timer_at, due_of}
 use Rattle.gt_rules.specs.declared.change.Move.{Move}
 use Rattle.gt_rules.specs.declared.change.Setting.{Setting}
 use Rattle.gt_rules.specs.Change.{Change, change_of}
-use Rattle.gt_rules.specs.After.{after, first_state, option_or, with_mover, retimed, with_retimed, with_clock, set_due, set_again}
+use Rattle.gt_rules.specs.After.{after, first_state, option_or, with_mover, with_signalled, retimed, with_retimed, with_clock, set_due, set_again}
 use Rattle.gt_rules.specs.Finish.{Legal}
 use Rattle.gt_rules.specs.History.{AllLegal, state_after}
 use Rattle.gt_model.proofs.Items.{at-set_same, at-set_other, at-change_same, at-change_other}
 use Rattle.gt_facts.specs.Formed.{IsFormed}
 use Rattle.gt_facts.proofs.Formed.{formed-first, formed-Legal, length-movers, length-starts}
 use Rattle.gt_facts.proofs.Fits.{Fits, FitsTimer, fits-Legal}
+use Rattle.gt_facts.proofs.Suspended.{signals-other, length-signalled}
 use Rattle.gt_laws.specs.Told.{told, clock_by, clock_told, due_set, due_by, due_told, makes, made_by, made_told, ending_by, ending_told, entries_by, entries_told, started_told}
 use Rattle.gt_laws.specs.Told as told
 use Rattle.gt_laws.proofs.Numbers.{by-number}
@@ -31,6 +33,7 @@ AreTwo mover partner = IfSome partner (λ (p : ℕ × Move). IfSome mover (λ (m
 
 pub two-Legal : (script : Script) (limits : Limits) (s : State) (e : Entry) → Legal script limits s e → AreTwo (change_of e).mover (change_of e).partner
 two-Legal script limits s (Entry.Pair from to c v) legal = λ same. legal.1.4 (sym same)
+two-Legal script limits s (Entry.Signal g k (Some h)) legal = signals-other script s g h k (Instr.Signal k) legal.1.0.stands legal.1.1
 two-Legal script limits s _ legal = tt
 
 pub shown-from : {V : Type 0} (script : Script) (limits : Limits) (show : State → V) (by : V → Change → V)
@@ -67,8 +70,10 @@ entries-told script limits = shown-told script limits (λ (s : State). s.entries
 pub started-told : (script : Script) (limits : Limits) (h : List Entry) → IsGood script → AllLegal script limits (first_state script) h
     → length (state_after script (first_state script) h).goroutines ≡ started_told h
 started-told script limits = shown-told script limits (λ (s : State). length s.goroutines) told.started_by 1
-    (λ s e formed fits two. length-starts script s (with_mover script (with_mover script s.goroutines (change_of e).mover) (change_of e).partner) (change_of e).starts
-    ∙ ap (λ n. n + length (change_of e).starts) (length-movers script s.goroutines (change_of e).mover (change_of e).partner)) refl
+    (λ s e formed fits two. length-starts script s (with_signalled (with_mover script (with_mover script s.goroutines (change_of e).mover) (change_of e).partner) (change_of e).broadcast) (change_of e).starts
+    ∙ ap (λ n. n + length (change_of e).starts)
+    (length-signalled (with_mover script (with_mover script s.goroutines (change_of e).mover) (change_of e).partner) (change_of e).broadcast
+    ∙ length-movers script s.goroutines (change_of e).mover (change_of e).partner)) refl
 
 -- ---- clocks
 

@@ -1,44 +1,25 @@
 -- Of a mutex the entries of a history tell whether somebody has it, and of a WaitGroup its counter.
-use Rattle.std.proofs.Common.{◌≡◌, ◌≢◌, ℕ, zero, suc, ◌<◌, ◌==◌, List, [], ◌∷◌, length, map, slice_index_or, refl, sym, ap, subst, ◌∙◌, arith, if◌then◌else◌, Option, None, Some, IsTrue, IfSome}
+use Rattle.std.proofs.Common.{◌≡◌, ◌≢◌, ℕ, zero, suc, ◌<◌, ◌==◌, List, [], ◌∷◌, length, map, slice_index_or, refl, ap, subst, ◌∙◌, arith, if◌then◌else◌, Option, None, Some, Bool, true, false, IfSome}
 use Rattle.gt_model.specs.declared.script.Script.{Script}
 use Rattle.gt_model.specs.declared.script.Decl.{Decl}
-use Rattle.gt_model.specs.declared.script.Instr.{Instr}
 use Rattle.gt_model.specs.declared.entry.Entry.{Entry}
 use Rattle.gt_model.specs.declared.entry.Limits.{Limits}
 use Rattle.gt_model.specs.declared.state.SyncState.{SyncState}
 use Rattle.gt_model.specs.Good.{IsGood}
-use Rattle.gt_model.specs.Script.{is_mutex, is_wg}
+use Rattle.gt_model.specs.Script.{mutex_of}
 use Rattle.gt_model.specs.Tables.{change}
-use Rattle.gt_model.proofs.Declared.{mutex_declared, wg_declared}
-use Rattle.gt_rules.specs.State.{State, sync_at, is_locked, counter_of, unused, world_of}
+use Rattle.gt_rules.specs.State.{State, is_locked, counter_of, unused, world_of}
 use Rattle.gt_rules.specs.declared.change.Move.{Move}
 use Rattle.gt_rules.specs.declared.change.SyncStep.{SyncStep}
-use Rattle.gt_rules.specs.Change.{Change, change_of}
-use Rattle.gt_rules.specs.After.{after, first_state, number_of, stepped, with_stepped}
-use Rattle.gt_rules.specs.Finish.{Legal}
+use Rattle.gt_rules.specs.Change.{change_of}
+use Rattle.gt_rules.specs.After.{first_state, number_of, added, with_lock, owned, counted_on, stepped, with_stepped}
 use Rattle.gt_rules.specs.History.{AllLegal, state_after}
-use Rattle.gt_facts.specs.Formed.{IsFormed}
-use Rattle.gt_facts.proofs.Formed.{formed-first, formed-Legal}
-use Rattle.gt_facts.proofs.Lookups.{names-Does}
-use Rattle.gt_laws.specs.Told.{told, holds, held_by, held_told, adds, counter_by, counter_told}
+use Rattle.gt_facts.proofs.Fits.{FitsSync}
+use Rattle.gt_laws.specs.Told.{mutex_in, holds, held_by, held_told, adds, counter_by, counter_told}
 use Rattle.gt_laws.proofs.Numbers.{by-number}
+use Rattle.gt_laws.proofs.Shown.{shown-told}
 
--- ---- what is changed has its place
-
-mutex-within : (script : Script) (s : State) (m : ℕ) → IsFormed script s → IsTrue (is_mutex script m) → m < length s.syncs
-mutex-within script s m formed h = subst (λ n. m < n) (sym formed.syncs) (mutex_declared script m h)
-
-wg-within : (script : Script) (s : State) (w : ℕ) → IsFormed script s → IsTrue (is_wg script w) → w < length s.syncs
-wg-within script s w formed h = subst (λ n. w < n) (sym formed.syncs) (wg_declared script w h)
-
-syncs-within : (script : Script) (limits : Limits) (s : State) (e : Entry) → IsGood script → IsFormed script s → Legal script limits s e
-    → IfSome (change_of e).sync (λ (x : ℕ × SyncStep). x.0 < length s.syncs)
-syncs-within script limits s (Entry.Lock g m) good formed legal = mutex-within script s m formed (names-Does script s g (Instr.Lock m) good legal.1.0)
-syncs-within script limits s (Entry.Unlock g m) good formed legal = mutex-within script s m formed (names-Does script s g (Instr.Unlock m) good legal.1)
-syncs-within script limits s (Entry.Add g w n) good formed legal = wg-within script s w formed (names-Does script s g (Instr.Add w n) good legal.1).0
-syncs-within script limits s _ good formed legal = tt
-
--- ---- one mutex or WaitGroup
+-- ---- one of them is changed
 
 changed-same : (syncs : List SyncState) (o : ℕ) (f : SyncState → SyncState) → o < length syncs
     → slice_index_or (change syncs o f) o unused ≡ f (slice_index_or syncs o unused)
@@ -54,61 +35,85 @@ changed-other (s ∷ syncs) zero (suc k) f other = refl
 changed-other (s ∷ syncs) (suc o) zero f other = refl
 changed-other (s ∷ syncs) (suc o) (suc k) f other = changed-other syncs o k f (λ e. other (ap suc e))
 
--- what is shown of object k after a step of object o
-stepped-shows : {V : Type 0} (show : SyncState → V) (by : SyncStep → V → V) → ((w : ℕ) (x : SyncStep) (was : SyncState) → show (stepped w x was) ≡ by x (show was))
-    → (s : State) (w o k : ℕ) (x : SyncStep) → o < length s.syncs
-    → show (slice_index_or (change s.syncs o (stepped w x)) k unused) ≡ (if o == k then by x (show (sync_at s k)) else show (sync_at s k))
-stepped-shows show by one s w o k x within =
-    by-number o k (λ b. show (slice_index_or (change s.syncs o (stepped w x)) k unused) ≡ (if b then by x (show (sync_at s k)) else show (sync_at s k)))
-    (λ same. subst (λ j. show (slice_index_or (change s.syncs o (stepped w x)) j unused) ≡ by x (show (sync_at s j))) same
-    (ap show (changed-same s.syncs o (stepped w x) within) ∙ one w x (sync_at s o)))
-    (λ other. ap show (changed-other s.syncs o k (stepped w x) other))
+-- what is shown of object k, after object o is changed so that something else is shown of it
+changed-shows : {V : Type 0} (show : SyncState → V) (by : V → V) (syncs : List SyncState) (o k : ℕ) (f : SyncState → SyncState)
+    → ((was : SyncState) → show (f was) ≡ by (show was)) → o < length syncs
+    → show (slice_index_or (change syncs o f) k unused) ≡ (if o == k then by (show (slice_index_or syncs k unused)) else show (slice_index_or syncs k unused))
+changed-shows show by syncs o k f one within =
+    by-number o k (λ b. show (slice_index_or (change syncs o f) k unused) ≡ (if b then by (show (slice_index_or syncs k unused)) else show (slice_index_or syncs k unused)))
+    (λ same. subst (λ j. show (slice_index_or (change syncs o f) j unused) ≡ by (show (slice_index_or syncs j unused))) same
+    (ap show (changed-same syncs o f within) ∙ one (slice_index_or syncs o unused)))
+    (λ other. ap show (changed-other syncs o k f other))
 
-says-sync : {V : Type 0} (show : SyncState → V) (by : SyncStep → V → V) → ((w : ℕ) (x : SyncStep) (was : SyncState) → show (stepped w x was) ≡ by x (show was))
-    → (s : State) (m : Option (ℕ × Move)) (k : ℕ) (o : Option (ℕ × SyncStep)) → IfSome o (λ (x : ℕ × SyncStep). x.0 < length s.syncs)
-    → show (slice_index_or (with_stepped s m s.syncs o) k unused)
-    ≡ (elim o as (λ o. V) [ None ↦ show (sync_at s k) | Some x ↦ if x.0 == k then by x.1 (show (sync_at s k)) else show (sync_at s k) ])
-says-sync show by one s m k None within = refl
-says-sync show by one s m k (Some x) within = stepped-shows show by one s (world_of s (number_of m)) x.0 k x.1 within
+-- and where the change is none of what is shown
+unseen-shows : {V : Type 0} (show : SyncState → V) (syncs : List SyncState) (o k : ℕ) (f : SyncState → SyncState) → ((was : SyncState) → show (f was) ≡ show was)
+    → show (slice_index_or (change syncs o f) k unused) ≡ show (slice_index_or syncs k unused)
+unseen-shows show [] o k f one = refl
+unseen-shows show (s ∷ syncs) zero zero f one = one s
+unseen-shows show (s ∷ syncs) zero (suc k) f one = refl
+unseen-shows show (s ∷ syncs) (suc o) zero f one = refl
+unseen-shows show (s ∷ syncs) (suc o) (suc k) f one = unseen-shows show syncs o k f one
 
--- ---- what is told
-
-sync-from : {V : Type 0} (script : Script) (limits : Limits) (show : State → V) (by : V → Change → V)
-    → ((s : State) (e : Entry) → IfSome (change_of e).sync (λ (x : ℕ × SyncStep). x.0 < length s.syncs) → show (after script s e) ≡ by (show s) (change_of e))
-    → (s : State) (h : List Entry) → IsGood script → IsFormed script s → AllLegal script limits s h
-    → show (state_after script s h) ≡ told by (show s) h
-sync-from script limits show by one s [] good formed legal = refl
-sync-from script limits show by one s (e ∷ h) good formed legal =
-    sync-from script limits show by one (after script s e) h good (formed-Legal script limits s e good formed legal.0) legal.1
-    ∙ ap (λ v. told by v h) (one s e (syncs-within script limits s e good formed legal.0))
+same-either : {V : Type 0} (b : Bool) (v : V) → v ≡ (if b then v else v)
+same-either true v = refl
+same-either false v = refl
 
 none-used : (decls : List Decl) (k : ℕ) → slice_index_or (map (λ (d : Decl). unused) decls) k unused ≡ unused
 none-used [] k = refl
 none-used (d ∷ ds) zero = refl
 none-used (d ∷ ds) (suc k) = none-used ds k
 
-locked-stepped : (w : ℕ) (x : SyncStep) (was : SyncState) → (stepped w x was).locked ≡ holds x was.locked
-locked-stepped w SyncStep.Locks was = refl
-locked-stepped w SyncStep.Unlocks was = refl
-locked-stepped w (SyncStep.Adds n) was = refl
+-- ---- who has a mutex
 
-counter-stepped : (w : ℕ) (x : SyncStep) (was : SyncState) → (stepped w x was).counter ≡ adds x was.counter
-counter-stepped w SyncStep.Locks was = refl
-counter-stepped w SyncStep.Unlocks was = refl
-counter-stepped w (SyncStep.Adds n) was = refl
+abbrev locked : SyncState → Bool
+locked r = r.locked
+
+locked-stepped : (script : Script) (s : State) (w o m : ℕ) (x : SyncStep) → FitsSync script s o x
+    → locked (slice_index_or (stepped script w s.syncs o x) m unused) ≡ (if mutex_in script o x == m then holds x (is_locked s m) else is_locked s m)
+locked-stepped script s w o m SyncStep.Locks fits = changed-shows locked (λ was. true) s.syncs o m (with_lock true) (λ was. refl) fits.within
+locked-stepped script s w o m SyncStep.Unlocks fits = changed-shows locked (λ was. false) s.syncs o m (with_lock false) (λ was. refl) fits.within
+locked-stepped script s w o m (SyncStep.Adds n) fits =
+    unseen-shows locked s.syncs o m (λ was. owned w (counted_on n was)) (λ was. refl) ∙ same-either (o == m) (is_locked s m)
+locked-stepped script s w o m SyncStep.Releases fits =
+    unseen-shows locked (change s.syncs (mutex_of script o) (with_lock false)) o m (owned w) (λ was. refl)
+    ∙ changed-shows locked (λ was. false) s.syncs (mutex_of script o) m (with_lock false) (λ was. refl) fits.mutex
+locked-stepped script s w o m SyncStep.Retakes fits = changed-shows locked (λ was. true) s.syncs (mutex_of script o) m (with_lock true) (λ was. refl) fits.mutex
+
+says-held : (script : Script) (s : State) (m : Option (ℕ × Move)) (k : ℕ) (o : Option (ℕ × SyncStep)) → IfSome o (λ (x : ℕ × SyncStep). FitsSync script s x.0 x.1)
+    → locked (slice_index_or (with_stepped script s m s.syncs o) k unused)
+    ≡ (elim o as (λ o. Bool) [ None ↦ is_locked s k | Some x ↦ if mutex_in script x.0 x.1 == k then holds x.1 (is_locked s k) else is_locked s k ])
+says-held script s m k None fits = refl
+says-held script s m k (Some x) fits = locked-stepped script s (world_of s (number_of m)) x.0 k x.1 fits
 
 pub held-told : (script : Script) (limits : Limits) (m : ℕ) (h : List Entry) → IsGood script → AllLegal script limits (first_state script) h
-    → is_locked (state_after script (first_state script) h) m ≡ held_told m h
-held-told script limits m h good legal =
-    sync-from script limits (λ (s : State). is_locked s m) (held_by m)
-    (λ s e within. says-sync (λ (r : SyncState). r.locked) holds locked-stepped s (change_of e).mover m (change_of e).sync within)
-    (first_state script) h good (formed-first script good) legal
-    ∙ ap (λ (r : SyncState). told (held_by m) r.locked h) (none-used script.decls m)
+    → is_locked (state_after script (first_state script) h) m ≡ held_told script m h
+held-told script limits m = shown-told script limits (λ (s : State). is_locked s m) (held_by script m) false
+    (λ s e formed fits two. says-held script s (change_of e).mover m (change_of e).sync fits.sync) (ap locked (none-used script.decls m))
+
+-- ---- the counter of a WaitGroup
+
+abbrev count : SyncState → ℕ
+count r = r.counter
+
+count-stepped : (script : Script) (s : State) (w o k : ℕ) (x : SyncStep) → FitsSync script s o x
+    → count (slice_index_or (stepped script w s.syncs o x) k unused) ≡ (if o == k then adds x (counter_of s k) else counter_of s k)
+count-stepped script s w o k SyncStep.Locks fits = unseen-shows count s.syncs o k (with_lock true) (λ was. refl) ∙ same-either (o == k) (counter_of s k)
+count-stepped script s w o k SyncStep.Unlocks fits = unseen-shows count s.syncs o k (with_lock false) (λ was. refl) ∙ same-either (o == k) (counter_of s k)
+count-stepped script s w o k (SyncStep.Adds n) fits =
+    changed-shows count (λ counter. added counter n) s.syncs o k (λ was. owned w (counted_on n was)) (λ was. refl) fits.within
+count-stepped script s w o k SyncStep.Releases fits =
+    unseen-shows count (change s.syncs (mutex_of script o) (with_lock false)) o k (owned w) (λ was. refl)
+    ∙ (unseen-shows count s.syncs (mutex_of script o) k (with_lock false) (λ was. refl) ∙ same-either (o == k) (counter_of s k))
+count-stepped script s w o k SyncStep.Retakes fits =
+    unseen-shows count s.syncs (mutex_of script o) k (with_lock true) (λ was. refl) ∙ same-either (o == k) (counter_of s k)
+
+says-counter : (script : Script) (s : State) (m : Option (ℕ × Move)) (k : ℕ) (o : Option (ℕ × SyncStep)) → IfSome o (λ (x : ℕ × SyncStep). FitsSync script s x.0 x.1)
+    → count (slice_index_or (with_stepped script s m s.syncs o) k unused)
+    ≡ (elim o as (λ o. ℕ) [ None ↦ counter_of s k | Some x ↦ if x.0 == k then adds x.1 (counter_of s k) else counter_of s k ])
+says-counter script s m k None fits = refl
+says-counter script s m k (Some x) fits = count-stepped script s (world_of s (number_of m)) x.0 k x.1 fits
 
 pub counter-told : (script : Script) (limits : Limits) (w : ℕ) (h : List Entry) → IsGood script → AllLegal script limits (first_state script) h
     → counter_of (state_after script (first_state script) h) w ≡ counter_told w h
-counter-told script limits w h good legal =
-    sync-from script limits (λ (s : State). counter_of s w) (counter_by w)
-    (λ s e within. says-sync (λ (r : SyncState). r.counter) adds counter-stepped s (change_of e).mover w (change_of e).sync within)
-    (first_state script) h good (formed-first script good) legal
-    ∙ ap (λ (r : SyncState). told (counter_by w) r.counter h) (none-used script.decls w)
+counter-told script limits w = shown-told script limits (λ (s : State). counter_of s w) (counter_by w) 0
+    (λ s e formed fits two. says-counter script s (change_of e).mover w (change_of e).sync fits.sync) (ap count (none-used script.decls w))

@@ -1,5 +1,5 @@
 -- Each goroutine is where its moves lead through its function's code.
-use Rattle.std.proofs.Common.{◌≡◌, ◌≢◌, ℕ, zero, suc, ◌+◌, ◌<◌, List, [], ◌∷◌, ◌++◌, append-nil, length, refl, sym, ap, subst, ◌∙◌, arith, if◌then◌else◌, slice_get, Option, None, Some, IfSome, option_map, true, false, eqb}
+use Rattle.std.proofs.Common.{◌≡◌, ◌≢◌, ℕ, zero, suc, ◌+◌, ◌<◌, List, [], ◌∷◌, ◌++◌, append-nil, length, refl, sym, ap, subst, ◌∙◌, arith, cond, if◌then◌else◌, slice_get, ◌==◌, Option, None, Some, IfSome, option_map, true, false, eqb}
 use Rattle.std.proofs.lemmas.Bool.{eqb-true, eqb-false}
 use Rattle.std.proofs.lemmas.Option.{slice_get_past}
 use Rattle.gt_model.specs.declared.script.Script.{Script}
@@ -21,16 +21,16 @@ use Rattle.gt_rules.specs.State.{State, goroutine_at}
 use Rattle.gt_rules.specs.declared.change.Move.{Move}
 use Rattle.gt_rules.specs.declared.change.Start.{Start}
 use Rattle.gt_rules.specs.Change.{change_of}
-use Rattle.gt_rules.specs.After.{after, begun, first_state, moved, started_by, with_mover, with_starts}
+use Rattle.gt_rules.specs.After.{after, begun, first_state, moved, signalled, started_by, with_mover, with_signalled, with_starts}
 use Rattle.gt_rules.specs.History.{AllLegal, History, state_after}
 use Rattle.gt_facts.specs.Formed.{IsFormed, IsPlacedIn}
 use Rattle.gt_facts.proofs.Fits.{Fits, IsLive, fits-Legal}
-use Rattle.gt_facts.proofs.Formed.{formed-first, formed-Legal}
+use Rattle.gt_facts.proofs.Formed.{formed-first, formed-Legal, placed_inside}
 use Rattle.gt_laws.specs.Told.{ToldGoroutine, place_of, told}
 use Rattle.gt_laws.specs.Laws.{AtEach}
 use Rattle.gt_laws.specs.Unrolled.{InTurn, led_by, moved_by, moved_with, moves_told, turn_of}
 use Rattle.gt_laws.proofs.Comes.{Comes, each}
-use Rattle.gt_laws.proofs.Everyone.{goroutine-told, place_in, shown}
+use Rattle.gt_laws.proofs.Everyone.{goroutine-told, numbered-map, place_in, shown}
 use Rattle.gt_laws.proofs.GoesOn.{reached}
 use Rattle.gt_laws.proofs.Numbers.{by-number}
 use Rattle.gt_laws.proofs.Shown.{AreTwo, two-Legal}
@@ -84,6 +84,8 @@ turn-first script f =
 abbrev IsThere : Script → List ℕ → Place → Mode → Type 0
 IsThere script moves place Mode.At = IsTurn script place moves
 IsThere script moves place (Mode.Sleeping until) = IsTurn script place moves × (silent_at (code_of script place.func) place ≡ None)
+IsThere script moves place (Mode.Suspended k) = IsTurn script place moves × (silent_at (code_of script place.func) place ≡ None)
+IsThere script moves place (Mode.Relocking k) = IsTurn script place moves × (silent_at (code_of script place.func) place ≡ None)
 IsThere script moves place Mode.Ended = Unit {0}
 
 -- nobody has moved before it is started
@@ -95,17 +97,30 @@ HasDone script moves (Some r) = IsThere script moves r.place r.mode
 turn-stays : (script : Script) (place : Place) (moves : List ℕ) → IsTurn script place moves → IsTurn script place (moves ++ [])
 turn-stays script place moves turn = subst (IsTurn script place) (sym (append-nil moves)) turn
 
+-- where somebody is that lives, its turn is
+there-turn : (script : Script) (moves : List ℕ) (place : Place) (mode : Mode) → (mode ≡ Mode.Ended → ⊥) → IsPlacedIn (code_of script place.func) place mode
+    → IsThere script moves place mode → IsTurn script place moves × (silent_at (code_of script place.func) place ≡ None)
+there-turn script moves place Mode.At live placed there = (there, placed.1)
+there-turn script moves place (Mode.Sleeping until) live placed there = there
+there-turn script moves place (Mode.Suspended k) live placed there = there
+there-turn script moves place (Mode.Relocking k) live placed there = there
+there-turn script moves place Mode.Ended live placed there = absurd (live refl)
+
+-- who waits where its turn is has made no move
+stays : (script : Script) (place : Place) (moves : List ℕ) → IsTurn script place moves × (silent_at (code_of script place.func) place ≡ None)
+    → IsTurn script place (moves ++ []) × (silent_at (code_of script place.func) place ≡ None)
+stays script place moves turn = (turn-stays script place moves turn.0, turn.1)
+
 moved-done : (script : Script) (m : Move) (w : ℕ) (moves : List ℕ) (place : Place) (mode : Mode) → (mode ≡ Mode.Ended → ⊥) → IsPlacedIn (code_of script place.func) place mode
     → IsThere script moves place mode → HasDone script (moves ++ led_by m) (Some (moved script m (record { world = w; place = place; mode = mode })))
-moved-done script m w moves place Mode.Ended live placed there = absurd (live refl)
-moved-done script (Move.GoesOn case_no) w moves place Mode.At live placed there = turn-next script place moves case_no there placed.0.within placed.1
-moved-done script (Move.FallsAsleep until) w moves place Mode.At live placed there = (turn-stays script place moves there, placed.1)
-moved-done script Move.Ends w moves place Mode.At live placed there = tt
-moved-done script Move.Panics w moves place Mode.At live placed there = turn-stays script place moves there
-moved-done script (Move.GoesOn case_no) w moves place (Mode.Sleeping until) live placed there = turn-next script place moves case_no there.0 placed.0.within there.1
-moved-done script (Move.FallsAsleep later) w moves place (Mode.Sleeping until) live placed there = (turn-stays script place moves there.0, there.1)
-moved-done script Move.Ends w moves place (Mode.Sleeping until) live placed there = tt
-moved-done script Move.Panics w moves place (Mode.Sleeping until) live placed there = (turn-stays script place moves there.0, there.1)
+moved-done script (Move.GoesOn case_no) w moves place mode live placed there =
+    let turn = there-turn script moves place mode live placed there in
+    turn-next script place moves case_no turn.0 (placed_inside (code_of script place.func) place mode placed).within turn.1
+moved-done script (Move.FallsAsleep until) w moves place mode live placed there = stays script place moves (there-turn script moves place mode live placed there)
+moved-done script (Move.Suspends k) w moves place mode live placed there = stays script place moves (there-turn script moves place mode live placed there)
+moved-done script (Move.Relocks k) w moves place mode live placed there = stays script place moves (there-turn script moves place mode live placed there)
+moved-done script Move.Ends w moves place mode live placed there = tt
+moved-done script Move.Panics w moves place mode live placed there = subst (λ ms. IsThere script ms place mode) (sym (append-nil moves)) there
 
 -- ---- all goroutines
 
@@ -144,6 +159,26 @@ movers-done script s n m (Some p) formed live alive two all =
     mover-done script s (λ g. moved_with g (n g) m) (with_mover script s.goroutines m) p who formed (unmoved script s.goroutines m p.0 two ∙ who.there)
     (first-moved script s n m formed live all)
 
+-- ---- who is signalled by a broadcast stays where it is
+
+one-signalled : (script : Script) (moves : List ℕ) (k w : ℕ) (place : Place) (mode : Mode) → HasDone script moves (Some (record { world = w; place = place; mode = mode }))
+    → HasDone script moves (Some (signalled k (record { world = w; place = place; mode = mode })))
+one-signalled script moves k w place (Mode.Suspended at) there =
+    elim (at == k) as (λ b. HasDone script moves (Some (cond b (record { world = w; place = place; mode = Mode.Relocking k }) (record { world = w; place = place; mode = Mode.Suspended at })))) [
+      | true ↦ there
+      | false ↦ there
+    ]
+one-signalled script moves k w place _ there = there
+
+signalled-there : (script : Script) (moves : List ℕ) (k : ℕ) (o : Option Goroutine) → HasDone script moves o → HasDone script moves (option_map (signalled k) o)
+signalled-there script moves k None done = done
+signalled-there script moves k (Some r) done = one-signalled script moves k r.world r.place r.mode done
+
+signalled-done : (script : Script) (n : ℕ → List ℕ) (gs : List Goroutine) (o : Option ℕ) → AllDone script n gs → AllDone script n (with_signalled gs o)
+signalled-done script n gs None all g = all g
+signalled-done script n gs (Some k) all g =
+    subst (HasDone script (n g)) (sym (numbered-map (signalled k) gs g)) (signalled-there script (n g) k (numbered gs g) (all g))
+
 -- ---- who is started
 
 push-done : (script : Script) (n : ℕ → List ℕ) (gs : List Goroutine) (r : Goroutine) → HasDone script [] (Some r) → AllDone script n gs → AllDone script n (gs ++ r ∷ [])
@@ -178,8 +213,10 @@ after-done : (script : Script) (s : State) (n : ℕ → List ℕ) (e : Entry) �
     → AreTwo (change_of e).mover (change_of e).partner → AllDone script n s.goroutines
     → AllDone script (λ g. moved_by g (n g) (change_of e)) (after script s e).goroutines
 after-done script s n e formed fits two all =
-    starts-done script s (λ g. moved_by g (n g) (change_of e)) (with_mover script (with_mover script s.goroutines (change_of e).mover) (change_of e).partner) (change_of e).starts
-    (movers-done script s n (change_of e).mover (change_of e).partner formed fits.mover fits.partner two all)
+    let gs : List Goroutine = with_mover script (with_mover script s.goroutines (change_of e).mover) (change_of e).partner in
+    starts-done script s (λ g. moved_by g (n g) (change_of e)) (with_signalled gs (change_of e).broadcast) (change_of e).starts
+    (signalled-done script (λ g. moved_by g (n g) (change_of e)) gs (change_of e).broadcast
+    (movers-done script s n (change_of e).mover (change_of e).partner formed fits.mover fits.partner two all))
 
 record IsDone (script : Script) (s : State) (n : ℕ → List ℕ) : Type 0 where
   formed : IsFormed script s
@@ -213,6 +250,8 @@ there-stands : (script : Script) (moves : List ℕ) (p : Place) (mode : Mode) �
     → Stands script moves (place_in p mode)
 there-stands script moves p Mode.At good placed there = turn-stands script moves p good there placed.1
 there-stands script moves p (Mode.Sleeping until) good placed there = turn-stands script moves p good there.0 there.1
+there-stands script moves p (Mode.Suspended k) good placed there = turn-stands script moves p good there.0 there.1
+there-stands script moves p (Mode.Relocking k) good placed there = turn-stands script moves p good there.0 there.1
 there-stands script moves p Mode.Ended good placed there = tt
 
 in-turn : (script : Script) (limits : Limits) (front : List Entry) (e : Entry) → Comes script limits front e → InTurn script front e

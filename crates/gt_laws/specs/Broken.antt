@@ -369,7 +369,50 @@ for_another_case = Entry.Make 1 1 ∷ Entry.Panic (record { g = 1; case_no = 1 }
 abbrev pub for_no_close : List Entry
 for_no_close = Entry.Make 1 1 ∷ Entry.Go 1 2 1 ∷ Entry.Panic (record { g = 2; case_no = 1 }) Reason.Closed ∷ []
 
--- ---- mutexes and WaitGroups: their laws look at the entries alone
+-- ---- mutexes, Conds and WaitGroups
+
+-- func main / mutex m / cond k m / go f / lock m / cwait k / unlock m / end; func f / lock m / signal k / signal k / unlock m / end
+abbrev pub one_cond : Script
+one_cond = record {
+  decls = (record { name = codes "main"; what = What.Function }) ∷ (record { name = codes "m"; what = What.Mutex }) ∷ (record { name = codes "k"; what = What.Cond 1 })
+      ∷ (record { name = codes "f"; what = What.Function }) ∷ [];
+  funcs = (record { decl = 0; code = Instr.Go 1 ∷ Instr.Lock 1 ∷ Instr.CWait 2 ∷ Instr.Unlock 1 ∷ Instr.Finish ∷ [] })
+      ∷ (record { decl = 3; code = Instr.Lock 1 ∷ Instr.Signal 2 ∷ Instr.Signal 2 ∷ Instr.Unlock 1 ∷ Instr.Finish ∷ [] }) ∷ [];
+  main = 0;
+}
+
+-- main waits at the Cond, and f has the mutex; then f signals main
+abbrev pub waits : List Entry
+waits = Entry.Go 1 2 1 ∷ Entry.Lock 1 1 ∷ Entry.CondWait 1 2 ∷ Entry.Lock 2 1 ∷ []
+
+abbrev pub is_signalled : List Entry
+is_signalled = waits ++ Entry.Signal 2 2 (Some 1) ∷ []
+
+-- f signals nobody, though main waits; it signals main, which was signalled before; its broadcast says that two were waiting
+abbrev pub nobody_signalled : List Entry
+nobody_signalled = waits ++ Entry.Signal 2 2 None ∷ []
+
+abbrev pub signalled_twice : List Entry
+signalled_twice = is_signalled ++ Entry.Signal 2 2 (Some 1) ∷ []
+
+abbrev pub miscounted : List Entry
+miscounted = waits ++ Entry.Broadcast 2 2 2 ∷ []
+
+-- main goes on behind its wait without a signal; it does so twice; it has the mutex, which f has; it waits without the mutex
+abbrev pub wakes_unsignalled : List Entry
+wakes_unsignalled = Entry.Go 1 2 1 ∷ Entry.Lock 1 1 ∷ Entry.CondWait 1 2 ∷ Entry.CondWake 1 2 ∷ []
+
+abbrev pub is_woken : List Entry
+is_woken = is_signalled ++ Entry.Unlock 2 1 ∷ Entry.CondWake 1 2 ∷ []
+
+abbrev pub wakes_twice : List Entry
+wakes_twice = is_woken ++ Entry.CondWake 1 2 ∷ []
+
+abbrev pub woken_over_a_lock : List Entry
+woken_over_a_lock = is_signalled ++ Entry.CondWake 1 2 ∷ []
+
+abbrev pub without_a_lock : List Entry
+without_a_lock = Entry.Go 1 2 1 ∷ Entry.CondWait 1 2 ∷ []
 
 -- mutex 1 is locked by two; and unlocked where it is free
 abbrev pub two_hold : List Entry

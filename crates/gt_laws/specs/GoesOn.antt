@@ -10,13 +10,13 @@ use Rattle.gt_model.specs.declared.script.Place.{Place}
 use Rattle.gt_model.specs.declared.script.What.{What}
 use Rattle.gt_model.specs.declared.entry.Entry.{Entry}
 use Rattle.gt_model.specs.declared.entry.Reason.{Reason}
-use Rattle.gt_model.specs.Script.{is_func, is_chan, instr_at, what_at, capacity_of}
+use Rattle.gt_model.specs.Script.{is_func, is_chan, instr_at, what_at, mutex_of, capacity_of}
 use Rattle.gt_model.specs.declared.script.Case.{Case}
 use Rattle.gt_model.specs.declared.script.CaseKind.{CaseKind}
 use Rattle.gt_rules.specs.Operations.{offers, polls, receives_from, sends_to}
 use Rattle.gt_rules.specs.Panics.{when, or_else, zero_ticker, falls_below}
 use Rattle.gt_rules.specs.Ready.{is_due}
-use Rattle.gt_laws.specs.Told.{ToldGoroutine, ToldTimer, Wait, awake, asleep, clock_told, due_told, made_told, opened_told, closed_told, sent_told, taken_told, held_told, counter_told, everyone_told, now_told, place_told, wait_told, owner_told, until_in, stands_in}
+use Rattle.gt_laws.specs.Told.{ToldGoroutine, ToldTimer, Wait, awake, asleep, suspended, signalled, clock_told, due_told, made_told, opened_told, closed_told, sent_told, taken_told, held_told, counter_told, everyone_told, now_told, place_told, wait_told, owner_told, until_in, stands_in}
 
 -- the misuse of a case's object, which was not made. That a channel is closed is none before its send is chosen
 abbrev pub case_misuse : List Entry → CaseKind → Option Reason
@@ -33,7 +33,7 @@ misused_from front n [] = n
 misused_from front n (c ∷ cases) = cond (is_some (case_misuse front c.kind)) n (misused_from front (n + 1) cases)
 
 -- the misuse of an instruction here: a timer or a channel is made once, and used where it was made; a ticker has a time between its ticks; nothing is sent to
--- a channel that was closed, and it is closed once; a mutex is unlocked where it is locked; nothing brings a counter below 0
+-- a channel that was closed, and it is closed once; a mutex is unlocked where it is locked, and who waits at a Cond unlocks one; nothing brings a counter below 0
 abbrev pub misuse_told : Script → List Entry → Instr → Option Reason
 misuse_told script front (Instr.Say n) = None
 misuse_told script front Instr.Now = None
@@ -47,7 +47,10 @@ misuse_told script front (Instr.Make c) = when (opened_told c front) Reason.Twic
 misuse_told script front (Instr.Send c v) = or_else (when (not (opened_told c front)) Reason.Unmade) (when (closed_told c front) Reason.Closed)
 misuse_told script front (Instr.Close c) = or_else (when (not (opened_told c front)) Reason.Unmade) (when (closed_told c front) Reason.Closed)
 misuse_told script front (Instr.Lock m) = None
-misuse_told script front (Instr.Unlock m) = when (not (held_told m front)) Reason.Unlocked
+misuse_told script front (Instr.Unlock m) = when (not (held_told script m front)) Reason.Unlocked
+misuse_told script front (Instr.CWait k) = when (not (held_told script (mutex_of script k) front)) Reason.Unlocked
+misuse_told script front (Instr.Signal k) = None
+misuse_told script front (Instr.Broadcast k) = None
 misuse_told script front (Instr.Add w n) = when (falls_below (counter_told w front) n) Reason.Negative
 misuse_told script front (Instr.Wait w) = None
 misuse_told script front (Instr.Select cases default_to) = choice_misuse front cases
@@ -91,19 +94,20 @@ partner_told script front g test = list_any (is_partner_told script front g test
 
 -- whether a receive gives something by itself at this time: of a timer its due value, of a channel the next value, or nothing more where it was closed.
 -- A mutex gives itself where nobody has it, and a WaitGroup where its counter is 0
-abbrev pub gives_told : List Entry → ℕ → ℕ → Option What → Bool
-gives_told front now o None = false
-gives_told front now o (Some What.Timer) = is_due (due_told o front) now
-gives_told front now o (Some What.Ticker) = is_due (due_told o front) now
-gives_told front now o (Some (What.AfterFunc func)) = false
-gives_told front now o (Some (What.Chan cap)) = nat_lt (taken_told o front) (length (sent_told o front)) || closed_told o front
-gives_told front now o (Some What.Mutex) = not (held_told o front)
-gives_told front now o (Some What.Wg) = counter_told o front == 0
-gives_told front now o (Some What.Function) = false
+abbrev pub gives_told : Script → List Entry → ℕ → ℕ → Option What → Bool
+gives_told script front now o None = false
+gives_told script front now o (Some What.Timer) = is_due (due_told o front) now
+gives_told script front now o (Some What.Ticker) = is_due (due_told o front) now
+gives_told script front now o (Some (What.AfterFunc func)) = false
+gives_told script front now o (Some (What.Chan cap)) = nat_lt (taken_told o front) (length (sent_told o front)) || closed_told o front
+gives_told script front now o (Some What.Mutex) = not (held_told script o front)
+gives_told script front now o (Some What.Wg) = counter_told o front == 0
+gives_told script front now o (Some (What.Cond mutex)) = false
+gives_told script front now o (Some What.Function) = false
 
 -- whether an operation can go on by itself at this time, with a partner, and at all, by goroutine g
 abbrev pub alone_told : Script → List Entry → ℕ → CaseKind → Bool
-alone_told script front now (CaseKind.Recv o) = gives_told front now o (what_at script o)
+alone_told script front now (CaseKind.Recv o) = gives_told script front now o (what_at script o)
 alone_told script front now (CaseKind.Send c v) = closed_told c front || nat_lt (length (sent_told c front)) (capacity_of script c + taken_told c front)
 
 abbrev pub meets_told : Script → List Entry → ℕ → CaseKind → Bool
@@ -128,6 +132,9 @@ can_be_done script front g now (Instr.Send c v) = can_operate script front g now
 can_be_done script front g now (Instr.Close c) = true
 can_be_done script front g now (Instr.Lock m) = can_operate script front g now (CaseKind.Recv m)
 can_be_done script front g now (Instr.Unlock m) = true
+can_be_done script front g now (Instr.CWait k) = true
+can_be_done script front g now (Instr.Signal k) = true
+can_be_done script front g now (Instr.Broadcast k) = true
 can_be_done script front g now (Instr.Add w n) = true
 can_be_done script front g now (Instr.Wait w) = can_operate script front g now (CaseKind.Recv w)
 can_be_done script front g now (Instr.LoopTop depth count past) = false
@@ -140,10 +147,13 @@ abbrev pub goes_on_at : Script → List Entry → ℕ → ℕ → Option Instr �
 goes_on_at script front g now None = false
 goes_on_at script front g now (Some i) = is_some (misuse_told script front i) || can_be_done script front g now i
 
--- who sleeps goes on where its time has come, and who is awake where it stands at a misuse or at what can be done
+-- who sleeps goes on where its time has come, who was signalled at a Cond where nobody has the mutex, and who is awake where it stands at a misuse or at what
+-- can be done
 abbrev pub goes_on_in : Script → List Entry → ℕ → ℕ → Option Place → Wait → Bool
 goes_on_in script front g now place awake = goes_on_at script front g now (option_and_then (instr_at script) place)
 goes_on_in script front g now place (asleep until) = nat_le until now
+goes_on_in script front g now place (suspended k) = false
+goes_on_in script front g now place (signalled k) = not (held_told script (mutex_of script k) front)
 
 abbrev pub goes_on_told : Script → ℕ → List Entry → Bool
 goes_on_told script g front = goes_on_in script front g (now_told script g front) (place_told script g front) (wait_told script g front)

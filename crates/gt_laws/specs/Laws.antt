@@ -7,10 +7,10 @@ use Rattle.gt_model.specs.declared.script.Script.{Script}
 use Rattle.gt_model.specs.declared.script.Instr.{Instr}
 use Rattle.gt_model.specs.declared.entry.Entry.{Entry}
 use Rattle.gt_model.specs.declared.entry.Party.{Party}
-use Rattle.gt_model.specs.Script.{is_timer, is_ticker, is_func, is_chan, is_mutex, is_wg, capacity_of}
+use Rattle.gt_model.specs.Script.{is_timer, is_ticker, is_func, is_chan, is_mutex, is_wg, mutex_of, capacity_of}
 use Rattle.gt_model.specs.Times.{greatest_time}
 use Rattle.gt_rules.specs.Legal.{due_at, sleep_end, LeavesBy}
-use Rattle.gt_laws.specs.Told.{clock_told, due_told, made_told, opened_told, closed_told, sent_told, taken_told, held_told, counter_told, now_told, owner_told, period_told, stands_told, operation_told, polls_told, started_told, until_told}
+use Rattle.gt_laws.specs.Told.{suspended, signalled, clock_told, due_told, made_told, opened_told, closed_told, sent_told, taken_told, held_told, counter_told, now_told, owner_told, period_told, stands_told, operation_told, polls_told, started_told, until_told, wait_told, suspended_told}
 use Rattle.gt_model.specs.declared.entry.Reason.{Reason}
 use Rattle.gt_model.specs.declared.script.CaseKind.{CaseKind}
 use Rattle.gt_rules.specs.Operations.{operation, offers}
@@ -43,6 +43,10 @@ InTime script front (Entry.Close g c) = Unit {0}
 InTime script front (Entry.Default g) = Unit {0}
 InTime script front (Entry.Lock g m) = Unit {0}
 InTime script front (Entry.Unlock g m) = Unit {0}
+InTime script front (Entry.CondWait g k) = Unit {0}
+InTime script front (Entry.CondWake g k) = Unit {0}
+InTime script front (Entry.Signal g k woken) = Unit {0}
+InTime script front (Entry.Broadcast g k count) = Unit {0}
 InTime script front (Entry.Add g w n) = Unit {0}
 InTime script front (Entry.WgWait g w) = Unit {0}
 InTime script front (Entry.Clock zero to) = (clock_told 0 front < to) × (to ≤ greatest_time)
@@ -78,6 +82,10 @@ IsFresh script front (Entry.Close g c) = Unit {0}
 IsFresh script front (Entry.Default g) = Unit {0}
 IsFresh script front (Entry.Lock g m) = Unit {0}
 IsFresh script front (Entry.Unlock g m) = Unit {0}
+IsFresh script front (Entry.CondWait g k) = Unit {0}
+IsFresh script front (Entry.CondWake g k) = Unit {0}
+IsFresh script front (Entry.Signal g k woken) = Unit {0}
+IsFresh script front (Entry.Broadcast g k count) = Unit {0}
 IsFresh script front (Entry.Add g w n) = Unit {0}
 IsFresh script front (Entry.WgWait g w) = Unit {0}
 IsFresh script front (Entry.Clock world to) = Unit {0}
@@ -88,7 +96,8 @@ IsFresh script front (Entry.Finish outcome) = Unit {0}
 -- that is awake, and who wakes was asleep. Only AfterFunc timers fire. Who is started has the next number, so no number is given twice. A sleep ends,
 -- and a setting is due, as long after the goroutine's clock as the instruction says. A plain call has the case number 0, and the call of a case the number
 -- of the case, from 1. A default is that of a choice. The value of a timer comes from a timer, that of a channel from a channel; what is locked is a mutex, and
--- what is waited for a WaitGroup. Where a value passes from one goroutine to another, these are two, who stand at the send and at the receive
+-- what is waited for a WaitGroup. Where a value passes from one goroutine to another, these are two, who stand at the send and at the receive. Who waits at a
+-- Cond goes on once it was signalled there: so each wake-up answers one signal or broadcast that came after its wait
 abbrev pub InOrder : Script → List Entry → Entry → Type 0
 InOrder script front (Entry.Say g n) = stands_told script g front ≡ Some (Instr.Say n)
 InOrder script front (Entry.Now g at) = stands_told script g front ≡ Some Instr.Now
@@ -110,6 +119,10 @@ InOrder script front (Entry.Close g c) = stands_told script g front ≡ Some (In
 InOrder script front (Entry.Default g) = IsTrue (polls_told script g front)
 InOrder script front (Entry.Lock g m) = (stands_told script g front ≡ Some (Instr.Lock m)) × IsTrue (is_mutex script m)
 InOrder script front (Entry.Unlock g m) = stands_told script g front ≡ Some (Instr.Unlock m)
+InOrder script front (Entry.CondWait g k) = stands_told script g front ≡ Some (Instr.CWait k)
+InOrder script front (Entry.CondWake g k) = wait_told script g front ≡ signalled k
+InOrder script front (Entry.Signal g k woken) = stands_told script g front ≡ Some (Instr.Signal k)
+InOrder script front (Entry.Broadcast g k count) = stands_told script g front ≡ Some (Instr.Broadcast k)
 InOrder script front (Entry.Add g w n) = stands_told script g front ≡ Some (Instr.Add w n)
 InOrder script front (Entry.WgWait g w) = (stands_told script g front ≡ Some (Instr.Wait w)) × IsTrue (is_wg script w)
 InOrder script front (Entry.Clock world to) = Unit {0}
@@ -133,8 +146,8 @@ IsNoMisuse script front g = misuse_in script front (stands_told script g front) 
 
 -- A call is no misuse, and a panic is one: its goroutine stands at an instruction that is a misuse for this reason, or chooses a case that sends to a
 -- closed channel. So a timer and a channel are made once, and used where they were made; a ticker has a time between its ticks; a channel is closed once, and
--- nothing is sent to it then; a mutex is unlocked where it is locked, and nothing brings the counter of a WaitGroup below 0. Where a choice goes on, each of
--- its cases names what was made
+-- nothing is sent to it then; a mutex is unlocked where it is locked, be it by a wait at a Cond, and nothing brings the counter of a WaitGroup below 0. Where a
+-- choice goes on, each of its cases names what was made
 abbrev pub UsesRightly : Script → List Entry → Entry → Type 0
 UsesRightly script front (Entry.Say g n) = Unit {0}
 UsesRightly script front (Entry.Now g at) = Unit {0}
@@ -155,7 +168,11 @@ UsesRightly script front (Entry.Pair from to c v) =
 UsesRightly script front (Entry.Close g c) = (opened_told c front ≡ true) × (closed_told c front ≡ false)
 UsesRightly script front (Entry.Default g) = IsNoMisuse script front g
 UsesRightly script front (Entry.Lock g m) = Unit {0}
-UsesRightly script front (Entry.Unlock g m) = held_told m front ≡ true
+UsesRightly script front (Entry.Unlock g m) = held_told script m front ≡ true
+UsesRightly script front (Entry.CondWait g k) = held_told script (mutex_of script k) front ≡ true
+UsesRightly script front (Entry.CondWake g k) = Unit {0}
+UsesRightly script front (Entry.Signal g k woken) = Unit {0}
+UsesRightly script front (Entry.Broadcast g k count) = Unit {0}
 UsesRightly script front (Entry.Add g w n) = falls_below (counter_told w front) n ≡ false
 UsesRightly script front (Entry.WgWait g w) = Unit {0}
 UsesRightly script front (Entry.Clock world to) = Unit {0}
@@ -178,6 +195,12 @@ pub data Call : Type 0 where
   -- a mutex is locked, and unlocked
   locks : ℕ → Call
   unlocks : ℕ → Call
+  -- who waits at a Cond unlocks its mutex, and locks it again once it was signalled
+  releases : ℕ → Call
+  retakes : ℕ → Call
+  -- one that waits at a Cond is signalled, if somebody is; and all that wait there, so many
+  signals_one : ℕ → Option ℕ → Call
+  signals_all : ℕ → ℕ → Call
   -- a number is added to the counter of a WaitGroup
   adds_to : ℕ → ℤ → Call
   -- a goroutine goes on behind its wait for a WaitGroup
@@ -205,6 +228,10 @@ call_of (Entry.Close g c) = closes c
 call_of (Entry.Default g) = defaults g
 call_of (Entry.Lock g m) = locks m
 call_of (Entry.Unlock g m) = unlocks m
+call_of (Entry.CondWait g k) = releases k
+call_of (Entry.CondWake g k) = retakes k
+call_of (Entry.Signal g k woken) = signals_one k woken
+call_of (Entry.Broadcast g k count) = signals_all k count
 call_of (Entry.Add g w n) = adds_to w n
 call_of (Entry.WgWait g w) = ends_wait w
 call_of (Entry.Clock world to) = other
@@ -223,6 +250,10 @@ CallPassesOn script front (closes c) = Unit {0}
 CallPassesOn script front (defaults g) = Unit {0}
 CallPassesOn script front (locks m) = Unit {0}
 CallPassesOn script front (unlocks m) = Unit {0}
+CallPassesOn script front (releases k) = Unit {0}
+CallPassesOn script front (retakes k) = Unit {0}
+CallPassesOn script front (signals_one k woken) = Unit {0}
+CallPassesOn script front (signals_all k count) = Unit {0}
 CallPassesOn script front (adds_to w n) = Unit {0}
 CallPassesOn script front (ends_wait w) = Unit {0}
 CallPassesOn script front other = Unit {0}
@@ -244,6 +275,10 @@ CallChoosesRightly script front (closes c) = Unit {0}
 CallChoosesRightly script front (defaults g) = gives_some script front (now_told script g front) (stands_told script g front) ≡ false
 CallChoosesRightly script front (locks m) = Unit {0}
 CallChoosesRightly script front (unlocks m) = Unit {0}
+CallChoosesRightly script front (releases k) = Unit {0}
+CallChoosesRightly script front (retakes k) = Unit {0}
+CallChoosesRightly script front (signals_one k woken) = Unit {0}
+CallChoosesRightly script front (signals_all k count) = Unit {0}
 CallChoosesRightly script front (adds_to w n) = Unit {0}
 CallChoosesRightly script front (ends_wait w) = Unit {0}
 CallChoosesRightly script front other = Unit {0}
@@ -251,21 +286,26 @@ CallChoosesRightly script front other = Unit {0}
 abbrev pub ChoosesRightly : Script → List Entry → Entry → Type 0
 ChoosesRightly script front e = CallChoosesRightly script front (call_of e)
 
--- A mutex is locked only where nobody has it, and unlocked only where it is held. So between a lock and the next unlock nobody else locks it
-abbrev pub CallIsAlone : List Entry → Call → Type 0
-CallIsAlone front (sends c v) = Unit {0}
-CallIsAlone front (receives c v) = Unit {0}
-CallIsAlone front (hands_over from to c v) = Unit {0}
-CallIsAlone front (closes c) = Unit {0}
-CallIsAlone front (defaults g) = Unit {0}
-CallIsAlone front (locks m) = held_told m front ≡ false
-CallIsAlone front (unlocks m) = held_told m front ≡ true
-CallIsAlone front (adds_to w n) = Unit {0}
-CallIsAlone front (ends_wait w) = Unit {0}
-CallIsAlone front other = Unit {0}
+-- A mutex is locked only where nobody has it, and unlocked only where it is held; a wait at a Cond unlocks it, and locks it again at its end. So between a lock
+-- and the next unlock nobody else locks it
+abbrev pub CallIsAlone : Script → List Entry → Call → Type 0
+CallIsAlone script front (sends c v) = Unit {0}
+CallIsAlone script front (receives c v) = Unit {0}
+CallIsAlone script front (hands_over from to c v) = Unit {0}
+CallIsAlone script front (closes c) = Unit {0}
+CallIsAlone script front (defaults g) = Unit {0}
+CallIsAlone script front (locks m) = held_told script m front ≡ false
+CallIsAlone script front (unlocks m) = held_told script m front ≡ true
+CallIsAlone script front (releases k) = held_told script (mutex_of script k) front ≡ true
+CallIsAlone script front (retakes k) = held_told script (mutex_of script k) front ≡ false
+CallIsAlone script front (signals_one k woken) = Unit {0}
+CallIsAlone script front (signals_all k count) = Unit {0}
+CallIsAlone script front (adds_to w n) = Unit {0}
+CallIsAlone script front (ends_wait w) = Unit {0}
+CallIsAlone script front other = Unit {0}
 
-abbrev pub IsAlone : List Entry → Entry → Type 0
-IsAlone front e = CallIsAlone front (call_of e)
+abbrev pub IsAlone : Script → List Entry → Entry → Type 0
+IsAlone script front e = CallIsAlone script front (call_of e)
 
 -- An add does not bring the counter of a WaitGroup below 0, and a wait goes on only where the sum of the adds is 0
 abbrev pub CallAddsUp : List Entry → Call → Type 0
@@ -276,9 +316,35 @@ CallAddsUp front (closes c) = Unit {0}
 CallAddsUp front (defaults g) = Unit {0}
 CallAddsUp front (locks m) = Unit {0}
 CallAddsUp front (unlocks m) = Unit {0}
+CallAddsUp front (releases k) = Unit {0}
+CallAddsUp front (retakes k) = Unit {0}
+CallAddsUp front (signals_one k woken) = Unit {0}
+CallAddsUp front (signals_all k count) = Unit {0}
 CallAddsUp front (adds_to w n) = falls_below (counter_told w front) n ≡ false
 CallAddsUp front (ends_wait w) = counter_told w front ≡ 0
 CallAddsUp front other = Unit {0}
 
 abbrev pub AddsUp : List Entry → Entry → Type 0
 AddsUp front e = CallAddsUp front (call_of e)
+
+-- A signal names one that waits at its Cond, and names nobody exactly where nobody waits there; a broadcast says how many do. Who was signalled waits there no
+-- more: so no signal wakes two, and none is lost while somebody waits
+abbrev pub CallIsSignalled : Script → List Entry → Call → Type 0
+CallIsSignalled script front (sends c v) = Unit {0}
+CallIsSignalled script front (receives c v) = Unit {0}
+CallIsSignalled script front (hands_over from to c v) = Unit {0}
+CallIsSignalled script front (closes c) = Unit {0}
+CallIsSignalled script front (defaults g) = Unit {0}
+CallIsSignalled script front (locks m) = Unit {0}
+CallIsSignalled script front (unlocks m) = Unit {0}
+CallIsSignalled script front (releases k) = Unit {0}
+CallIsSignalled script front (retakes k) = Unit {0}
+CallIsSignalled script front (signals_one k None) = suspended_told script k front ≡ 0
+CallIsSignalled script front (signals_one k (Some g)) = wait_told script g front ≡ suspended k
+CallIsSignalled script front (signals_all k count) = count ≡ suspended_told script k front
+CallIsSignalled script front (adds_to w n) = Unit {0}
+CallIsSignalled script front (ends_wait w) = Unit {0}
+CallIsSignalled script front other = Unit {0}
+
+abbrev pub IsSignalled : Script → List Entry → Entry → Type 0
+IsSignalled script front e = CallIsSignalled script front (call_of e)

@@ -1,5 +1,5 @@
 -- What the entries of a history tell so far, by what each changes: the machine's state is not named here.
-use Rattle.std.specs.Prelude.{ℕ, ◌+◌, ◌==◌, if◌then◌else◌, Bool, true, false, List, [], ◌∷◌, ◌++◌, length, map, set}
+use Rattle.std.specs.Prelude.{ℕ, ◌+◌, ◌==◌, if◌then◌else◌, Bool, true, false, List, [], ◌∷◌, ◌++◌, length, map, set, count_by}
 use Rattle.std.specs.List.{fold}
 use Rattle.std.specs.declared.option.Option.{Option}
 use Rattle.std.specs.declared.option.Option.TheVariants.{None, Some}
@@ -11,7 +11,7 @@ use Rattle.gt_model.specs.declared.script.Place.{Place}
 use Rattle.gt_model.specs.declared.entry.Entry.{Entry}
 use Rattle.gt_model.specs.declared.state.Ending.{Ending}
 use Rattle.gt_model.specs.Tables.{numbered, at, change, change_numbered}
-use Rattle.gt_model.specs.Script.{instr_at, func_of}
+use Rattle.gt_model.specs.Script.{instr_at, func_of, mutex_of}
 use Rattle.gt_model.specs.declared.script.CaseKind.{CaseKind}
 use Rattle.gt_model.specs.declared.entry.Party.{Party}
 use Rattle.gt_rules.specs.Places.{first_place, place_after}
@@ -111,23 +111,35 @@ closed_by k was c = elim c.channel [ None ↦ was | Some x ↦ if x.0 == k then 
 abbrev pub closed_told : ℕ → List Entry → Bool
 closed_told k h = told (closed_by k) false h
 
+-- the mutex that a step locks or unlocks: that of the Cond, where a Cond is named
+abbrev pub mutex_in : Script → ℕ → SyncStep → ℕ
+mutex_in script o SyncStep.Locks = o
+mutex_in script o SyncStep.Unlocks = o
+mutex_in script o (SyncStep.Adds n) = o
+mutex_in script o SyncStep.Releases = mutex_of script o
+mutex_in script o SyncStep.Retakes = mutex_of script o
+
 -- whether somebody has mutex m
 abbrev pub holds : SyncStep → Bool → Bool
 holds SyncStep.Locks was = true
 holds SyncStep.Unlocks was = false
 holds (SyncStep.Adds n) was = was
+holds SyncStep.Releases was = false
+holds SyncStep.Retakes was = true
 
-abbrev pub held_by : ℕ → Bool → Change → Bool
-held_by m was c = elim c.sync [ None ↦ was | Some x ↦ if x.0 == m then holds x.1 was else was ]
+abbrev pub held_by : Script → ℕ → Bool → Change → Bool
+held_by script m was c = elim c.sync [ None ↦ was | Some x ↦ if mutex_in script x.0 x.1 == m then holds x.1 was else was ]
 
-abbrev pub held_told : ℕ → List Entry → Bool
-held_told m h = told (held_by m) false h
+abbrev pub held_told : Script → ℕ → List Entry → Bool
+held_told script m h = told (held_by script m) false h
 
 -- the sum of what was added to WaitGroup w
 abbrev pub adds : SyncStep → ℕ → ℕ
 adds SyncStep.Locks counter = counter
 adds SyncStep.Unlocks counter = counter
 adds (SyncStep.Adds n) counter = added counter n
+adds SyncStep.Releases counter = counter
+adds SyncStep.Retakes counter = counter
 
 abbrev pub counter_by : ℕ → ℕ → Change → ℕ
 counter_by w counter c = elim c.sync [ None ↦ counter | Some x ↦ if x.0 == w then adds x.1 counter else counter ]
@@ -161,6 +173,9 @@ started_told h = told started_by 1 h
 pub data Wait : Type 0 where
   awake : Wait
   asleep : ℕ → Wait
+  -- at a Cond, until it is signalled; and then, until it has the mutex
+  suspended : ℕ → Wait
+  signalled : ℕ → Wait
 
 -- a goroutine: its world, where it is in its code (nowhere after its end), and its wait
 pub record ToldGoroutine : Type 0 where
@@ -186,10 +201,12 @@ abbrev pub wait_of : Option ToldGoroutine → Wait
 wait_of None = awake
 wait_of (Some r) = r.wait
 
--- the instruction at which somebody stands: none where he sleeps, or is nowhere
+-- the instruction at which somebody stands: none where he sleeps or waits at a Cond, or is nowhere
 abbrev pub stands_in : Script → Option Place → Wait → Option Instr
 stands_in script place awake = option_and_then (instr_at script) place
 stands_in script place (asleep until) = None
+stands_in script place (suspended k) = None
+stands_in script place (signalled k) = None
 
 abbrev pub stands_of : Script → Option ToldGoroutine → Option Instr
 stands_of script o = stands_in script (place_of o) (wait_of o)
@@ -210,12 +227,28 @@ world_in (Some r) = r.world
 abbrev pub led : Script → Move → ToldGoroutine → ToldGoroutine
 led script (Move.GoesOn case_no) r = record r { place = option_map (place_after script case_no) r.place; wait = awake }
 led script (Move.FallsAsleep until) r = record r { wait = asleep until }
+led script (Move.Suspends k) r = record r { wait = suspended k }
+led script (Move.Relocks k) r = record r { wait = signalled k }
 led script Move.Ends r = record r { place = None; wait = awake }
 led script Move.Panics r = r
 
 abbrev pub with_led : Script → List ToldGoroutine → Option (ℕ × Move) → List ToldGoroutine
 with_led script rs None = rs
 with_led script rs (Some m) = change_numbered rs m.0 (led script m.1)
+
+-- a broadcast signals all that wait at its Cond
+abbrev pub woken : ℕ → Wait → Wait
+woken k awake = awake
+woken k (asleep until) = asleep until
+woken k (suspended at) = if at == k then signalled k else suspended at
+woken k (signalled at) = signalled at
+
+abbrev pub waken : ℕ → ToldGoroutine → ToldGoroutine
+waken k r = record r { wait = woken k r.wait }
+
+abbrev pub with_woken : List ToldGoroutine → Option ℕ → List ToldGoroutine
+with_woken rs None = rs
+with_woken rs (Some k) = map (waken k) rs
 
 -- who begins stands at the first place of its function
 abbrev pub beginner : Script → ℕ → ℕ → ToldGoroutine
@@ -251,7 +284,7 @@ with_timed script rs m timers (Some x) = timed script rs m x.0 timers x.1
 
 abbrev pub everyone_by : Script → Everyone → Change → Everyone
 everyone_by script all c = record {
-  goroutines = with_led script (with_led script all.goroutines c.mover) c.partner ++ map (begun_by script all) c.starts;
+  goroutines = with_woken (with_led script (with_led script all.goroutines c.mover) c.partner) c.broadcast ++ map (begun_by script all) c.starts;
   timers = with_timed script all.goroutines c.mover all.timers c.timer;
 }
 
@@ -289,9 +322,21 @@ wait_told script g h = wait_of (goroutine_told script g h)
 abbrev pub until_in : Wait → Option ℕ
 until_in awake = None
 until_in (asleep until) = Some until
+until_in (suspended k) = None
+until_in (signalled k) = None
 
 abbrev pub until_told : Script → ℕ → List Entry → Option ℕ
 until_told script g h = until_in (wait_told script g h)
+
+-- how many wait at Cond k until they are signalled
+abbrev pub waits_in : ℕ → Wait → Bool
+waits_in k awake = false
+waits_in k (asleep until) = false
+waits_in k (suspended at) = at == k
+waits_in k (signalled at) = false
+
+abbrev pub suspended_told : Script → ℕ → List Entry → ℕ
+suspended_told script k h = count_by (λ (r : ToldGoroutine). waits_in k r.wait) (everyone_told script h).goroutines
 
 -- the instruction at which it stands
 abbrev pub stands_told : Script → ℕ → List Entry → Option Instr

@@ -61,10 +61,12 @@ turn_of code moves = stood_at (course (length code) code 0 (length code) moves)
 
 -- ---- how far a goroutine is
 
--- a move that leads on from an instruction, by its case number: a sleep does so when it ends, and a panic never
+-- a move that leads on from an instruction, by its case number: a sleep and a wait at a Cond do so when they end, and a panic never
 abbrev pub led_by : Move → List ℕ
 led_by (Move.GoesOn case_no) = case_no ∷ []
 led_by (Move.FallsAsleep until) = []
+led_by (Move.Suspends k) = []
+led_by (Move.Relocks k) = []
 led_by Move.Ends = 0 ∷ []
 led_by Move.Panics = []
 
@@ -79,7 +81,7 @@ moved_by g moves c = moved_with g (moved_with g moves c.mover) c.partner
 abbrev pub moves_told : ℕ → List Entry → List ℕ
 moves_told g h = told (moved_by g) [] h
 
--- Each goroutine stands, or sleeps, at the instruction whose turn it is: the one to which its moves have led through its function's code, in which loops
+-- Each goroutine stands, sleeps or waits at the instruction whose turn it is: the one to which its moves have led through its function's code, in which loops
 -- repeat their bodies as often as they say, and of a choice the body of the chosen case comes
 abbrev pub InTurn : Script → List Entry → Entry → Type 0
 InTurn script front e =

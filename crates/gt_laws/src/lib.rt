@@ -19,7 +19,7 @@ ghost use Rattle.gt_facts.specs.Quiet.{IsQuiet};
 ghost use Rattle.gt_rules.specs.Finish.{IsIdle};
 ghost use Rattle.gt_facts.specs.Still.{IsStill};
 ghost use Rattle.gt_laws.specs.Told.{ending_told};
-ghost use Rattle.gt_laws.specs.Laws.{AtEach, InOrder, InTime, IsFresh, PassesOn, UsesRightly, ChoosesRightly, IsAlone, AddsUp};
+ghost use Rattle.gt_laws.specs.Laws.{AtEach, InOrder, InTime, IsFresh, PassesOn, UsesRightly, ChoosesRightly, IsAlone, AddsUp, IsSignalled};
 ghost use Rattle.gt_laws.specs.Unrolled.{InTurn, turn_of};
 ghost use Rattle.gt_laws.specs.Ends.{EndsRightly, EndsWhereStuck, JumpsToLeast};
 ghost use Rattle.gt_laws.specs.GoesOn.{counted_told, IsStillTold, IsStuckTold};
@@ -31,7 +31,7 @@ pub fn calls_come_in_order()
         → IsGood script → History script limits h outcome → AtEach (InOrder script) h }
 {}
 
-/// Loops repeat their bodies exactly as often as they say, and a choice leads into the body of its case: each goroutine stands, or sleeps, at the
+/// Loops repeat their bodies exactly as often as they say, and a choice leads into the body of its case: each goroutine stands, sleeps or waits at the
 /// instruction to which its moves lead through its function's code.
 pub fn loops_repeat_as_they_say()
     ensures { (script : Script) (limits : Limits) (h : List Entry) (outcome : Outcome)
@@ -51,8 +51,8 @@ pub fn no_value_is_stale()
 {}
 
 /// A timer or a channel is made once and used where it was made, a channel is closed once, with nothing sent to it after, a mutex is unlocked where it is
-/// locked, and nothing brings a counter below 0: a call that would be a misuse is never made, and each panic is one, for the reason that it gives. A choice is a misuse where a case of it is, and so is the choice of a case that sends to
-/// a closed channel.
+/// locked, be it by a wait at a Cond, and nothing brings a counter below 0: a call that would be a misuse is never made, and each panic is one, for the reason
+/// that it gives. A choice is a misuse where a case of it is, and so is the choice of a case that sends to a closed channel.
 pub fn a_panic_is_a_misuse()
     ensures { (script : Script) (limits : Limits) (h : List Entry) (outcome : Outcome)
         → IsGood script → History script limits h outcome → AtEach (UsesRightly script) h }
@@ -73,10 +73,19 @@ pub fn defaults_are_taken_rightly()
         → IsGood script → History script limits h outcome → AtEach (ChoosesRightly script) h }
 {}
 
-/// A mutex is locked only where nobody has it, and unlocked only where it is held. So between a lock and the next unlock nobody else locks it.
+/// A mutex is locked only where nobody has it, and unlocked only where it is held; a wait at a Cond unlocks it, and locks it again at its end. So between a lock
+/// and the next unlock nobody else locks it.
 pub fn a_mutex_is_held_alone()
     ensures { (script : Script) (limits : Limits) (h : List Entry) (outcome : Outcome)
-        → IsGood script → History script limits h outcome → AtEach IsAlone h }
+        → IsGood script → History script limits h outcome → AtEach (IsAlone script) h }
+{}
+
+/// A signal wakes one that waits at its Cond, and nobody exactly where nobody waits there; a broadcast wakes all that do, and says how many. Who was signalled
+/// waits there no more: so no signal wakes two, and each wake-up, which by the order of calls is of one that was signalled, answers one signal or broadcast that
+/// came after its wait.
+pub fn a_signal_wakes_one_that_waits()
+    ensures { (script : Script) (limits : Limits) (h : List Entry) (outcome : Outcome)
+        → IsGood script → History script limits h outcome → AtEach (IsSignalled script) h }
 {}
 
 /// An add does not bring the counter of a WaitGroup below 0, and a wait goes on only where the sum of the adds is 0.
@@ -111,8 +120,8 @@ pub fn a_clock_jumps_to_the_least_time()
 pub fn what_keeps_the_laws_is_a_history()
     ensures { (script : Script) (limits : Limits) (h : List Entry) (outcome : Outcome)
         → IsGood script → AtEach (InOrder script) h → AtEach (InTime script) h → AtEach (IsFresh script) h → AtEach (UsesRightly script) h
-        → AtEach (PassesOn script) h → AtEach (ChoosesRightly script) h → AtEach IsAlone h → AtEach AddsUp h → AtEach (EndsRightly script limits) h
-        → ending_told h ≡ Ending.Finished outcome → History script limits h outcome }
+        → AtEach (PassesOn script) h → AtEach (ChoosesRightly script) h → AtEach (IsAlone script) h → AtEach AddsUp h → AtEach (IsSignalled script) h
+        → AtEach (EndsRightly script limits) h → ending_told h ≡ Ending.Finished outcome → History script limits h outcome }
 {}
 
 /// Where nothing can go on is told by the entries and the script alone: it is where the machine's state after them stands still and counts no time.
@@ -141,7 +150,8 @@ pub fn a_quiet_program_is_idle()
 {}
 
 /// Calls in another order, calls made twice and calls left out are no histories. Nor is a wake-up of who is awake, a sleep within a
-/// sleep, one that is cut short, or a number given twice. Nor is a call of another case's body, or a case that has another number.
+/// sleep, one that is cut short, or a number given twice. Nor is a call of another case's body, or a case that has another number. Nor is a wake-up at a Cond of
+/// who was not signalled, or two after one signal.
 pub fn calls_out_of_order_break_the_law()
     ensures swapped { ¬ AtEach (InOrder broken.two_calls) broken.swapped }
     ensures twice { ¬ AtEach (InOrder broken.two_calls) broken.twice }
@@ -152,6 +162,8 @@ pub fn calls_out_of_order_break_the_law()
     ensures number_twice { ¬ AtEach (InOrder broken.one_start) broken.number_twice }
     ensures other_body { ¬ AtEach (InOrder broken.one_choice) broken.other_body }
     ensures other_case { ¬ AtEach (InOrder broken.one_choice) broken.other_case }
+    ensures wakes_unsignalled { ¬ AtEach (InOrder broken.one_cond) broken.wakes_unsignalled }
+    ensures wakes_twice { ¬ AtEach (InOrder broken.one_cond) broken.wakes_twice }
 {}
 
 /// A loop of two that is passed once or three times is no history. Nor is a call of a goroutine that is started later: it is not where its turn is.
@@ -211,10 +223,18 @@ pub fn a_default_over_a_value_breaks_the_law()
     ensures neither_waits { ¬ AtEach (ChoosesRightly broken.two_polls) broken.neither_waits }
 {}
 
-/// A mutex that two have at once is none of a history, nor is one that is unlocked where it is free.
+/// A mutex that two have at once is none of a history, be it locked or got back from a wait at a Cond, nor is one that is unlocked where it is free.
 pub fn a_mutex_of_two_breaks_the_law()
-    ensures two_hold { ¬ AtEach IsAlone broken.two_hold }
-    ensures unlocked_free { ¬ AtEach IsAlone broken.unlocked_free }
+    ensures two_hold { ¬ AtEach (IsAlone broken.one_cond) broken.two_hold }
+    ensures unlocked_free { ¬ AtEach (IsAlone broken.one_cond) broken.unlocked_free }
+    ensures woken_over_a_lock { ¬ AtEach (IsAlone broken.one_cond) broken.woken_over_a_lock }
+{}
+
+/// A signal of nobody while somebody waits is none of a history, nor is one of somebody that was signalled before, or a broadcast that miscounts.
+pub fn a_lost_signal_breaks_the_law()
+    ensures nobody_signalled { ¬ AtEach (IsSignalled broken.one_cond) broken.nobody_signalled }
+    ensures signalled_twice { ¬ AtEach (IsSignalled broken.one_cond) broken.signalled_twice }
+    ensures miscounted { ¬ AtEach (IsSignalled broken.one_cond) broken.miscounted }
 {}
 
 /// A wait that goes on above 0 is none of a history, nor is a counter that falls below 0.
@@ -224,7 +244,7 @@ pub fn a_wait_above_zero_breaks_the_law()
 {}
 
 /// A timer that is made twice or stopped before it was made, a ticker without a time between its ticks that goes on, a panic without a misuse, for another
-/// reason or with the number of another case, and a choice that goes on beside a case which is a misuse, are no histories.
+/// reason or with the number of another case, a choice that goes on beside a case which is a misuse, and a wait at a Cond without its mutex, are no histories.
 pub fn a_misuse_without_a_panic_breaks_the_law()
     ensures made_twice { ¬ AtEach (UsesRightly broken.two_calls) broken.made_twice }
     ensures unmade { ¬ AtEach (UsesRightly broken.one_stop) broken.unmade }
@@ -234,6 +254,7 @@ pub fn a_misuse_without_a_panic_breaks_the_law()
     ensures beside_a_misuse { ¬ AtEach (UsesRightly broken.one_unmade) broken.beside_a_misuse }
     ensures for_another_case { ¬ AtEach (UsesRightly broken.one_unmade) broken.for_another_case }
     ensures for_no_close { ¬ AtEach (UsesRightly broken.two_polls) broken.for_no_close }
+    ensures without_a_lock { ¬ AtEach (UsesRightly broken.one_cond) broken.without_a_lock }
 {}
 
 /// A deadlock while somebody sleeps is no end of a history, an exit or a limit before its time is none, and nothing comes after main's function has ended.

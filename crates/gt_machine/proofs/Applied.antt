@@ -1,17 +1,19 @@
 -- The changes of an entry, one after the other, make the state after it.
-use Rattle.std.proofs.Common.{◌≡◌, ℕ, ◌+◌, refl, Option, None, Some, List, option_map}
+use Rattle.std.proofs.Common.{◌≡◌, ℕ, zero, suc, ◌+◌, refl, ap, Option, None, Some, IfSome, List, [], ◌∷◌, map, count_by, Bool, true, false, cond, sym, ◌∙◌, arith, option_map}
+use Rattle.std.proofs.lemmas.List.Sums.{sum_by-cons}
 use Rattle.gt_model.specs.declared.script.Script.{Script}
 use Rattle.gt_model.specs.declared.entry.Entry.{Entry}
 use Rattle.gt_model.specs.declared.state.Goroutine.{Goroutine}
 use Rattle.gt_model.specs.declared.state.Ending.{Ending}
-use Rattle.gt_rules.specs.State.{State}
+use Rattle.gt_rules.specs.State.{State, is_suspended, suspended_count}
 use Rattle.gt_rules.specs.declared.change.Move.{Move}
 use Rattle.gt_rules.specs.declared.change.Setting.{Setting}
 use Rattle.gt_rules.specs.declared.change.Start.{Start}
 use Rattle.gt_rules.specs.declared.change.Trade.{Trade}
 use Rattle.gt_rules.specs.declared.change.SyncStep.{SyncStep}
 use Rattle.gt_rules.specs.Change.{Change, change_of, started}
-use Rattle.gt_rules.specs.After.{after, changed, with_mover, with_starts, started_by, with_retimed, with_traded, with_stepped, with_clock, option_or}
+use Rattle.gt_rules.specs.After.{after, changed, with_mover, with_starts, started_by, with_retimed, with_traded, with_stepped, with_clock, with_signalled, signalled, moved_on, option_or}
+use Rattle.gt_model.specs.Tables.{change, change_numbered}
 use Rattle.gt_rules.specs.Legal.{May}
 use Rattle.gt_machine.specs.Machine.{with_new}
 
@@ -36,34 +38,76 @@ pub record IsRead (c : Change) (m p : Option (ℕ × Move)) (t : Option (ℕ × 
   pub clock : k ≡ c.clock
   pub ending : how ≡ c.ending
 
+-- ---- a broadcast that finds nobody suspended
+
+count-cons : (p : Goroutine → Bool) (r : Goroutine) (gs : List Goroutine) → count_by p (r ∷ gs) ≡ cond (p r) 1 0 + count_by p gs
+count-cons p r gs = sum_by-cons (λ y. cond (p y) 1 0) r gs
+
+unsignalled : (k : ℕ) (gs : List Goroutine) → count_by (is_suspended k) gs ≡ 0 → map (signalled k) gs ≡ gs
+unsignalled k [] none = refl
+unsignalled k (r ∷ gs) none =
+    elim (is_suspended k r) as (λ b. is_suspended k r ≡ b → cond b 1 0 + count_by (is_suspended k) gs ≡ 0 → map (signalled k) (r ∷ gs) ≡ r ∷ gs) [
+      | true ↦ λ is h. absurd (omega (arith, h))
+      | false ↦ λ is h.
+          let rest : count_by (is_suspended k) gs ≡ 0 = omega (arith, h) in
+          let same : signalled k r ≡ r = rw (signalled, is) refl in
+          ap (λ (x : Goroutine). x ∷ map (signalled k) gs) same ∙ ap (λ xs. r ∷ xs) (unsignalled k gs rest)
+    ] refl (sym (count-cons (is_suspended k) r gs) ∙ none)
+
+-- who goes on is suspended nowhere
+moved-unsuspended : (script : Script) (k n : ℕ) (gs : List Goroutine) (i : ℕ) → count_by (is_suspended k) gs ≡ 0 → count_by (is_suspended k) (change gs i (moved_on script n)) ≡ 0
+moved-unsuspended script k n [] i none = refl
+moved-unsuspended script k n (r ∷ gs) zero none =
+    let was : cond (is_suspended k r) 1 0 + count_by (is_suspended k) gs ≡ 0 = sym (count-cons (is_suspended k) r gs) ∙ none in
+    let rest : count_by (is_suspended k) gs ≡ 0 = omega (arith, was) in
+    count-cons (is_suspended k) (moved_on script n r) gs ∙ omega (arith, rest)
+moved-unsuspended script k n (r ∷ gs) (suc i) none =
+    let one : ℕ = cond (is_suspended k r) 1 0 in
+    let was : one + count_by (is_suspended k) gs ≡ 0 = sym (count-cons (is_suspended k) r gs) ∙ none in
+    let first : one ≡ 0 = omega (arith, was) in
+    let rest : count_by (is_suspended k) gs ≡ 0 = omega (arith, was) in
+    let after : count_by (is_suspended k) (change gs i (moved_on script n)) ≡ 0 = moved-unsuspended script k n gs i rest in
+    count-cons (is_suspended k) r (change gs i (moved_on script n)) ∙ omega (arith, first, after)
+
+mover-unsuspended : (script : Script) (k n g : ℕ) (gs : List Goroutine) → count_by (is_suspended k) gs ≡ 0 → count_by (is_suspended k) (change_numbered gs g (moved_on script n)) ≡ 0
+mover-unsuspended script k n zero gs none = none
+mover-unsuspended script k n (suc i) gs none = moved-unsuspended script k n gs i none
+
+pub signalled-none : (script : Script) (s : State) (e : Entry) → IfSome (change_of e).broadcast (λ k. suspended_count s k ≡ 0)
+    → with_signalled (with_mover script (with_mover script s.goroutines (change_of e).mover) (change_of e).partner) (change_of e).broadcast
+    ≡ with_mover script (with_mover script s.goroutines (change_of e).mover) (change_of e).partner
+signalled-none script s (Entry.Broadcast g k count) none = unsignalled k (change_numbered s.goroutines g (moved_on script 0)) (mover-unsuspended script k 0 g s.goroutines none)
+signalled-none script s _ none = refl
+
 -- the change, part by part
 pub all_changed : (script : Script) (s : State) (mover partner : Option (ℕ × Move)) (timer : Option (ℕ × Setting)) (channel : Option (ℕ × Trade)) (sync : Option (ℕ × SyncStep)) (start : Option Start)
     (clock : Option (ℕ × ℕ)) (ending : Option Ending) (c : Change) → IsRead c mover partner timer channel sync start clock ending → c.counted ≡ 1
+    → with_signalled (with_mover script (with_mover script s.goroutines c.mover) c.partner) c.broadcast ≡ with_mover script (with_mover script s.goroutines c.mover) c.partner
     → record {
       clocks = with_clock s.clocks clock;
       entries = s.entries + 1;
       goroutines = with_new (with_mover script (with_mover script s.goroutines mover) partner) (option_map (started_by script s) start);
       timers = with_retimed script s mover s.timers timer;
       channels = with_traded s mover s.channels channel;
-      syncs = with_stepped s mover s.syncs sync;
+      syncs = with_stepped script s mover s.syncs sync;
       ending = option_or s.ending ending;
     } ≡ changed script s c
-all_changed script s mover partner timer channel sync start clock ending c is one =
-    rw (is.mover, is.partner, is.timer, is.channel, is.sync, is.clock, is.ending, is.starts, one, new-started) refl
+all_changed script s mover partner timer channel sync start clock ending c is one none =
+    rw (none, is.mover, is.partner, is.timer, is.channel, is.sync, is.clock, is.ending, is.starts, one, new-started) refl
 
 -- the state after an entry, by the states between its changes
 pub applied : (script : Script) (e : Entry) (s s1 s2 t2 s3 s4 s5 s6 s7 : State) (mover partner : Option (ℕ × Move)) (timer : Option (ℕ × Setting)) (channel : Option (ℕ × Trade)) (sync : Option (ℕ × SyncStep))
     (start : Option Start) (begins : Option Goroutine) (clock : Option (ℕ × ℕ)) (ending : Option Ending) → May script s e
-    → IsRead (change_of e) mover partner timer channel sync start clock ending
+    → IsRead (change_of e) mover partner timer channel sync start clock ending → IfSome (change_of e).broadcast (λ k. suspended_count s k ≡ 0)
     → begins ≡ option_map (started_by script s) start
     → s1 ≡ record s { timers = with_retimed script s mover s.timers timer }
     → s2 ≡ record s1 { channels = with_traded s1 mover s1.channels channel }
-    → t2 ≡ record s2 { syncs = with_stepped s2 mover s2.syncs sync }
+    → t2 ≡ record s2 { syncs = with_stepped script s2 mover s2.syncs sync }
     → s3 ≡ record t2 { goroutines = with_mover script t2.goroutines mover }
     → s4 ≡ record s3 { goroutines = with_mover script s3.goroutines partner }
     → s5 ≡ record s4 { goroutines = with_new s4.goroutines begins }
     → s6 ≡ record s5 { clocks = with_clock s5.clocks clock }
     → s7 ≡ record s6 { ending = option_or s6.ending ending }
     → record s7 { entries = s7.entries + 1 } ≡ after script s e
-applied script e s s1 s2 t2 s3 s4 s5 s6 s7 mover partner timer channel sync start begins clock ending may is new e1 e2 f2 e3 e4 e5 e6 e7 =
-    rw (e7, e6, e5, e4, e3, f2, e2, e1, new) (all_changed script s mover partner timer channel sync start clock ending (change_of e) is (counted-May script s e may))
+applied script e s s1 s2 t2 s3 s4 s5 s6 s7 mover partner timer channel sync start begins clock ending may is none new e1 e2 f2 e3 e4 e5 e6 e7 =
+    rw (e7, e6, e5, e4, e3, f2, e2, e1, new) (all_changed script s mover partner timer channel sync start clock ending (change_of e) is (counted-May script s e may) (signalled-none script s e none))

@@ -69,6 +69,7 @@ capacity_declared What.Timer = refl
 capacity_declared What.Ticker = refl
 capacity_declared What.Mutex = refl
 capacity_declared What.Wg = refl
+capacity_declared (What.Cond mutex) = refl
 capacity_declared (What.AfterFunc func) = refl
 capacity_declared (What.Chan cap) = refl
 capacity_declared What.Function = refl

@@ -16,6 +16,7 @@ use Rattle.gt_model.specs.Script.{code_of}
 use Rattle.gt_model.specs.declared.script.Place.{Place}
 use Rattle.gt_model.specs.Good.{IsGood, IsGoodCode, IsGoodEnd}
 use Rattle.gt_model.proofs.GoodCode.{all_at}
+use Rattle.gt_facts.proofs.Suspended.{signals-other}
 use Rattle.gt_facts.proofs.Formed.{placed_inside}
 use Rattle.gt_machine.specs.Places.{LeadsRightly, IsWalkable}
 use Rattle.gt_rules.specs.Change.{change_of}
@@ -89,6 +90,8 @@ inside-May script s e good formed may = inside_live script s (change_of e).mover
 -- of two who make an entry the receiver is another one than the sender, so it is still inside once the sender has moved on
 apart-May : (script : Script) (s : State) (e : Entry) → May script s e → IfSome (change_of e).partner (λ p. IfSome (change_of e).mover (λ m. p.0 ≢ m.0))
 apart-May script s (Entry.Pair from to c v) may = λ same. may.4 (sym same)
+apart-May script s (Entry.Signal g k None) may = tt
+apart-May script s (Entry.Signal g k (Some h)) may = signals-other script s g h k (Instr.Signal k) may.0.stands may.1
 apart-May script s (Entry.Finish outcome) may = tt
 apart-May script s _ may = tt
 

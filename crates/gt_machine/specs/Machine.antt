@@ -10,6 +10,7 @@ use Rattle.gt_model.specs.declared.script.Instr.{Instr}
 use Rattle.gt_model.specs.declared.script.Case.{Case}
 use Rattle.gt_model.specs.declared.entry.Reason.{Reason}
 use Rattle.gt_model.specs.Good.{most_cases, IsAddable}
+use Rattle.gt_model.specs.Script.{mutex_of}
 use Rattle.gt_rules.specs.Panics.{case_fault}
 use Rattle.gt_model.specs.declared.state.Goroutine.{Goroutine}
 use Rattle.gt_model.specs.declared.state.Timer.{Timer}
@@ -85,10 +86,13 @@ abbrev pub MayStep : SyncStep → ℕ → Type 0
 MayStep SyncStep.Locks counter = Unit {0}
 MayStep SyncStep.Unlocks counter = Unit {0}
 MayStep (SyncStep.Adds n) counter = (counter ≤ 200000000000) × IsAddable n
+MayStep SyncStep.Releases counter = Unit {0}
+MayStep SyncStep.Retakes counter = Unit {0}
 
--- the mutex or the WaitGroup at this place is one
-abbrev pub IsSteppable : List SyncState → ℕ → SyncStep → Type 0
-IsSteppable syncs o step = IsSomeAnd (slice_get syncs o) (λ s. MayStep step s.counter)
+-- there is one at this place, and a mutex where it is a Cond, and this may become of it
+pub record IsSteppable (script : Script) (syncs : List SyncState) (o : ℕ) (step : SyncStep) : Type 0 where
+  pub may : IsSomeAnd (slice_get syncs o) (λ s. MayStep step s.counter)
+  pub mutex : mutex_of script o < length syncs
 
 -- the channel that a look-up found, if it is made
 abbrev pub made_in : Option chan.Channel → Option Channel

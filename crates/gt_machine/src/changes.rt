@@ -3,8 +3,9 @@
 ghost use Rattle.std.specs.Prelude.{◌≡◌, ◌<◌, ◌≤◌, ◌-◌, ◌^◌, Some, nat_abs};
 ghost use Rattle.gt_model.specs.Good.{IsGood};
 ghost use Rattle.gt_rules.specs.After as after;
-ghost use Rattle.gt_machine.specs.Machine.{retimed_in, channel_of, MayTrade, MayStep};
+ghost use Rattle.gt_machine.specs.Machine.{retimed_in, channel_of, MayTrade, IsSteppable};
 
+use crate::lookups::mutex_of;
 use crate::places::{first_place, place_after};
 use gt_chan::Chan;
 use gt_model::{Goroutine, Mode, Script, SyncState, Timer};
@@ -41,6 +42,8 @@ pub fn move_goroutine(script: &Script, r: &mut Goroutine, how: Move)
             r.mode = Mode::At;
         }
         Move::FallsAsleep { until } => r.mode = Mode::Sleeping { until },
+        Move::Suspends { cond } => r.mode = Mode::Suspended { cond },
+        Move::Relocks { cond } => r.mode = Mode::Relocking { cond },
         Move::Ends => r.mode = Mode::Ended,
         Move::Panics => {}
     }
@@ -110,24 +113,50 @@ fn added(counter: u64, n: i64) -> u64
     }
 }
 
-/// What becomes of a mutex or a WaitGroup, by somebody of a world.
-pub fn stepped(world: u32, was: SyncState, step: SyncStep) -> SyncState
-    requires { MayStep step was.counter }
-    ensures { result ≡ after.stepped world step was }
+/// A WaitGroup or a Cond that belongs to the world of its first call.
+pub fn owned(world: u32, was: SyncState) -> SyncState
+    ensures { result ≡ after.owned world was }
 {
-    match step {
-        SyncStep::Locks => SyncState {
-            locked: true,
-            ..was
-        },
-        SyncStep::Unlocks => SyncState {
-            locked: false,
-            ..was
-        },
-        SyncStep::Adds { n } => SyncState {
-            counter: added(was.counter, n),
-            world: Some(was.world.unwrap_or(world)),
-            ..was
-        },
+    SyncState {
+        world: Some(was.world.unwrap_or(world)),
+        ..was
+    }
+}
+
+/// A mutex that is locked, or unlocked.
+pub fn with_lock(locked: bool, was: SyncState) -> SyncState
+    ensures { result ≡ after.with_lock locked was }
+{
+    SyncState { locked, ..was }
+}
+
+/// A WaitGroup to whose counter a number is added.
+pub fn counted_on(n: i64, was: SyncState) -> SyncState
+    requires few { was.counter ≤ 200000000000 }
+    requires addable { nat_abs n ≤ 1000000 }
+    ensures { result ≡ after.counted_on n was }
+{
+    SyncState {
+        counter: added(was.counter, n),
+        ..was
+    }
+}
+
+/// What becomes of the mutexes, the WaitGroups and the Conds, by somebody of a world.
+pub fn step_syncs(script: &Script, world: u32, syncs: &mut Vec<SyncState>, o: u32, how: SyncStep)
+    requires { IsSteppable script.now syncs.old.items o how }
+    ensures { syncs.new.items ≡ after.stepped script.now world syncs.old.items o how }
+{
+    let own = o as usize;
+    let mutex = mutex_of(script, o) as usize;
+    match how {
+        SyncStep::Locks => syncs[own] = with_lock(true, syncs[own]),
+        SyncStep::Unlocks => syncs[own] = with_lock(false, syncs[own]),
+        SyncStep::Adds { n } => syncs[own] = owned(world, counted_on(n, syncs[own])),
+        SyncStep::Releases => {
+            syncs[mutex] = with_lock(false, syncs[mutex]);
+            syncs[own] = owned(world, syncs[own]);
+        }
+        SyncStep::Retakes => syncs[mutex] = with_lock(true, syncs[mutex]),
     }
 }

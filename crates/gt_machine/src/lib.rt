@@ -7,5 +7,5 @@ mod lookups;
 mod machine;
 mod places;
 
-pub use lookups::{capacity, is_chan, what_at};
+pub use lookups::{capacity, is_chan, mutex_of, what_at};
 pub use machine::Machine;

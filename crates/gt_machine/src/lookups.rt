@@ -43,6 +43,21 @@ pub fn function_of(script: &Script, t: u32) -> u32
     }
 }
 
+/// The mutex of a Cond; 0 where the declaration is none.
+pub fn mutex_of(script: &Script, k: u32) -> u32
+    ensures { result ≡ names.mutex_of script.now k }
+{
+    match script.decls.as_slice().get(k as usize) {
+        Some(
+            Decl {
+                what: What::Cond { mutex },
+                ..
+            },
+        ) => *mutex,
+        _ => 0,
+    }
+}
+
 /// How many values the channel of this declaration keeps at most; 0 where the declaration is no channel.
 pub fn capacity(script: &Script, c: u32) -> u32
     ensures { result ≡ capacity_of script.now c }

@@ -1,8 +1,9 @@
 //! The tables.
 
 ghost use Rattle.std.specs.Prelude.{ℕ, ◌≡◌, ◌+◌, ◌<◌, ◌≤◌, IfOk, IfSome, IsSome, IsSomeAnd, Some, length, ◌^◌, ◌-◌, ◌++◌, ◌∷◌, [], nat_lt, slice_get, map, replicate};
-ghost use Rattle.std.specs.Option.{option_copied, option_map};
-ghost use Rattle.gt_model.specs.Tables.{numbered};
+ghost use Rattle.std.specs.Option.{option_copied, option_map, option_and_then};
+ghost use Rattle.gt_model.specs.Tables.{numbered, change_numbered};
+ghost use Rattle.gt_model.specs.declared.state.Mode.{Mode};
 ghost use Rattle.gt_model.specs.Good.{IsGood};
 ghost use Rattle.gt_model.specs.Script.{capacity_of};
 ghost use Rattle.gt_model.specs.declared.script.Decl.{Decl};
@@ -10,15 +11,15 @@ ghost use Rattle.gt_rules.specs.State as at;
 ghost use Rattle.gt_rules.specs.Panics as panics;
 ghost use Rattle.gt_rules.specs.After as after;
 ghost use Rattle.gt_rules.specs.Legal.{May};
-ghost use Rattle.gt_rules.specs.Change.{started};
+ghost use Rattle.gt_rules.specs.Change.{started, change_of};
 ghost use Rattle.gt_facts.specs.Formed.{IsFormed};
 ghost use Rattle.gt_chan.specs.Channel as chan;
 ghost use Rattle.gt_machine.specs.Machine.{state_of, IsInside, IsTradable, IsSteppable, HasChannels, with_new, made_in, capacity_in, capacities, HasFewCases, first_fault};
 ghost use Rattle.gt_machine.specs.Outcomes as outcomes;
 ghost use Rattle.gt_machine.specs.Places.{placed_at};
 
-use crate::changes::{UNUSED, begun, move_goroutine, retimed, stepped, trade_channel};
-use crate::lookups::{capacity, declared_capacity, function_of, instr_at, is_ticker};
+use crate::changes::{UNUSED, begun, move_goroutine, retimed, step_syncs, trade_channel};
+use crate::lookups::{capacity, declared_capacity, function_of, instr_at, is_ticker, mutex_of};
 use gt_chan::Chan;
 use gt_model::{
     Case, CaseKind, Decl, Ending, Entry, Goroutine, Instr, Limits, Mode, NoMemory, Outcome, Reason,
@@ -105,7 +106,7 @@ impl Machine {
         })
     }
 
-    /// The entry is made, and the state goes on.
+    /// The entry is made, and the state goes on. Whom a broadcast signals was made to wait for the mutex before, one after the other.
     pub fn apply(&mut self, script: &Script, entry: &Entry)
         requires good { IsGood script.now }
         requires formed { IsFormed script.now (state_of self.old) }
@@ -113,6 +114,7 @@ impl Machine {
         requires room { 0 < self.old.goroutines.spare }
         requires few { self.old.entries < 200000 }
         requires channels { HasChannels script.now self.old }
+        requires signalled { IfSome (change_of entry.now).broadcast (λ k. at.suspended_count (state_of self.old) k ≡ 0) }
         ensures state { state_of self.new ≡ after.after script.now (state_of self.old) entry.now }
         ensures room { length self.new.goroutines.items + self.new.goroutines.spare
             ≡ length self.old.goroutines.items + self.old.goroutines.spare }
@@ -122,13 +124,26 @@ impl Machine {
         let begins = self.started(script, start_of(entry));
         self.retime(script, mover, timer_of(entry));
         self.trade(mover, channel_of(entry));
-        self.step_sync(mover, sync_of(entry));
+        self.step_sync(script, mover, sync_of(entry));
         self.move_on(script, mover);
         self.move_on(script, partner_of(entry));
         self.start(begins);
         self.move_clock(clock_of(entry));
         self.end(ending_of(entry));
         self.entries += 1;
+    }
+
+    /// A goroutine that waits at a Cond is signalled, and waits for the mutex.
+    pub fn relock(&mut self, g: u32, k: u32)
+        requires { IsInside self.old.goroutines.items g }
+        ensures state { state_of self.new ≡ record (state_of self.old) {
+          goroutines = change_numbered (state_of self.old).goroutines g (after.in_mode (Mode.Relocking k));
+        } }
+        ensures many { length self.new.goroutines.items ≡ length self.old.goroutines.items }
+        ensures spare { self.new.goroutines.spare ≡ self.old.goroutines.spare }
+        ensures channels { self.new.channels ≡ self.old.channels }
+    {
+        self.goroutines.at_mut(g as usize - 1).mode = Mode::Relocking { cond: k };
     }
 
     /// The run ends with an outcome.
@@ -190,10 +205,15 @@ impl Machine {
     }
 
     /// What becomes of a mutex or a WaitGroup, by who makes the entry.
-    fn step_sync(&mut self, mover: Option<(u32, Move)>, change: Option<(u32, SyncStep)>)
-        requires { IfSome change (λ x. IsSteppable self.old.syncs.items x.0 x.1) }
+    fn step_sync(
+        &mut self,
+        script: &Script,
+        mover: Option<(u32, Move)>,
+        change: Option<(u32, SyncStep)>,
+    )
+        requires { IfSome change (λ x. IsSteppable script.now self.old.syncs.items x.0 x.1) }
         ensures state { state_of self.new ≡ record (state_of self.old) {
-          syncs = after.with_stepped (state_of self.old) mover (state_of self.old).syncs change;
+          syncs = after.with_stepped script.now (state_of self.old) mover (state_of self.old).syncs change;
         } }
         ensures room { self.new.goroutines ≡ self.old.goroutines }
         ensures channels { self.new.channels ≡ self.old.channels }
@@ -202,7 +222,7 @@ impl Machine {
             return;
         };
         let world = self.mover_world(mover);
-        self.syncs[o as usize] = stepped(world, self.syncs[o as usize], step);
+        step_syncs(script, world, &mut self.syncs, o, step);
     }
 
     /// What becomes of one who makes the entry.
@@ -464,6 +484,7 @@ impl Machine {
             Instr::Recv { o } => when(!self.is_made(o), Reason::Unmade),
             Instr::Make { c } => when(self.channel(c).is_some(), Reason::Twice),
             Instr::Send { c, .. } | Instr::Close { c } => self.open_fault(c),
+            Instr::CWait { k } => when(!self.is_locked(mutex_of(script, k)), Reason::Unlocked),
             Instr::Unlock { m } => when(!self.is_locked(m), Reason::Unlocked),
             Instr::Add { w, n } => when(falls_below(self.sync(w).counter, n), Reason::Negative),
             Instr::Select { ref cases, .. } => match self.faulty_case(cases.as_slice()) {
@@ -521,6 +542,21 @@ impl Machine {
         match self.channel(c) {
             None => Some(Reason::Unmade),
             Some(channel) => when(channel.is_closed(), Reason::Closed),
+        }
+    }
+
+    /// The Cond at which goroutine g was signalled, while it waits for the mutex; none where it does not.
+    pub fn relocking_at(&self, g: u32) -> Option<u32>
+        ensures { result ≡ option_and_then at.relocking_at (at.mode_of (state_of self.now) g) }
+    {
+        match self.goroutine(g) {
+            Some(
+                Goroutine {
+                    mode: Mode::Relocking { cond },
+                    ..
+                },
+            ) => Some(cond),
+            _ => None,
         }
     }
 

@@ -4,7 +4,7 @@ use Rattle.std.proofs.lemmas.Option.{slice_get_within}
 use Rattle.gt_model.specs.declared.script.Script.{Script}
 use Rattle.gt_model.specs.declared.script.Decl.{Decl}
 use Rattle.gt_model.specs.declared.script.What.{What}
-use Rattle.gt_model.specs.Script.{what_at, is_timer, is_func, is_chan, is_mutex, is_wg, names_timer, names_func, names_chan, names_mutex, names_wg}
+use Rattle.gt_model.specs.Script.{what_at, is_timer, is_func, is_chan, is_mutex, is_wg, is_cond, names_timer, names_func, names_chan, names_mutex, names_wg, names_cond}
 use Rattle.gt_model.specs.Good.{is_setting}
 
 pub declared_within : (script : Script) (t : ℕ) (P : Option What → Bool) → P None ≡ false → IsTrue (P (what_at script t)) → t < length script.decls
@@ -31,6 +31,9 @@ mutex_declared script m h = declared_within script m names_mutex refl h
 
 pub wg_declared : (script : Script) (w : ℕ) → IsTrue (is_wg script w) → w < length script.decls
 wg_declared script w h = declared_within script w names_wg refl h
+
+pub cond_declared : (script : Script) (k : ℕ) → IsTrue (is_cond script k) → k < length script.decls
+cond_declared script k h = declared_within script k names_cond refl h
 
 pub timer_setting : (script : Script) (t : ℕ) → IsTrue (is_timer script t) → IsTrue (is_setting script t)
 timer_setting script t h = rw h refl

@@ -13,7 +13,7 @@ use Rattle.gt_model.specs.declared.script.Case.{Case}
 use Rattle.gt_model.specs.declared.script.CaseKind.{CaseKind}
 use Rattle.gt_model.specs.Times.{greatest_time}
 use Rattle.gt_model.specs.declared.entry.Limits.{Limits}
-use Rattle.gt_model.specs.Script.{is_timer, is_func, is_chan, is_mutex, is_wg}
+use Rattle.gt_model.specs.Script.{is_timer, is_func, is_chan, is_mutex, is_wg, is_cond}
 
 -- a timer that is set and stopped: a channel timer or an AfterFunc timer
 abbrev pub is_setting : Script → ℕ → Bool
@@ -93,6 +93,9 @@ NamesRightly script (Instr.Send c v) = OperatesRightly script (CaseKind.Send c v
 NamesRightly script (Instr.Close c) = IsTrue (is_chan script c)
 NamesRightly script (Instr.Lock m) = IsTrue (is_mutex script m)
 NamesRightly script (Instr.Unlock m) = IsTrue (is_mutex script m)
+NamesRightly script (Instr.CWait k) = IsTrue (is_cond script k)
+NamesRightly script (Instr.Signal k) = IsTrue (is_cond script k)
+NamesRightly script (Instr.Broadcast k) = IsTrue (is_cond script k)
 NamesRightly script (Instr.Add w n) = IsTrue (is_wg script w) × IsAddable n
 NamesRightly script (Instr.Wait w) = IsTrue (is_wg script w)
 NamesRightly script (Instr.LoopTop depth count past) = count ≤ most_passes
@@ -170,6 +173,7 @@ DeclaresRightly script (What.AfterFunc func) = func < length script.funcs
 DeclaresRightly script (What.Chan cap) = cap ≤ most_capacity
 DeclaresRightly script What.Mutex = Unit {0}
 DeclaresRightly script What.Wg = Unit {0}
+DeclaresRightly script (What.Cond mutex) = IsTrue (is_mutex script mutex)
 DeclaresRightly script What.Function = Unit {0}
 
 -- the greatest numbers of names, of functions among them, and of instructions that a script may have
@@ -206,6 +210,7 @@ is_function (What.AfterFunc func) = false
 is_function (What.Chan cap) = false
 is_function What.Mutex = false
 is_function What.Wg = false
+is_function (What.Cond mutex) = false
 is_function What.Function = true
 
 -- the places of the functions among declarations, the first of which has the place i

@@ -9,20 +9,23 @@ use Rattle.gt_model.specs.declared.entry.Reason.{Reason}
 pub data Part : Type 0 where
   -- the word that tells what happened
   keyword : List ℕ → Part
+  -- a goroutine; the second may be missing
   goroutine : ℕ → Part
+  maybe_goroutine : Option ℕ → Part
   party : Party → Part
   -- a number, a time or a value; the second may be missing
   number : ℕ → Part
   maybe_number : Option ℕ → Part
   -- a number that may be below 0
   signed : ℤ → Part
-  -- what is named: a channel timer, an AfterFunc timer, a timer of either kind, a channel, a mutex, a WaitGroup, a function
+  -- what is named: a channel timer, an AfterFunc timer, a timer of either kind, a channel, a mutex, a WaitGroup, a Cond, a function
   timer : ℕ → Part
   after_func : ℕ → Part
   setting : ℕ → Part
   channel : ℕ → Part
   mutex : ℕ → Part
   wait_group : ℕ → Part
+  cond : ℕ → Part
   function : ℕ → Part
   -- whether a timer was set, where that is told
   flag : Option Bool → Part
@@ -50,6 +53,10 @@ parts_of (Entry.Close g c) = keyword (codes "close") ∷ goroutine g ∷ channel
 parts_of (Entry.Default g) = keyword (codes "default") ∷ goroutine g ∷ []
 parts_of (Entry.Lock g m) = keyword (codes "lock") ∷ goroutine g ∷ mutex m ∷ []
 parts_of (Entry.Unlock g m) = keyword (codes "unlock") ∷ goroutine g ∷ mutex m ∷ []
+parts_of (Entry.CondWait g k) = keyword (codes "cwait") ∷ goroutine g ∷ cond k ∷ []
+parts_of (Entry.CondWake g k) = keyword (codes "cwake") ∷ goroutine g ∷ cond k ∷ []
+parts_of (Entry.Signal g k woken) = keyword (codes "signal") ∷ goroutine g ∷ cond k ∷ maybe_goroutine woken ∷ []
+parts_of (Entry.Broadcast g k count) = keyword (codes "broadcast") ∷ goroutine g ∷ cond k ∷ number count ∷ []
 parts_of (Entry.Add g w n) = keyword (codes "add") ∷ goroutine g ∷ wait_group w ∷ signed n ∷ []
 parts_of (Entry.WgWait g w) = keyword (codes "wait") ∷ goroutine g ∷ wait_group w ∷ []
 parts_of (Entry.Clock world at) = keyword (codes "clock") ∷ number world ∷ number at ∷ []

@@ -47,6 +47,10 @@ abbrev pub names_wg : Option What → Bool
 names_wg (Some What.Wg) = true
 names_wg _ = false
 
+abbrev pub names_cond : Option What → Bool
+names_cond (Some (What.Cond mutex)) = true
+names_cond _ = false
+
 abbrev pub is_timer : Script → ℕ → Bool
 is_timer script t = names_timer (what_at script t)
 
@@ -69,6 +73,13 @@ is_mutex script m = names_mutex (what_at script m)
 
 abbrev pub is_wg : Script → ℕ → Bool
 is_wg script w = names_wg (what_at script w)
+
+-- a Cond, and its mutex
+abbrev pub is_cond : Script → ℕ → Bool
+is_cond script k = names_cond (what_at script k)
+
+abbrev pub mutex_of : Script → ℕ → ℕ
+mutex_of script k = elim (what_at script k) [ None ↦ 0 | Some what ↦ elim what [ What.Cond mutex ↦ mutex | _ ↦ 0 ] ]
 
 -- the function that an AfterFunc timer starts
 abbrev pub func_of : Script → ℕ → ℕ

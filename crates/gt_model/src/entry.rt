@@ -114,6 +114,28 @@ pub enum Entry {
         g: u32,
         m: u32,
     },
+    /// A goroutine unlocked the mutex of a Cond and waits until it is signalled.
+    CondWait {
+        g: u32,
+        k: u32,
+    },
+    /// A goroutine that was signalled at a Cond locked its mutex again.
+    CondWake {
+        g: u32,
+        k: u32,
+    },
+    /// A goroutine signalled another one that waited at a Cond; none where nobody did.
+    Signal {
+        g: u32,
+        k: u32,
+        woken: Option<u32>,
+    },
+    /// A goroutine signalled all that waited at a Cond, so many.
+    Broadcast {
+        g: u32,
+        k: u32,
+        count: u32,
+    },
     /// A goroutine added a number to the counter of a WaitGroup.
     Add {
         g: u32,

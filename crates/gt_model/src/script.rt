@@ -34,6 +34,8 @@ pub enum What {
     Mutex,
     /// A WaitGroup: a counter, and goroutines that wait until it is 0.
     Wg,
+    /// A condition variable, with the mutex at this place among the declarations.
+    Cond { mutex: u32 },
     Function,
 }
 
@@ -101,6 +103,18 @@ pub enum Instr {
     /// Unlock a mutex.
     Unlock {
         m: u32,
+    },
+    /// Unlock the mutex of a Cond, wait until it is signalled, and lock the mutex again.
+    CWait {
+        k: u32,
+    },
+    /// Signal one goroutine that waits at a Cond, if one does.
+    Signal {
+        k: u32,
+    },
+    /// Signal all goroutines that wait at a Cond.
+    Broadcast {
+        k: u32,
     },
     /// Add `n` to the counter of a WaitGroup: -1,000,000 to 1,000,000.
     Add {

@@ -10,6 +10,10 @@ pub enum Mode {
     At,
     /// It sleeps until a time, in nanoseconds.
     Sleeping { until: u64 },
+    /// It waits at a Cond until it is signalled.
+    Suspended { cond: u32 },
+    /// It was signalled at a Cond, and waits for the mutex.
+    Relocking { cond: u32 },
     /// Its function has ended.
     Ended,
 }
@@ -34,14 +38,14 @@ pub struct Timer {
     pub period: u64,
 }
 
-/// What there is of a mutex or of a WaitGroup: the fields of the other kind stay as they begin.
+/// What there is of a mutex, of a WaitGroup or of a Cond: the fields of the other kinds stay as they begin.
 #[derive(Clone, Copy)]
 pub struct SyncState {
     /// Whether a mutex is locked.
     pub locked: bool,
     /// The counter of a WaitGroup.
     pub counter: u64,
-    /// The world of a WaitGroup's first `add`; none before it.
+    /// The world of a WaitGroup's first `add`, or of a Cond's first `cwait`; none before it.
     pub world: Option<u32>,
 }
 

@@ -44,6 +44,7 @@ functions_with Kind.AfterFunc functions = functions
 functions_with Kind.Chan functions = functions
 functions_with Kind.Mutex functions = functions
 functions_with Kind.Wg functions = functions
+functions_with Kind.Cond functions = functions
 
 -- a declared name
 pub record Declaration : Type 0 where

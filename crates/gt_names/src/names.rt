@@ -57,8 +57,13 @@ fn functions_with(kind: Kind, functions: u32) -> u32
 {
     match kind {
         Kind::Function => functions.saturating_add(1),
-        Kind::Timer | Kind::Ticker | Kind::AfterFunc | Kind::Chan | Kind::Mutex | Kind::Wg =>
-            functions,
+        Kind::Timer
+        | Kind::Ticker
+        | Kind::AfterFunc
+        | Kind::Chan
+        | Kind::Mutex
+        | Kind::Wg
+        | Kind::Cond => functions,
     }
 }
 

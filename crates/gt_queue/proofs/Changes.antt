@@ -36,7 +36,7 @@ linked_queues-IsLinked members next prev queues l =
     (l.leads k (omega (arith, l.nodes))))))
 
 -- an exchange leaves rings
-AreRings-swapped : (next prev : List ℕ) (x y : ℕ) → x < length next → y < length next → AreRings next prev → AreRings (swap next (get_or prev x 0) (get_or prev y 0)) (swap prev x y)
+pub AreRings-swapped : (next prev : List ℕ) (x y : ℕ) → x < length next → y < length next → AreRings next prev → AreRings (swap next (get_or prev x 0) (get_or prev y 0)) (swap prev x y)
 AreRings-swapped next prev x y xl yl r =
     let next' = swap next (get_or prev x 0) (get_or prev y 0) in
     let prev' = swap prev x y in
@@ -85,23 +85,34 @@ module _ (members : ℕ) (next prev : List ℕ) (queues : List (List ℕ)) (l : 
       let nodes = l.nodes in
       Leads-not_alone after m (length next) l.rings.next_in (same_place (length next) after before inverse) (omega arith) itself (waiting_in queues q) (members + q) (members + q) (omega arith) (λ e. absurd (omega arith)) (l.leads q ql) stands
 
-  module _ (q m : ℕ) (ql : q < length queues) (ml : m < members) (free : IsWaiting queues m → ⊥) where
-    -- from each node but m
-    pushed_goes : (k : ℕ) → k < length next → k ≢ m → after_exchange (members + q) m k ≡ passing (members + q) m (after k)
-    pushed_goes k kl n =
+  module _ (place m : ℕ) (pl : place < length next) (ml : m < members) (free : IsWaiting queues m → ⊥) where
+    -- where m comes to stand before a place, from each node but m
+    pub joined_goes : (k : ℕ) → k < length next → k ≢ m → after_exchange place m k ≡ passing place m (after k)
+    joined_goes k kl n =
         let nodes = l.nodes in
-        let s = exchanged (members + q) m (omega arith) (omega arith) in
+        let s = exchanged place m pl (omega arith) in
         let itself = alone_if_free m ml free in
         let back : before m ≡ m = rw itself at (l.rings.back m (omega arith)) in
-        let end_after : after (before (members + q)) ≡ members + q = l.rings.forth (members + q) (omega arith) in
-        elim (cases_eq k (before (members + q))) [
-          | inl e ↦
-              rw e (s.0 ∙ rw back itself ∙ sym (passing-same (members + q) m (after (before (members + q))) end_after))
+        let place_after : after (before place) ≡ place = l.rings.forth place pl in
+        elim (cases_eq k (before place)) [
+          | inl e ↦ rw e (s.0 ∙ rw back itself ∙ sym (passing-same place m (after (before place)) place_after))
           | inr other ↦
               s.2 k other (λ e. n (e ∙ back))
-              ∙ sym (passing-other (members + q) m (after k)
-              (λ e. other (same_place (length next) after before inverse k (before (members + q)) kl (l.rings.prev_in (members + q) (omega arith)) (e ∙ sym end_after))))
+              ∙ sym (passing-other place m (after k)
+              (λ e. other (same_place (length next) after before inverse k (before place) kl (l.rings.prev_in place pl) (e ∙ sym place_after))))
         ]
+
+    -- and from m
+    pub joined_to : after_exchange place m m ≡ place
+    joined_to =
+        let nodes = l.nodes in
+        let s = exchanged place m pl (omega arith) in
+        let back : before m ≡ m = rw (alone_if_free m ml free) at (l.rings.back m (omega arith)) in
+        ap (after_exchange place m) (sym back) ∙ s.1 ∙ l.rings.forth place pl
+
+  module _ (q m : ℕ) (ql : q < length queues) (ml : m < members) (free : IsWaiting queues m → ⊥) where
+    pushed_goes : (k : ℕ) → k < length next → k ≢ m → after_exchange (members + q) m k ≡ passing (members + q) m (after k)
+    pushed_goes = joined_goes (members + q) m (let nodes = l.nodes in omega arith) ml free
 
     -- as from each that stands in a queue
     waiting_goes : (p k : ℕ) → Contains (waiting_in queues p) k → Goes after (after_exchange (members + q) m) m (members + q) k
@@ -119,10 +130,7 @@ module _ (members : ℕ) (next prev : List ℕ) (queues : List (List ℕ)) (l : 
     IsLinked-pushed =
         let nodes = l.nodes in
         let few = l.few in
-        let s = exchanged (members + q) m (omega arith) (omega arith) in
-        let back : before m ≡ m = rw (alone_if_free m ml free) at (l.rings.back m (omega arith)) in
-        let last : after_exchange (members + q) m m ≡ after (before (members + q)) = ap (after_exchange (members + q) m) (sym back) ∙ s.1 in
-        let ends : after_exchange (members + q) m m ≡ members + q = last ∙ l.rings.forth (members + q) (omega arith) in
+        let ends : after_exchange (members + q) m m ≡ members + q = joined_to (members + q) m (omega arith) ml free in
         let count : length (pushed queues q m) ≡ length queues = length-set queues q (waiting_in queues q ++ m ∷ []) in
         let size = length-swap next (before (members + q)) (before m) in
         record {

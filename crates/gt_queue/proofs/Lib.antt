@@ -3,6 +3,8 @@ pub mod Rings
 pub mod Paths
 pub mod Waiting
 pub mod Changes
+pub mod PutBefore
 pub mod Behind
+pub mod InFront
 pub mod Callers
 pub mod Nodes

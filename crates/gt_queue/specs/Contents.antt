@@ -24,6 +24,18 @@ abbrev pub behind : List ℕ → ℕ → List ℕ
 behind [] member = []
 behind (first ∷ others) member = if first == member then others else behind others member
 
+-- those that wait in front of a member, in their order
+abbrev pub in_front : List ℕ → ℕ → List ℕ
+in_front [] member = []
+in_front (first ∷ others) member =
+    if first == member then [] else first ∷ in_front others member
+
+-- a member comes to stand in front of another one, and the rest keep their order
+abbrev pub put_before : List ℕ → ℕ → ℕ → List ℕ
+put_before [] other member = []
+put_before (first ∷ others) other member =
+    if first == other then member ∷ first ∷ others else first ∷ put_before others other member
+
 -- what is true of the queues at all times: each number is a member's, and nobody stands in two queues or twice in one
 pub record IsLawful (c : Contents) : Type 0 where
   pub below : (queue member : ℕ) → Contains (waiting_in c.queues queue) member → member < c.members

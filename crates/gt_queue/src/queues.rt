@@ -1,6 +1,7 @@
 //! The queues.
-ghost use Rattle.std.specs.Prelude.{◌≡◌, ℕ, ◌+◌, ◌<◌, ◌^◌, ◌↔◌, [], ◌∷◌, ◌++◌, drop, map, replicate, length, slice_get, slice_set, Contains, IsTrue, IsNone, IfNone, IfOk};
-ghost use Rattle.gt_queue.specs.Contents.{IsLawful, IsWaiting, waiting_in, without, behind};
+ghost use Rattle.std.specs.Prelude.{◌≡◌, ℕ, ◌+◌, ◌<◌, ◌^◌, ◌↔◌, [], ◌∷◌, ◌++◌, drop, map, replicate, length, slice_get, slice_set, Contains, None, IsTrue, IsNone, IfNone, IfOk};
+ghost use Rattle.std.specs.List.{last_or};
+ghost use Rattle.gt_queue.specs.Contents.{IsLawful, IsWaiting, waiting_in, without, behind, in_front, put_before};
 
 use crate::links::{Links, splice};
 use std::alloc::{AllocError, Global};
@@ -73,6 +74,26 @@ impl Queues {
         splice(&mut self.next, &mut self.prev, end, member as usize);
     }
 
+    /// Puts a member that stands in no queue in front of another one, which stands in that queue. The other one's links alone
+    /// say where that is: `queue` is there for the contract.
+    pub fn enqueue_before(&mut self, queue: u32, member: u32, other: u32)
+        requires member { member < self.old.members }
+        requires free { ¬ IsWaiting self.old.queues member }
+        requires other { Contains (waiting_in self.old.queues queue) other }
+        ensures queues { self.new.queues ≡ slice_set
+            self.old.queues
+            queue
+            (put_before (waiting_in self.old.queues queue) other member) }
+        ensures members { self.new.members ≡ self.old.members }
+    {
+        splice(
+            &mut self.next,
+            &mut self.prev,
+            other as usize,
+            member as usize,
+        );
+    }
+
     /// The member that has waited longest in a queue, or None where nobody waits there.
     pub fn first(&self, queue: u32) -> Option<u32>
         requires { queue < length self.now.queues }
@@ -80,6 +101,20 @@ impl Queues {
         ensures none { IsNone result ↔ (waiting_in self.now.queues queue ≡ []) }
     {
         let node = self.next.at(self.members + queue as usize);
+        if (node as usize) < self.members {
+            Some(node)
+        } else {
+            None
+        }
+    }
+
+    /// The member that came last to a queue, or None where nobody waits there.
+    pub fn last(&self, queue: u32) -> Option<u32>
+        requires { queue < length self.now.queues }
+        ensures last { result ≡ last_or None (waiting_in self.now.queues queue) }
+        ensures none { IsNone result ↔ (waiting_in self.now.queues queue ≡ []) }
+    {
+        let node = self.prev.at(self.members + queue as usize);
         if (node as usize) < self.members {
             Some(node)
         } else {
@@ -149,6 +184,21 @@ impl Queues {
             → result ≡ slice_get (behind (waiting_in self.now.queues queue) member) 0 }
     {
         let node = self.next.at(member as usize);
+        if (node as usize) < self.members {
+            Some(node)
+        } else {
+            None
+        }
+    }
+
+    /// The member in front of a member in the queue in which that one stands, or None where it is the first there.
+    pub fn prev_in(&self, member: u32) -> Option<u32>
+        requires { IsWaiting self.now.queues member }
+        ensures { (queue : ℕ)
+            → Contains (waiting_in self.now.queues queue) member
+            → result ≡ last_or None (in_front (waiting_in self.now.queues queue) member) }
+    {
+        let node = self.prev.at(member as usize);
         if (node as usize) < self.members {
             Some(node)
         } else {

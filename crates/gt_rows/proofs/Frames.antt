@@ -1,6 +1,7 @@
 -- What a change by an entry leaves of due times, periods, the program's clock and marks.
-use Rattle.std.proofs.Common.{◌≡◌, ◌≢◌, inl, inr, ℕ, zero, suc, ◌+◌, ◌-◌, ◌<◌, ◌==◌, cond, List, [], ◌∷◌, ◌++◌, length, set, refl, sym, ap, subst, ◌∙◌, Option, None, Some, Bool, true, false, IfSome, is_some, nat_lt, slice_index, option_map}
+use Rattle.std.proofs.Common.{◌≡◌, ◌≢◌, inl, inr, ℕ, zero, suc, ◌+◌, ◌-◌, ◌<◌, ◌==◌, cond, List, [], ◌∷◌, ◌++◌, length, set, refl, sym, ap, subst, ◌∙◌, Option, None, Some, Bool, true, false, IfSome, is_some, nat_lt, slice_get, slice_index, option_map}
 use Rattle.std.proofs.lemmas.Bool.{cases_eq, eq-eqb, ne_eqb}
+use Rattle.std.proofs.lemmas.Option.{slice_get-map}
 use Rattle.gt_model.specs.declared.script.Script.{Script}
 use Rattle.gt_model.specs.declared.entry.Entry.{Entry}
 use Rattle.gt_model.specs.declared.entry.Limits.{Limits}
@@ -11,8 +12,8 @@ use Rattle.gt_model.specs.declared.state.Timer.{Timer}
 use Rattle.gt_model.specs.Good.{IsGood}
 use Rattle.gt_model.specs.Tables.{numbered, at, change_numbered}
 use Rattle.gt_model.proofs.Items.{at-set_same, at-set_other, at-change_same, at-change_other, numbered-change_same, numbered-change_other, numbered-push_same, numbered-push_other, numbered-next, HasNumber, has_number}
-use Rattle.gt_rules.specs.State.{State, goroutine_at, timer_at, due_of, sleeps_until, until_of, clock}
-use Rattle.gt_rules.specs.After.{after, changed, moved, set_due, set_again, with_mover, with_starts, started_by, with_retimed, with_clock, retimed, new_period, number_of}
+use Rattle.gt_rules.specs.State.{State, goroutine_at, timer_at, due_of, sleeps_until, until_of, is_suspended, clock}
+use Rattle.gt_rules.specs.After.{after, changed, moved, in_mode, signalled, with_signalled, set_due, set_again, with_mover, with_starts, started_by, with_retimed, with_clock, retimed, new_period, number_of}
 use Rattle.gt_rules.specs.Change.{Change, change_of}
 use Rattle.gt_rules.specs.Finish.{Legal}
 use Rattle.gt_rules.specs.History.{state_after}
@@ -22,9 +23,11 @@ use Rattle.gt_rules.specs.declared.change.Setting.{Setting}
 use Rattle.gt_rules.specs.declared.change.Start.{Start}
 use Rattle.gt_facts.specs.Formed.{IsFormed}
 use Rattle.gt_facts.proofs.Formed.{length-mover}
+use Rattle.gt_facts.proofs.Suspended.{suspended-mode}
 use Rattle.gt_facts.proofs.Fits.{IsLive, FitsTimer, Fits, fits-Legal}
 use Rattle.gt_book.proofs.Passing.{enters-script}
-use Rattle.gt_schedule.specs.Schedule.{Schedule, status_of, is_parked, scheduled, schedule_after, marks_at, with_new, begun_by, gone_on, turned, moved_by}
+use Rattle.gt_schedule.specs.Schedule.{Schedule, status_of, is_parked, scheduled, schedule_after, marks_at, with_new, begun_by, gone_on, turned, moved_by, signalled_by, parties_at}
+use Rattle.gt_schedule.proofs.Relocked.{each-marks}
 use Rattle.gt_book.specs.View.{BookView, Enters, AreWoken, IsLawful, finish_by, finish_due, is_waiting, is_firm_at}
 use Rattle.gt_machine.specs.Outcomes.{due_outcome}
 use Rattle.gt_rows.specs.Agrees.{due_by, period_by}
@@ -40,6 +43,8 @@ same-cond false x = refl
 abbrev IsAwake : Move → Type 0
 IsAwake (Move.GoesOn case_no) = Unit {0}
 IsAwake (Move.FallsAsleep until) = ⊥
+IsAwake (Move.Suspends k) = ⊥
+IsAwake (Move.Relocks k) = ⊥
 IsAwake Move.Ends = ⊥
 IsAwake Move.Panics = Unit {0}
 
@@ -85,6 +90,8 @@ woken-is script s m (Entry.Lock g k) h woken = woken-goes script s m _ g (Move.G
 woken-is script s m (Entry.Unlock g k) h woken = woken-goes script s m _ g (Move.GoesOn 0) tt refl refl refl refl refl woken.0
 woken-is script s m (Entry.Add g w n) h woken = woken-goes script s m _ g (Move.GoesOn 0) tt refl refl refl refl refl woken.0
 woken-is script s m (Entry.WgWait g w) h woken = woken-goes script s m _ g (Move.GoesOn 0) tt refl refl refl refl refl woken.0
+woken-is script s m (Entry.CondWake g k) h woken = woken-goes script s m _ g (Move.GoesOn 0) tt refl refl refl refl refl woken.0
+woken-is script s m (Entry.Signal g k None) h woken = woken-goes script s m _ g (Move.GoesOn 0) tt refl refl refl refl refl woken.0
 woken-is script s m (Entry.Panic p reason) h woken = woken-goes script s m _ p.g Move.Panics tt refl refl refl refl refl woken.0
 woken-is script s m _ h woken = absurd woken.0
 
@@ -129,6 +136,8 @@ MoverIsThere gs (Some x) = HasNumber gs x.0
 asleep-move : (script : Script) (move : Move) (r : Goroutine) → asleep (Some (moved script move r)) ≡ until_after move (asleep (Some r))
 asleep-move script (Move.GoesOn n) r = refl
 asleep-move script (Move.FallsAsleep until) r = refl
+asleep-move script (Move.Suspends k) r = refl
+asleep-move script (Move.Relocks k) r = refl
 asleep-move script Move.Ends r = refl
 asleep-move script Move.Panics r = refl
 
@@ -155,6 +164,20 @@ there-still : (script : Script) (gs : List Goroutine) (o p : Option (ℕ × Move
 there-still script gs o None there = tt
 there-still script gs o (Some x) there = has_number gs (with_mover script gs o) x.0 there.item (sym (length-mover script gs o)) there.there
 
+-- who is signalled sleeps no more than before
+asleep-signal : (k : ℕ) (o : Option Goroutine) → asleep (option_map (signalled k) o) ≡ asleep o
+asleep-signal k None = refl
+asleep-signal k (Some r) =
+    elim (is_suspended k r) as (λ b. is_suspended k r ≡ b → asleep (Some (cond b (in_mode (Mode.Relocking k) r) r)) ≡ asleep (Some r)) [
+      | true ↦ λ e. ap until_of (sym (suspended-mode k r e))
+      | false ↦ λ e. refl
+    ] refl
+
+asleep-signalled : (gs : List Goroutine) (o : Option ℕ) (h : ℕ) → asleep (numbered (with_signalled gs o) h) ≡ asleep (numbered gs h)
+asleep-signalled gs None h = refl
+asleep-signalled gs (Some k) zero = refl
+asleep-signalled gs (Some k) (suc i) = ap asleep (slice_get-map (signalled k) gs i) ∙ asleep-signal k (slice_get gs i)
+
 awake-begun : (script : Script) (s : State) (x : Start) → asleep (Some (started_by script s x)) ≡ None
 awake-begun script s (Start.ByGoroutine g f) = refl
 awake-begun script s (Start.ByTimer t) = refl
@@ -171,14 +194,17 @@ asleep-begun script s gs (x ∷ xs) h =
 sleeps-changed : (script : Script) (s : State) (c : Change) (h : ℕ) → MoverIsThere s.goroutines c.mover → MoverIsThere s.goroutines c.partner
     → sleeps_until (changed script s c) h ≡ sleep_touched c.partner h (sleep_touched c.mover h (sleeps_until s h))
 sleeps-changed script s c h there partner =
-    asleep-begun script s (with_mover script (with_mover script s.goroutines c.mover) c.partner) c.starts h
+    asleep-begun script s (with_signalled (with_mover script (with_mover script s.goroutines c.mover) c.partner) c.broadcast) c.starts h
+    ∙ (asleep-signalled (with_mover script (with_mover script s.goroutines c.mover) c.partner) c.broadcast h
     ∙ (asleep-moved script (with_mover script s.goroutines c.mover) c.partner h (there-still script s.goroutines c.mover c.partner partner)
-    ∙ ap (sleep_touched c.partner h) (asleep-moved script s.goroutines c.mover h there))
+    ∙ ap (sleep_touched c.partner h) (asleep-moved script s.goroutines c.mover h there)))
 
 -- who is firmly ready does not sleep
 firm-mode : (script : Script) (s : State) (counts : ℕ → Bool) (g : ℕ) (r : Goroutine) (mode : Mode) → is_firm_in script s counts g r mode ≡ true → until_of mode ≡ None
 firm-mode script s counts g r Mode.At h = refl
 firm-mode script s counts g r (Mode.Sleeping until) h = cc
+firm-mode script s counts g r (Mode.Suspended k) h = cc
+firm-mode script s counts g r (Mode.Relocking k) h = refl
 firm-mode script s counts g r Mode.Ended h = refl
 
 firm-awake : (script : Script) (s : State) (m : Schedule) (g : ℕ) → is_firm_at script s m g ≡ true → sleeps_until s g ≡ None
@@ -301,6 +327,8 @@ firm-there script s m g firm =
 sleep-awake : (g x : ℕ) (move : Move) (before : Option ℕ) → IsAwake move → (g ≡ x → before ≡ None) → cond (g == x) (until_after move before) before ≡ before
 sleep-awake g x (Move.GoesOn n) before awake none = sleep-goes_on g x before none
 sleep-awake g x (Move.FallsAsleep until) before awake none = absurd awake
+sleep-awake g x (Move.Suspends k) before awake none = absurd awake
+sleep-awake g x (Move.Relocks k) before awake none = absurd awake
 sleep-awake g x Move.Ends before awake none = absurd awake
 sleep-awake g x Move.Panics before awake none = same-cond (g == x) before
 
@@ -434,6 +462,8 @@ marks-gone_on m x g false = refl
 marks-turned : (m : Schedule) (x : ℕ) (move : Move) (g : ℕ) → marks_at (turned m x move) g ≡ marks_at m g
 marks-turned m x (Move.GoesOn n) g = marks-gone_on m x g (is_parked (status_of m x))
 marks-turned m x (Move.FallsAsleep until) g = refl
+marks-turned m x (Move.Suspends k) g = refl
+marks-turned m x (Move.Relocks k) g = refl
 marks-turned m x Move.Ends g = refl
 marks-turned m x Move.Panics g = refl
 
@@ -441,12 +471,17 @@ marks-moved : (m : Schedule) (o : Option (ℕ × Move)) (g : ℕ) → marks_at (
 marks-moved m None g = refl
 marks-moved m (Some x) g = marks-turned m x.0 x.1 g
 
+marks-signalled : (m : Schedule) (o : Option ℕ) (g : ℕ) → marks_at (signalled_by m o) g ≡ marks_at m g
+marks-signalled m None g = refl
+marks-signalled m (Some k) g = ap (λ marks. marks_at (record m { marks = marks }) g) (each-marks m k (parties_at m.receivers k))
+
 marks-after : (m : Schedule) (h : List Entry) (g : ℕ) → marks_at (schedule_after m h) g ≡ marks_at m g
 marks-after m [] g = refl
 marks-after m (e ∷ h) g =
     marks-after (scheduled m e) h g
-    ∙ (marks-begun (moved_by (moved_by m (change_of e).mover) (change_of e).partner) (change_of e).starts g
-    ∙ (marks-moved (moved_by m (change_of e).mover) (change_of e).partner g ∙ marks-moved m (change_of e).mover g))
+    ∙ (marks-begun (signalled_by (moved_by (moved_by m (change_of e).mover) (change_of e).partner) (change_of e).broadcast) (change_of e).starts g
+    ∙ (marks-signalled (moved_by (moved_by m (change_of e).mover) (change_of e).partner) (change_of e).broadcast g
+    ∙ (marks-moved (moved_by m (change_of e).mover) (change_of e).partner g ∙ marks-moved m (change_of e).mover g)))
 
 pub enters-marks : (old : BookView) (e : Entry) (new : BookView) → Enters old e new → (g : ℕ) → marks_at new.schedule g ≡ marks_at old.schedule g
 enters-marks old e new enters g =

@@ -32,6 +32,7 @@ ticker-what (What.AfterFunc f) kind h = let is : RecKind.Func ≡ kind = cc in a
 ticker-what (What.Chan cap) kind h = cc
 ticker-what What.Mutex kind h = cc
 ticker-what What.Wg kind h = cc
+ticker-what (What.Cond mutex) kind h = cc
 ticker-what What.Function kind h = cc
 
 pub ticker-kind : (script : Script) (id : ℕ) (kind : RecKind) → kind_by script id ≡ Some kind → is_ticker script id ≡ is_ticking kind

@@ -22,6 +22,7 @@ kind_of_what (What.AfterFunc f) = Some RecKind.Func
 kind_of_what (What.Chan cap) = None
 kind_of_what What.Mutex = None
 kind_of_what What.Wg = None
+kind_of_what (What.Cond mutex) = None
 kind_of_what What.Function = None
 
 -- the kind of the record of a number; a function and a channel have none

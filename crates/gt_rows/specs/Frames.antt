@@ -18,6 +18,8 @@ due_after (Setting.Ended next) = next
 abbrev pub until_after : Move → Option ℕ → Option ℕ
 until_after (Move.GoesOn case_no) before = None
 until_after (Move.FallsAsleep until) before = Some until
+until_after (Move.Suspends k) before = None
+until_after (Move.Relocks k) before = None
 until_after Move.Ends before = None
 until_after Move.Panics before = before
 

@@ -1,5 +1,5 @@
 -- The state after an entry.
-use Rattle.std.specs.Prelude.{ℕ, suc, ℤ, pos, negsuc, ◌-◌, ◌+◌, cond, true, false, List, [], ◌∷◌, ◌++◌, drop, map, set}
+use Rattle.std.specs.Prelude.{ℕ, Bool, suc, ℤ, pos, negsuc, ◌-◌, ◌+◌, cond, true, false, List, [], ◌∷◌, ◌++◌, drop, map, set}
 use Rattle.std.specs.declared.option.Option.{Option}
 use Rattle.std.specs.declared.option.Option.TheVariants.{None, Some}
 use Rattle.gt_model.specs.declared.script.Script.{Script}
@@ -11,8 +11,8 @@ use Rattle.gt_model.specs.declared.state.Mode.{Mode}
 use Rattle.gt_model.specs.declared.state.Timer.{Timer}
 use Rattle.gt_model.specs.declared.state.Ending.{Ending}
 use Rattle.gt_model.specs.Tables.{change, change_numbered}
-use Rattle.gt_rules.specs.State.{State, Channel, stands_at, world_of, timer_at, unused}
-use Rattle.gt_model.specs.Script.{func_of, is_ticker}
+use Rattle.gt_rules.specs.State.{State, Channel, stands_at, world_of, timer_at, unused, is_suspended}
+use Rattle.gt_model.specs.Script.{func_of, is_ticker, mutex_of}
 use Rattle.gt_rules.specs.Places.{first_place, place_after}
 use Rattle.gt_rules.specs.declared.change.Move.{Move}
 use Rattle.gt_rules.specs.declared.change.Setting.{Setting}
@@ -32,6 +32,8 @@ moved_on script case_no r = record r { place = place_after script case_no r.plac
 abbrev pub moved : Script → Move → Goroutine → Goroutine
 moved script (Move.GoesOn case_no) r = moved_on script case_no r
 moved script (Move.FallsAsleep until) r = in_mode (Mode.Sleeping until) r
+moved script (Move.Suspends k) r = in_mode (Mode.Suspended k) r
+moved script (Move.Relocks k) r = in_mode (Mode.Relocking k) r
 moved script Move.Ends r = in_mode Mode.Ended r
 moved script Move.Panics r = r
 
@@ -99,11 +101,23 @@ abbrev pub added : ℕ → ℤ → ℕ
 added counter (pos n) = counter + n
 added counter (negsuc n) = counter - suc n
 
--- what becomes of a mutex or a WaitGroup, by somebody of world w: a WaitGroup belongs to the world of its first `add`
-abbrev pub stepped : ℕ → SyncStep → SyncState → SyncState
-stepped w SyncStep.Locks was = record was { locked = true }
-stepped w SyncStep.Unlocks was = record was { locked = false }
-stepped w (SyncStep.Adds n) was = record was { counter = added was.counter n; world = Some (option_or w was.world) }
+abbrev pub with_lock : Bool → SyncState → SyncState
+with_lock locked was = record was { locked = locked }
+
+-- a WaitGroup belongs to the world of its first `add`, and a Cond to that of its first `cwait`
+abbrev pub owned : ℕ → SyncState → SyncState
+owned w was = record was { world = Some (option_or w was.world) }
+
+abbrev pub counted_on : ℤ → SyncState → SyncState
+counted_on n was = record was { counter = added was.counter n }
+
+-- what becomes of the mutexes, the WaitGroups and the Conds, by somebody of world w
+abbrev pub stepped : Script → ℕ → List SyncState → ℕ → SyncStep → List SyncState
+stepped script w syncs o SyncStep.Locks = change syncs o (with_lock true)
+stepped script w syncs o SyncStep.Unlocks = change syncs o (with_lock false)
+stepped script w syncs o (SyncStep.Adds n) = change syncs o (λ was. owned w (counted_on n was))
+stepped script w syncs o SyncStep.Releases = change (change syncs (mutex_of script o) (with_lock false)) o (owned w)
+stepped script w syncs o SyncStep.Retakes = change syncs (mutex_of script o) (with_lock true)
 
 abbrev pub with_mover : Script → List Goroutine → Option (ℕ × Move) → List Goroutine
 with_mover script gs None = gs
@@ -126,9 +140,17 @@ abbrev pub with_traded : State → Option (ℕ × Move) → List (Option Channel
 with_traded s mover channels None = channels
 with_traded s mover channels (Some c) = change channels c.0 (traded (world_of s (number_of mover)) c.1)
 
-abbrev pub with_stepped : State → Option (ℕ × Move) → List SyncState → Option (ℕ × SyncStep) → List SyncState
-with_stepped s mover syncs None = syncs
-with_stepped s mover syncs (Some c) = change syncs c.0 (stepped (world_of s (number_of mover)) c.1)
+abbrev pub with_stepped : Script → State → Option (ℕ × Move) → List SyncState → Option (ℕ × SyncStep) → List SyncState
+with_stepped script s mover syncs None = syncs
+with_stepped script s mover syncs (Some c) = stepped script (world_of s (number_of mover)) syncs c.0 c.1
+
+-- who waits at a Cond is signalled, and waits for its mutex
+abbrev pub signalled : ℕ → Goroutine → Goroutine
+signalled k r = cond (is_suspended k r) (in_mode (Mode.Relocking k) r) r
+
+abbrev pub with_signalled : List Goroutine → Option ℕ → List Goroutine
+with_signalled gs None = gs
+with_signalled gs (Some k) = map (signalled k) gs
 
 abbrev pub with_clock : List ℕ → Option (ℕ × ℕ) → List ℕ
 with_clock clocks None = clocks
@@ -139,10 +161,10 @@ abbrev pub changed : Script → State → Change → State
 changed script s c = record {
   clocks = with_clock s.clocks c.clock;
   entries = s.entries + c.counted;
-  goroutines = with_starts script s (with_mover script (with_mover script s.goroutines c.mover) c.partner) c.starts;
+  goroutines = with_starts script s (with_signalled (with_mover script (with_mover script s.goroutines c.mover) c.partner) c.broadcast) c.starts;
   timers = with_retimed script s c.mover s.timers c.timer;
   channels = with_traded s c.mover s.channels c.channel;
-  syncs = with_stepped s c.mover s.syncs c.sync;
+  syncs = with_stepped script s c.mover s.syncs c.sync;
   ending = option_or s.ending c.ending;
 }
 

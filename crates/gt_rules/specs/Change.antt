@@ -13,17 +13,18 @@ use Rattle.gt_rules.specs.declared.change.Trade.{Trade}
 
 pub record Change : Type 0 where
   pub mover : Option (ℕ × Move)  -- who makes the entry, by its number, and what becomes of it; of two the sender
-  pub partner : Option (ℕ × Move)  -- the receiver, where two make the entry
+  pub partner : Option (ℕ × Move)  -- another one: the receiver, where two make the entry; or who is signalled
+  pub broadcast : Option ℕ  -- a Cond by its declaration, at which all that wait are signalled
   pub timer : Option (ℕ × Setting)  -- a timer by its declaration, and what becomes of it
   pub channel : Option (ℕ × Trade)  -- a channel by its declaration, and what becomes of it
-  pub sync : Option (ℕ × SyncStep)  -- a mutex or a WaitGroup by its declaration, and what becomes of it
+  pub sync : Option (ℕ × SyncStep)  -- a mutex, a WaitGroup or a Cond by its declaration, and what becomes of it
   pub starts : List Start  -- who are started, in the order of their numbers
   pub clock : Option (ℕ × ℕ)  -- a world, and the time of its clock
   pub ending : Option Ending  -- how far the run is, where the entry says it
   pub counted : ℕ  -- how much of the limit it takes
 
 abbrev pub nothing : Change
-nothing = record { mover = None; partner = None; timer = None; channel = None; sync = None; starts = []; clock = None; ending = None; counted = 1 }
+nothing = record { mover = None; partner = None; broadcast = None; timer = None; channel = None; sync = None; starts = []; clock = None; ending = None; counted = 1 }
 
 -- a goroutine goes on after its plain instruction; a party goes on after its operation
 abbrev pub on : ℕ → Change
@@ -46,6 +47,11 @@ sleeps (Some until) = Move.FallsAsleep until
 abbrev pub takes : ℕ → Option ℕ → Option (ℕ × Trade)
 takes c None = None
 takes c (Some v) = Some (c, Trade.Takes)
+
+-- who is signalled at a Cond, if somebody is
+abbrev pub signals : ℕ → Option ℕ → Option (ℕ × Move)
+signals k None = None
+signals k (Some g) = Some (g, Move.Relocks k)
 
 -- the run ends with the function of goroutine 1, which runs main
 abbrev pub ending_with : ℕ → Option Ending
@@ -72,6 +78,10 @@ change_of (Entry.Close g c) = record (on g) { channel = Some (c, Trade.Shut) }
 change_of (Entry.Default g) = on g
 change_of (Entry.Lock g m) = record (on g) { sync = Some (m, SyncStep.Locks) }
 change_of (Entry.Unlock g m) = record (on g) { sync = Some (m, SyncStep.Unlocks) }
+change_of (Entry.CondWait g k) = record nothing { mover = Some (g, Move.Suspends k); sync = Some (k, SyncStep.Releases) }
+change_of (Entry.CondWake g k) = record (on g) { sync = Some (k, SyncStep.Retakes) }
+change_of (Entry.Signal g k woken) = record (on g) { partner = signals k woken }
+change_of (Entry.Broadcast g k count) = record (on g) { broadcast = Some k }
 change_of (Entry.Add g w n) = record (on g) { sync = Some (w, SyncStep.Adds n) }
 change_of (Entry.WgWait g w) = on g
 change_of (Entry.Clock world at) = record nothing { clock = Some (world, at) }

@@ -7,14 +7,15 @@ use Rattle.gt_model.specs.declared.script.Script.{Script}
 use Rattle.gt_model.specs.declared.script.Instr.{Instr}
 use Rattle.gt_model.specs.declared.entry.Entry.{Entry}
 use Rattle.gt_model.specs.Times.{greatest_time}
+use Rattle.gt_model.specs.declared.state.Mode.{Mode}
 use Rattle.gt_model.specs.declared.entry.Party.{Party}
 use Rattle.gt_model.specs.declared.entry.Reason.{Reason}
 use Rattle.gt_model.specs.declared.state.Timer.{Timer}
 use Rattle.gt_model.specs.declared.script.Case.{Case}
 use Rattle.gt_model.specs.declared.script.CaseKind.{CaseKind}
-use Rattle.gt_rules.specs.State.{State, stands_at, clock, clock_of, world_of, sleeps_until, next_number, timer_at, due_of, period_at, items_of, item_count, is_open, is_closed, is_locked, counter_of}
+use Rattle.gt_rules.specs.State.{State, stands_at, clock, clock_of, world_of, sleeps_until, next_number, timer_at, due_of, period_at, items_of, item_count, is_open, is_closed, is_locked, counter_of, mode_of, suspended_count}
 use Rattle.gt_rules.specs.Operations.{operation, polls}
-use Rattle.gt_model.specs.Script.{is_timer, is_ticker, is_func, is_chan, is_mutex, is_wg, capacity_of}
+use Rattle.gt_model.specs.Script.{is_timer, is_ticker, is_func, is_chan, is_mutex, is_wg, mutex_of, capacity_of}
 use Rattle.gt_rules.specs.Panics.{panic_at}
 use Rattle.gt_rules.specs.Ready.{is_due, is_ready_alone, has_come}
 
@@ -88,6 +89,11 @@ pub record Defaults (script : Script) (s : State) (g : ℕ) : Type 0 where
   pub does : Does script s g (Instr.Select cases (Some to))
   pub none : All (λ (c : Case). is_ready_alone script s (has_come s (world_of s g)) c.kind ≡ false) cases
 
+-- who is signalled waits at the Cond, and nobody is exactly where nobody waits there
+abbrev pub Signals : State → ℕ → Option ℕ → Type 0
+Signals s k None = suspended_count s k ≡ 0
+Signals s k (Some g) = mode_of s g ≡ Some (Mode.Suspended k)
+
 -- where the clock of a world may move, and to which time
 abbrev pub MovesClock : State → ℕ → ℕ → Type 0
 MovesClock s zero to = (clock s 0 < to) × (to ≤ greatest_time)
@@ -119,6 +125,10 @@ May script s (Entry.Close g c) = Does script s g (Instr.Close c)
 May script s (Entry.Default g) = Defaults script s g
 May script s (Entry.Lock g m) = Does script s g (Instr.Lock m) × IsTrue (is_mutex script m) × (is_locked s m ≡ false)
 May script s (Entry.Unlock g m) = Does script s g (Instr.Unlock m)
+May script s (Entry.CondWait g k) = Does script s g (Instr.CWait k)
+May script s (Entry.CondWake g k) = (mode_of s g ≡ Some (Mode.Relocking k)) × (is_locked s (mutex_of script k) ≡ false)
+May script s (Entry.Signal g k woken) = Does script s g (Instr.Signal k) × Signals s k woken
+May script s (Entry.Broadcast g k count) = Does script s g (Instr.Broadcast k) × (count ≡ suspended_count s k)
 May script s (Entry.Add g w n) = Does script s g (Instr.Add w n)
 May script s (Entry.WgWait g w) = Does script s g (Instr.Wait w) × IsTrue (is_wg script w) × (counter_of s w ≡ 0)
 May script s (Entry.Clock world to) = MovesClock s world to

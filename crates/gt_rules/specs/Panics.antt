@@ -3,7 +3,7 @@ use Rattle.std.specs.Prelude.{ℕ, suc, ℤ, pos, negsuc, nat_lt, ◌+◌, ◌==
 use Rattle.std.specs.declared.option.Option.{Option}
 use Rattle.std.specs.declared.option.Option.TheVariants.{None, Some}
 use Rattle.gt_model.specs.declared.script.Script.{Script}
-use Rattle.gt_model.specs.Script.{is_ticker}
+use Rattle.gt_model.specs.Script.{is_ticker, mutex_of}
 use Rattle.gt_model.specs.declared.script.Instr.{Instr}
 use Rattle.gt_model.specs.declared.script.Case.{Case}
 use Rattle.gt_model.specs.declared.script.CaseKind.{CaseKind}
@@ -62,6 +62,7 @@ fault script s (Instr.Make c) = when (is_some (channel_at s c)) Reason.Twice
 fault script s (Instr.Send c v) = open_fault s c
 fault script s (Instr.Close c) = open_fault s c
 fault script s (Instr.Unlock m) = when (not (is_locked s m)) Reason.Unlocked
+fault script s (Instr.CWait k) = when (not (is_locked s (mutex_of script k))) Reason.Unlocked
 fault script s (Instr.Add w n) = negative s w n
 fault script s (Instr.Select cases default_to) = choice_fault s cases
 fault script s _ = None

@@ -10,7 +10,7 @@ use Rattle.gt_model.specs.declared.script.CaseKind.{CaseKind}
 use Rattle.gt_model.specs.declared.script.What.{What}
 use Rattle.gt_model.specs.declared.state.Goroutine.{Goroutine}
 use Rattle.gt_model.specs.declared.state.Mode.{Mode}
-use Rattle.gt_model.specs.Script.{instr_at, what_at, is_chan, capacity_of}
+use Rattle.gt_model.specs.Script.{instr_at, what_at, is_chan, capacity_of, mutex_of}
 use Rattle.gt_rules.specs.State.{State, clock, due_of, stands, item_count, is_closed, is_locked, is_done}
 use Rattle.gt_rules.specs.Operations.{receives_from, sends_to, offers, polls}
 use Rattle.gt_rules.specs.Panics.{fault, panic_of}
@@ -43,6 +43,7 @@ is_ready_recv s timed o (Some (What.AfterFunc func)) = false
 is_ready_recv s timed o (Some (What.Chan cap)) = nat_lt 0 (item_count s o) || is_closed s o
 is_ready_recv s timed o (Some What.Mutex) = not (is_locked s o)
 is_ready_recv s timed o (Some What.Wg) = is_done s o
+is_ready_recv s timed o (Some (What.Cond mutex)) = false
 is_ready_recv s timed o (Some What.Function) = false
 
 abbrev pub is_ready_alone : Script → State → (ℕ → Bool) → CaseKind → Bool
@@ -84,6 +85,8 @@ no_timer t = false
 abbrev pub is_ready_in : Script → State → ℕ → Goroutine → Mode → Bool
 is_ready_in script s g r Mode.At = is_ready_at script s (has_come s r.world) everyone g (instr_at script r.place)
 is_ready_in script s g r (Mode.Sleeping until) = nat_le until (clock s r.world)
+is_ready_in script s g r (Mode.Suspended k) = false
+is_ready_in script s g r (Mode.Relocking k) = not (is_locked s (mutex_of script k))
 is_ready_in script s g r Mode.Ended = false
 
 -- whether goroutine g, which is r, could go on
@@ -95,6 +98,8 @@ is_ready script s g r = is_ready_in script s g r r.mode
 abbrev pub is_firm_in : Script → State → (ℕ → Bool) → ℕ → Goroutine → Mode → Bool
 is_firm_in script s counts g r Mode.At = is_ready_at script s no_timer counts g (instr_at script r.place)
 is_firm_in script s counts g r (Mode.Sleeping until) = false
+is_firm_in script s counts g r (Mode.Suspended k) = false
+is_firm_in script s counts g r (Mode.Relocking k) = not (is_locked s (mutex_of script k))
 is_firm_in script s counts g r Mode.Ended = false
 
 abbrev pub is_firm : Script → State → (ℕ → Bool) → ℕ → Goroutine → Bool

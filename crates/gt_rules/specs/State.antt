@@ -1,5 +1,5 @@
 -- The state of the one-thread timer machine, and what is looked up in it.
-use Rattle.std.specs.Prelude.{ℕ, ◌==◌, ◌+◌, Bool, false, not, is_some, ◌||◌, List, [], length, slice_index, slice_index_or}
+use Rattle.std.specs.Prelude.{ℕ, ◌==◌, ◌+◌, Bool, false, not, is_some, ◌||◌, List, [], length, slice_index, slice_index_or, count_by}
 use Rattle.std.specs.Option.{option_map}
 use Rattle.std.specs.declared.option.Option.{Option}
 use Rattle.std.specs.declared.option.Option.TheVariants.{None, Some}
@@ -25,7 +25,7 @@ pub record State : Type 0 where
   pub goroutines : List Goroutine  -- by number, from 1
   pub timers : List (Option Timer)  -- by declaration; none is unmade
   pub channels : List (Option Channel)  -- by declaration; none is unmade
-  pub syncs : List SyncState  -- by declaration: what there is of a mutex or of a WaitGroup
+  pub syncs : List SyncState  -- by declaration: what there is of a mutex, of a WaitGroup or of a Cond
   pub ending : Ending
 
 abbrev pub goroutine_at : State → ℕ → Option Goroutine
@@ -60,6 +60,22 @@ until_of _ = None
 abbrev pub sleeps_until : State → ℕ → Option ℕ
 sleeps_until s g = elim (mode_of s g) [ None ↦ None | Some mode ↦ until_of mode ]
 
+-- the Cond at which a goroutine waits to be signalled, and the one at which it was, while it waits for the mutex
+abbrev pub suspended_at : Mode → Option ℕ
+suspended_at (Mode.Suspended k) = Some k
+suspended_at _ = None
+
+abbrev pub relocking_at : Mode → Option ℕ
+relocking_at (Mode.Relocking k) = Some k
+relocking_at _ = None
+
+abbrev pub is_suspended : ℕ → Goroutine → Bool
+is_suspended k r = elim (suspended_at r.mode) [ None ↦ false | Some at ↦ at == k ]
+
+-- how many wait at a Cond to be signalled
+abbrev pub suspended_count : State → ℕ → ℕ
+suspended_count s k = count_by (is_suspended k) s.goroutines
+
 -- the number of the next goroutine
 abbrev pub next_number : State → ℕ
 next_number s = length s.goroutines + 1
@@ -91,7 +107,7 @@ is_closed s c = elim (channel_at s c) [ None ↦ false | Some r ↦ r.closed ]
 abbrev pub is_open : State → ℕ → Bool
 is_open s c = elim (channel_at s c) [ None ↦ false | Some r ↦ not r.closed ]
 
--- what there is of a mutex or a WaitGroup before the first call: its zero value is ready for use
+-- what there is of a mutex, a WaitGroup or a Cond before the first call: its zero value is ready for use
 abbrev pub unused : SyncState
 unused = record { locked = false; counter = 0; world = None }
 

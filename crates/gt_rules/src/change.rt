@@ -12,6 +12,10 @@ pub enum Move {
     GoesOn { case_no: u32 },
     /// It sleeps until a time, in nanoseconds.
     FallsAsleep { until: u64 },
+    /// It waits at a Cond until it is signalled.
+    Suspends { cond: u32 },
+    /// It was signalled at a Cond, and waits for the mutex.
+    Relocks { cond: u32 },
     /// Its function has ended.
     Ends,
     /// It stays where it is: it misuses an object, and the run ends.
@@ -42,7 +46,7 @@ pub enum Trade {
     Shut,
 }
 
-/// What becomes of a mutex or of a WaitGroup.
+/// What becomes of a mutex or of a WaitGroup; where it is a Cond that is named, of its mutex and of the Cond itself.
 #[derive(Clone, Copy)]
 pub enum SyncStep {
     /// The mutex is locked.
@@ -51,6 +55,10 @@ pub enum SyncStep {
     Unlocks,
     /// `n` is added to the counter of the WaitGroup.
     Adds { n: i64 },
+    /// Who waits at the Cond unlocks its mutex.
+    Releases,
+    /// Who was signalled at the Cond locks its mutex.
+    Retakes,
 }
 
 /// Who starts a goroutine.
@@ -89,6 +97,9 @@ pub fn mover_of(entry: &Entry) -> Option<(u32, Move)>
         | Entry::Unlock { g, .. }
         | Entry::Add { g, .. }
         | Entry::WgWait { g, .. }
+        | Entry::CondWake { g, .. }
+        | Entry::Signal { g, .. }
+        | Entry::Broadcast { g, .. }
         | Entry::Sleep { g, until: None } => Some((g, Move::GoesOn { case_no })),
         Entry::TRecv { p, .. } | Entry::Send { p, .. } | Entry::Recv { p, .. } => Some(goes_on(p)),
         Entry::Pair { from, .. } => Some(goes_on(from)),
@@ -96,18 +107,24 @@ pub fn mover_of(entry: &Entry) -> Option<(u32, Move)>
             g,
             until: Some(until),
         } => Some((g, Move::FallsAsleep { until })),
+        Entry::CondWait { g, k } => Some((g, Move::Suspends { cond: k })),
         Entry::End { g } => Some((g, Move::Ends)),
         Entry::Panic { p, .. } => Some((p.g, Move::Panics)),
         Entry::FireFunc { .. } | Entry::Clock { .. } | Entry::Finish { .. } => None,
     }
 }
 
-/// The receiver of a value that passes from one goroutine to another, and what becomes of it.
+/// Another goroutine of which something becomes: the receiver of a value that passes from one to another, or who is signalled.
 pub fn partner_of(entry: &Entry) -> Option<(u32, Move)>
     ensures { result ≡ (table.change_of entry.now).partner }
 {
     match *entry {
         Entry::Pair { to, .. } => Some(goes_on(to)),
+        Entry::Signal {
+            k,
+            woken: Some(g),
+            ..
+        } => Some((g, Move::Relocks { cond: k })),
         _ => None,
     }
 }
@@ -148,6 +165,18 @@ pub fn sync_of(entry: &Entry) -> Option<(u32, SyncStep)>
         Entry::Lock { m, .. } => Some((m, SyncStep::Locks)),
         Entry::Unlock { m, .. } => Some((m, SyncStep::Unlocks)),
         Entry::Add { w, n, .. } => Some((w, SyncStep::Adds { n })),
+        Entry::CondWait { k, .. } => Some((k, SyncStep::Releases)),
+        Entry::CondWake { k, .. } => Some((k, SyncStep::Retakes)),
+        _ => None,
+    }
+}
+
+/// The Cond at which an entry signals all that wait there.
+pub fn broadcast_of(entry: &Entry) -> Option<u32>
+    ensures { result ≡ (table.change_of entry.now).broadcast }
+{
+    match *entry {
+        Entry::Broadcast { k, .. } => Some(k),
         _ => None,
     }
 }

@@ -128,6 +128,7 @@ first-kind script limits h id w (Some kind) empty is what bits =
     kinds (What.Chan cap) kind e = cc
     kinds What.Mutex kind e = cc
     kinds What.Wg kind e = cc
+    kinds (What.Cond mutex) kind e = cc
     kinds What.Function kind e = cc
 
 get-some : {X : Type 0} (xs : List X) (i : ℕ) → i < length xs → (x : X) × (slice_get xs i ≡ Some x)

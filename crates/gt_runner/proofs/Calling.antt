@@ -15,7 +15,7 @@ use Rattle.gt_model.specs.Script.{names_timer, names_func}
 use Rattle.gt_model.specs.Good.{is_setting, NamesRightly}
 use Rattle.gt_model.specs.declared.entry.Outcome.{Outcome}
 use Rattle.gt_model.proofs.Declared.{setting_declared}
-use Rattle.gt_rules.specs.State.{State, stands_at, until_of, sleeps_until, clock_of}
+use Rattle.gt_rules.specs.State.{State, stands_at, until_of, sleeps_until, suspended_count, clock_of}
 use Rattle.gt_rules.specs.Panics.{fault, fault_case}
 use Rattle.gt_rules.specs.Change.{Change, change_of}
 use Rattle.gt_rules.specs.History.{ClockJumps}
@@ -60,6 +60,8 @@ use Rattle.gt_runner.proofs.Passes.{goes-enters, makes-no_clock}
 awake-mode : (mode : Mode) → Agrees mode RunStatus.InHand → until_of mode ≡ None
 awake-mode Mode.At h = refl
 awake-mode (Mode.Sleeping until) h = absurd h
+awake-mode (Mode.Suspended k) h = absurd h
+awake-mode (Mode.Relocking k) h = absurd h
 awake-mode Mode.Ended h = absurd h
 
 pub in_hand-awake : (v : BookView) (g : ℕ) → IsLawful v → status_of v.schedule g ≡ Some RunStatus.InHand → sleeps_until v.state g ≡ None
@@ -156,6 +158,7 @@ some-kind (Some decl) h = of_what decl.what h
     of_what (What.Chan cap) h = cc
     of_what What.Mutex h = cc
     of_what What.Wg h = cc
+    of_what (What.Cond mutex) h = cc
     of_what What.Function h = cc
 
 get-some : {X : Type 0} (xs : List X) (i : ℕ) → i < length xs → (x : X) × (slice_get xs i ≡ Some x)
@@ -269,6 +272,8 @@ tended-plain x x' e tended lawful enters leaves records_are heap_is noted_is =
 awake-until : (m : Move) → IsAwake m → until_after m None ≡ None
 awake-until (Move.GoesOn n) h = refl
 awake-until (Move.FallsAsleep until) h = absurd h
+awake-until (Move.Suspends k) h = refl
+awake-until (Move.Relocks k) h = refl
 awake-until Move.Ends h = refl
 awake-until Move.Panics h = refl
 
@@ -385,3 +390,12 @@ after-set x x' g t r r' done ready wants h there records_are spare noted_is row 
       served = set-served x.book g t due wants.anew was ready.alone.in_hand;
       clock = set-no_clock x.book g t due wants.anew was;
     })
+
+-- a broadcast touches no record either
+pub after-broadcasts : (x x' : Runner) (g k : ℕ) → Ready x g → next_of x.book g ≡ Some (Step.Broadcasts k) → Enters x.book (Entry.Broadcast g k (suspended_count x.book.state k)) x'.book
+    → x'.records ≡ x.records → x'.heap ≡ x.heap → x'.noted ≡ x.noted → After x x' g
+after-broadcasts x x' g k ready next enters records_are heap_is noted_is =
+    let e : Entry = Entry.Broadcast g k (suspended_count x.book.state k) in
+    let awake : sleeps_until x.book.state g ≡ None = in_hand-awake x.book g ready.lawful ready.alone.in_hand in
+    after-enters x x' g e ready enters (in_hand-goes (status_of x.book.schedule g) ready.alone.in_hand, tt) tt
+    (tended-plain x x' e ready.served.tended ready.lawful enters (λ j. record { timer = tt; mover = inr (awake, refl); partner = tt }) records_are heap_is noted_is)

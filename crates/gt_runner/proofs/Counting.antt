@@ -105,6 +105,7 @@ lawful-marked v marks lawful = record {
   formed = lawful.formed;
   fits = record {
     as_many = lawful.fits.as_many;
+    mutexes = lawful.fits.mutexes;
     receivers = lawful.fits.receivers;
     senders = lawful.fits.senders;
     agree = lawful.fits.agree;

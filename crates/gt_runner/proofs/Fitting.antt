@@ -1,29 +1,41 @@
 -- Every entry keeps the marks fitting: who is woken, goes on or panics is where its marks allow it.
-use Rattle.std.proofs.Common.{◌≡◌, ◌≢◌, ℕ, zero, suc, ◌+◌, ◌<◌, ◌≤◌, List, [], ◌∷◌, ◌++◌, length, length-append, refl, sym, ap, subst, ◌∙◌, arith, Option, None, Some, Bool, true, false, ◌||◌, IsTrue, inl, inr}
+use Rattle.std.proofs.Common.{◌≡◌, ◌≢◌, ℕ, zero, suc, ◌+◌, ◌<◌, ◌≤◌, cond, List, [], ◌∷◌, ◌++◌, map, slice_get, length, length-append, refl, sym, ap, subst, ◌∙◌, arith, Option, None, Some, Bool, true, false, ◌||◌, IsTrue, inl, inr}
 use Rattle.std.proofs.lemmas.Bool.{cases_eq}
 use Rattle.gt_model.specs.declared.script.Script.{Script}
 use Rattle.gt_model.specs.declared.entry.Entry.{Entry}
+use Rattle.gt_model.specs.declared.entry.Limits.{Limits}
 use Rattle.gt_model.specs.declared.entry.Outcome.{Outcome}
 use Rattle.gt_model.specs.declared.entry.Party.{Party}
 use Rattle.gt_model.specs.declared.state.Goroutine.{Goroutine}
 use Rattle.gt_model.specs.Tables.{numbered, change_numbered}
 use Rattle.gt_model.proofs.Items.{HasNumber, has_number, numbered-change_same, numbered-change_other, numbered-push_same, numbered-push_other}
 use Rattle.gt_model.proofs.Changes.{length-change_numbered}
-use Rattle.gt_rules.specs.State.{State}
-use Rattle.gt_rules.specs.After.{after, changed, moved, with_mover, with_starts, started_by}
+use Rattle.gt_rules.specs.State.{State, stands, is_suspended}
+use Rattle.gt_rules.specs.After.{after, changed, moved, in_mode, signalled, with_mover, with_signalled, with_starts, started_by}
 use Rattle.gt_rules.specs.Change.{Change, change_of}
 use Rattle.gt_rules.specs.History.{state_after}
 use Rattle.gt_rules.specs.declared.change.Move.{Move}
 use Rattle.gt_rules.specs.declared.change.Start.{Start}
 use Rattle.gt_machine.specs.Outcomes.{due_outcome}
 use Rattle.gt_schedule.specs.declared.status.RunStatus.{RunStatus}
-use Rattle.gt_schedule.specs.Schedule.{Schedule, status_of, is_in_hand, is_parked, marks_at, gone_on, turned, moved_by, begun_by, with_new, rescheduled, scheduled, schedule_after, MayMove, ServedBy, ServedIn, Served}
+use Rattle.gt_schedule.specs.Schedule.{Schedule, status_of, is_in_hand, is_parked, marks_at, gone_on, turned, moved_by, signalled_by, relocked, all_relocked, parties_at, begun_by, with_new, rescheduled, scheduled, schedule_after, MayMove, ServedBy, ServedIn, Served}
 use Rattle.gt_book.specs.View.{BookView, Enters, AreWoken, IsLawful, with_schedule, finish_by}
 use Rattle.gt_model.specs.Good.{IsGood}
 use Rattle.gt_model.specs.Script.{is_timer}
 use Rattle.gt_schedule.specs.Counts.{times}
 use Rattle.gt_schedule.proofs.Lists.{times-push_other}
 use Rattle.gt_book.proofs.Fitting.{unchanged}
+use Rattle.std.proofs.lemmas.Option.{slice_get-map}
+use Rattle.std.proofs.lemmas.List.{length-map}
+use Rattle.std.specs.Option.{option_map}
+use Rattle.gt_model.specs.declared.script.Instr.{Instr}
+use Rattle.gt_model.specs.declared.state.Mode.{Mode}
+use Rattle.gt_rules.specs.Finish.{Legal}
+use Rattle.gt_facts.specs.Formed.{IsFormed}
+use Rattle.gt_facts.proofs.Suspended.{suspended-mode}
+use Rattle.gt_schedule.proofs.Relocked.{each-statuses, each-marks}
+use Rattle.gt_book.proofs.Turning.{MovesRightly, MoverRightly, ChangesRightly, rightly-May}
+use Rattle.gt_runner.specs.Served.{timers_of}
 use Rattle.gt_book.proofs.Going.{parked-goes}
 use Rattle.gt_book.proofs.Passing.{enters-script}
 use Rattle.gt_rows.proofs.Frames.{enters-marks}
@@ -119,20 +131,75 @@ fit-gone_on script gs m g n false e good all may =
     fit-status script gs m m g (moved script (Move.GoesOn n)) RunStatus.InHand RunStatus.InHand all at (same-status m.statuses g RunStatus.InHand at) refl
     (λ r k. marks-in_hand script gs m g all at)
 
+-- who is signalled at a Cond stands nowhere before and after
+stands-suspended : (script : Script) (r : Goroutine) (k : ℕ) → r.mode ≡ Mode.Suspended k → stands script r ≡ None
+stands-suspended script r k e = ap (λ (m : Mode). stands script (record r { mode = m })) e
+
+suspended-awaits : (script : Script) (o : Option Goroutine) (k : ℕ) → option_map (λ (r : Goroutine). r.mode) o ≡ Some (Mode.Suspended k) → awaited_in script o ≡ []
+suspended-awaits script None k e = cc
+suspended-awaits script (Some r) k e =
+    let mode : r.mode ≡ Mode.Suspended k = cc in
+    ap (λ (i : Option Instr). elim i as (λ _. List ℕ) [ None ↦ [] | Some i ↦ timers_of script i ]) (stands-suspended script r k mode)
+
+fit-relocked : (script : Script) (gs : List Goroutine) (m : Schedule) (g k : ℕ) → AllFit script gs m → IsTrue (is_parked (status_of m g)) → MovesRightly script gs g (Move.Relocks k)
+    → AllFit script (change_numbered gs g (moved script (Move.Relocks k))) (relocked m g k)
+fit-relocked script gs m g k all may rightly =
+    let was = parked-some (status_of m g) may in
+    let fits : marks_at m g ≡ awaited_in script (numbered gs g) = subst (MarkFits (marks_at m g) (awaited_in script (numbered gs g))) was.1 (all.each g) in
+    fit-status script gs m (relocked m g k) g (moved script (Move.Relocks k)) (RunStatus.Parked was.0) (RunStatus.Parked was.0) all was.1 (same-status m.statuses g (RunStatus.Parked was.0) was.1) refl
+    (λ r there. fits ∙ suspended-awaits script (numbered gs g) k rightly)
+
 fit-turned : (script : Script) (gs : List Goroutine) (m : Schedule) (g : ℕ) (move : Move) → IsGood script → AllFit script gs m → MayMove (status_of m g) move
-    → AllFit script (change_numbered gs g (moved script move)) (turned m g move)
-fit-turned script gs m g (Move.GoesOn n) good all may = fit-gone_on script gs m g n (is_parked (status_of m g)) refl good all may
-fit-turned script gs m g (Move.FallsAsleep until) good all may =
+    → MovesRightly script gs g move → AllFit script (change_numbered gs g (moved script move)) (turned m g move)
+fit-turned script gs m g (Move.GoesOn n) good all may rightly = fit-gone_on script gs m g n (is_parked (status_of m g)) refl good all may
+fit-turned script gs m g (Move.FallsAsleep until) good all may rightly =
     fit-status script gs m (turned m g (Move.FallsAsleep until)) g (moved script (Move.FallsAsleep until)) RunStatus.InHand (RunStatus.Parked m.parks) all may refl refl
     (λ r k. marks-in_hand script gs m g all may)
-fit-turned script gs m g Move.Ends good all may =
+fit-turned script gs m g (Move.Suspends k) good all may rightly =
+    fit-status script gs m (turned m g (Move.Suspends k)) g (moved script (Move.Suspends k)) RunStatus.InHand (RunStatus.Parked m.parks) all may refl refl
+    (λ r k. marks-in_hand script gs m g all may)
+fit-turned script gs m g (Move.Relocks k) good all may rightly = fit-relocked script gs m g k all may rightly
+fit-turned script gs m g Move.Ends good all may rightly =
     fit-status script gs m (turned m g Move.Ends) g (moved script Move.Ends) RunStatus.InHand RunStatus.Ended all may refl refl
     (λ r k. marks-in_hand script gs m g all may)
-fit-turned script gs m g Move.Panics good all may = subst (λ gs. AllFit script gs m) (sym (unchanged gs g)) all
+fit-turned script gs m g Move.Panics good all may rightly = subst (λ gs. AllFit script gs m) (sym (unchanged gs g)) all
 
-fit-moved : (script : Script) (gs : List Goroutine) (m : Schedule) (o : Option (ℕ × Move)) → IsGood script → AllFit script gs m → ServedBy m o → AllFit script (with_mover script gs o) (moved_by m o)
-fit-moved script gs m None good all served = all
-fit-moved script gs m (Some x) good all served = fit-turned script gs m x.0 x.1 good all served
+fit-moved : (script : Script) (gs : List Goroutine) (m : Schedule) (o : Option (ℕ × Move)) → IsGood script → AllFit script gs m → ServedBy m o → MoverRightly script gs o
+    → AllFit script (with_mover script gs o) (moved_by m o)
+fit-moved script gs m None good all served rightly = all
+fit-moved script gs m (Some x) good all served rightly = fit-turned script gs m x.0 x.1 good all served rightly
+
+-- ---- a broadcast
+
+stands-signalled : (script : Script) (k : ℕ) (r : Goroutine) → stands script (signalled k r) ≡ stands script r
+stands-signalled script k r =
+    elim (is_suspended k r) as (λ b. is_suspended k r ≡ b → stands script (cond b (in_mode (Mode.Relocking k) r) r) ≡ stands script r) [
+      | true ↦ λ e. sym (stands-suspended script r k (suspended-mode k r e))
+      | false ↦ λ e. refl
+    ] refl
+
+awaited-signalled : (script : Script) (k : ℕ) (o : Option Goroutine) → awaited_in script (option_map (signalled k) o) ≡ awaited_in script o
+awaited-signalled script k None = refl
+awaited-signalled script k (Some r) = ap (λ (i : Option Instr). elim i as (λ _. List ℕ) [ None ↦ [] | Some i ↦ timers_of script i ]) (stands-signalled script k r)
+
+numbered-map : (gs : List Goroutine) (f : Goroutine → Goroutine) (h : ℕ) → numbered (map f gs) h ≡ option_map f (numbered gs h)
+numbered-map gs f zero = refl
+numbered-map gs f (suc i) = slice_get-map f gs i
+
+fit-signalled : (script : Script) (gs : List Goroutine) (m : Schedule) (o : Option ℕ) → AllFit script gs m → AllFit script (with_signalled gs o) (signalled_by m o)
+fit-signalled script gs m None all = all
+fit-signalled script gs m (Some k) all =
+    let statuses : (all_relocked m k).statuses ≡ m.statuses = each-statuses m k (parties_at m.receivers k) in
+    let marks : (all_relocked m k).marks ≡ m.marks = each-marks m k (parties_at m.receivers k) in
+    record {
+      as_many = ap length statuses ∙ (all.as_many ∙ sym (length-map gs (signalled k)));
+      marks = ap length marks ∙ (all.marks ∙ sym (ap length statuses));
+      each = λ h. fit-is (marks_at (all_relocked m k) h) (marks_at m h) (awaited_in script (numbered (map (signalled k) gs) h)) (awaited_in script (numbered gs h))
+          (status_of (all_relocked m k) h) (status_of m h)
+          (ap (λ xs. marks_at (record m { marks = xs }) h) marks)
+          (ap (awaited_in script) (numbered-map gs (signalled k) h) ∙ awaited-signalled script k (numbered gs h))
+          (ap (λ xs. numbered xs h) statuses) (all.each h);
+    }
 
 -- ---- goroutines are started
 
@@ -166,42 +233,58 @@ fit-begun : (script : Script) (s : State) (gs : List Goroutine) (m : Schedule) (
 fit-begun script s gs m [] all = all
 fit-begun script s gs m (x ∷ xs) all = fit-begun script s (gs ++ started_by script s x ∷ []) (with_new m) xs (fit-begins script gs m (started_by script s x) all)
 
-fit-changed : (script : Script) (s : State) (m : Schedule) (c : Change) → IsGood script → AllFit script s.goroutines m → ServedIn m c → AllFit script (changed script s c).goroutines (rescheduled m c)
-fit-changed script s m c good all served =
+-- who is signalled by a change waits at the Cond
+abbrev RightlyIn : Script → List Goroutine → Change → Type 0
+RightlyIn script gs c = MoverRightly script gs c.mover × MoverRightly script (with_mover script gs c.mover) c.partner
+
+fit-changed : (script : Script) (s : State) (m : Schedule) (c : Change) → IsGood script → AllFit script s.goroutines m → ServedIn m c → RightlyIn script s.goroutines c
+    → AllFit script (changed script s c).goroutines (rescheduled m c)
+fit-changed script s m c good all served rightly =
     let gs : List Goroutine = with_mover script s.goroutines c.mover in
-    fit-begun script s (with_mover script gs c.partner) (moved_by (moved_by m c.mover) c.partner) c.starts
-    (fit-moved script gs (moved_by m c.mover) c.partner good (fit-moved script s.goroutines m c.mover good all served.0) served.1)
+    let both : AllFit script (with_mover script gs c.partner) (moved_by (moved_by m c.mover) c.partner) =
+    fit-moved script gs (moved_by m c.mover) c.partner good (fit-moved script s.goroutines m c.mover good all served.0 rightly.0) served.1 rightly.1 in
+    fit-begun script s (with_signalled (with_mover script gs c.partner) c.broadcast) (signalled_by (moved_by (moved_by m c.mover) c.partner) c.broadcast) c.starts
+    (fit-signalled script (with_mover script gs c.partner) (moved_by (moved_by m c.mover) c.partner) c.broadcast both)
 
 -- ---- entries
 
 -- who is woken was parked, and goes on or panics, alone
-woken-served : (script : Script) (s : State) (m : Schedule) (e : Entry) (h : List Entry) → AreWoken script s m (e ∷ h) → Served m e
-woken-served script s m (Entry.Say g n) h woken = (parked-goes (status_of m g) woken.0.0, tt)
-woken-served script s m (Entry.Now g at) h woken = (parked-goes (status_of m g) woken.0.0, tt)
-woken-served script s m (Entry.Sleep g None) h woken = (parked-goes (status_of m g) woken.0.0, tt)
-woken-served script s m (Entry.Wake g) h woken = (parked-goes (status_of m g) woken.0.0, tt)
-woken-served script s m (Entry.Make g c) h woken = (parked-goes (status_of m g) woken.0.0, tt)
-woken-served script s m (Entry.Send p c v) h woken = (parked-goes (status_of m p.g) woken.0.0, tt)
-woken-served script s m (Entry.Recv p c v) h woken = (parked-goes (status_of m p.g) woken.0.0, tt)
-woken-served script s m (Entry.Close g c) h woken = (parked-goes (status_of m g) woken.0.0, tt)
-woken-served script s m (Entry.Default g) h woken = (parked-goes (status_of m g) woken.0.0, tt)
-woken-served script s m (Entry.Lock g k) h woken = (parked-goes (status_of m g) woken.0.0, tt)
-woken-served script s m (Entry.Unlock g k) h woken = (parked-goes (status_of m g) woken.0.0, tt)
-woken-served script s m (Entry.Add g w n) h woken = (parked-goes (status_of m g) woken.0.0, tt)
-woken-served script s m (Entry.WgWait g w) h woken = (parked-goes (status_of m g) woken.0.0, tt)
-woken-served script s m (Entry.Panic p reason) h woken = (parked-goes (status_of m p.g) woken.0.0, tt)
+woken-served : (script : Script) (s : State) (m : Schedule) (e : Entry) (h : List Entry) → AreWoken script s m (e ∷ h)
+    → Served m e × RightlyIn script s.goroutines (change_of e)
+woken-served script s m (Entry.Say g n) h woken = ((parked-goes (status_of m g) woken.0.0, tt), (tt, tt))
+woken-served script s m (Entry.Now g at) h woken = ((parked-goes (status_of m g) woken.0.0, tt), (tt, tt))
+woken-served script s m (Entry.Sleep g None) h woken = ((parked-goes (status_of m g) woken.0.0, tt), (tt, tt))
+woken-served script s m (Entry.Wake g) h woken = ((parked-goes (status_of m g) woken.0.0, tt), (tt, tt))
+woken-served script s m (Entry.Make g c) h woken = ((parked-goes (status_of m g) woken.0.0, tt), (tt, tt))
+woken-served script s m (Entry.Send p c v) h woken = ((parked-goes (status_of m p.g) woken.0.0, tt), (tt, tt))
+woken-served script s m (Entry.Recv p c v) h woken = ((parked-goes (status_of m p.g) woken.0.0, tt), (tt, tt))
+woken-served script s m (Entry.Close g c) h woken = ((parked-goes (status_of m g) woken.0.0, tt), (tt, tt))
+woken-served script s m (Entry.Default g) h woken = ((parked-goes (status_of m g) woken.0.0, tt), (tt, tt))
+woken-served script s m (Entry.Lock g k) h woken = ((parked-goes (status_of m g) woken.0.0, tt), (tt, tt))
+woken-served script s m (Entry.Unlock g k) h woken = ((parked-goes (status_of m g) woken.0.0, tt), (tt, tt))
+woken-served script s m (Entry.Add g w n) h woken = ((parked-goes (status_of m g) woken.0.0, tt), (tt, tt))
+woken-served script s m (Entry.WgWait g w) h woken = ((parked-goes (status_of m g) woken.0.0, tt), (tt, tt))
+woken-served script s m (Entry.CondWake g k) h woken = ((parked-goes (status_of m g) woken.0.0, tt), (tt, tt))
+woken-served script s m (Entry.Signal g k None) h woken = ((parked-goes (status_of m g) woken.0.0, tt), (tt, tt))
+woken-served script s m (Entry.Panic p reason) h woken = ((parked-goes (status_of m p.g) woken.0.0, tt), (tt, tt))
 woken-served script s m _ h woken = absurd woken.0
 
 fit-finished : (script : Script) (s : State) (m : Schedule) (o : Option Outcome) → IsGood script → AllFit script s.goroutines m
     → AllFit script (state_after script s (finish_by o)).goroutines (schedule_after m (finish_by o))
 fit-finished script s m None good all = all
-fit-finished script s m (Some outcome) good all = fit-changed script s m (change_of (Entry.Finish outcome)) good all (tt, tt)
+fit-finished script s m (Some outcome) good all = fit-changed script s m (change_of (Entry.Finish outcome)) good all (tt, tt) (tt, tt)
 
 fit-woken : (script : Script) (s : State) (m : Schedule) (h : List Entry) (o : Option Outcome) → IsGood script → AreWoken script s m h → AllFit script s.goroutines m
     → AllFit script (state_after script s (h ++ finish_by o)).goroutines (schedule_after m (h ++ finish_by o))
 fit-woken script s m [] o good woken all = fit-finished script s m o good all
 fit-woken script s m (e ∷ h) o good woken all =
-    fit-woken script (after script s e) (scheduled m e) h o good woken.1 (fit-changed script s m (change_of e) good all (woken-served script s m e h woken))
+    fit-woken script (after script s e) (scheduled m e) h o good woken.1 (fit-changed script s m (change_of e) good all (woken-served script s m e h woken).0 (woken-served script s m e h woken).1)
+
+rightly-Legal : (script : Script) (limits : Limits) (s : State) (e : Entry) → IsGood script → IsFormed script s → Legal script limits s e → RightlyIn script s.goroutines (change_of e)
+rightly-Legal script limits s (Entry.Finish outcome) good formed legal = (tt, tt)
+rightly-Legal script limits s e good formed legal =
+    let rightly : ChangesRightly script s (change_of e) = rightly-May script s e good formed legal.1 in
+    (rightly.mover, rightly.partner)
 
 -- everybody's marks fit in a book
 abbrev pub MarksFit : BookView → Type 0
@@ -211,7 +294,8 @@ pub fit-enters : (old : BookView) (e : Entry) (new : BookView) → IsLawful old 
     → Served old.schedule e → MarksFit old → MarksFit new
 fit-enters old e new lawful marks enters served fit =
     let all : AllFit old.script old.state.goroutines old.schedule = record { as_many = lawful.fits.as_many; marks = marks; each = fit } in
-    let first : AllFit old.script (after old.script old.state e).goroutines (scheduled old.schedule e) = fit-changed old.script old.state old.schedule (change_of e) lawful.good all served in
+    let first : AllFit old.script (after old.script old.state e).goroutines (scheduled old.schedule e) = fit-changed old.script old.state old.schedule (change_of e) lawful.good all served
+    (rightly-Legal old.script old.limits old.state e lawful.good lawful.formed enters.legal.0) in
     let done = fit-woken old.script (after old.script old.state e) (scheduled old.schedule e) enters.woken
     (due_outcome old.limits (state_after old.script old.state (e ∷ enters.woken))) lawful.good enters.each_woken first in
     subst MarksFit (sym enters.is) done.each

@@ -89,6 +89,7 @@ what-plain (Some (What.AfterFunc f)) h = cc
 what-plain (Some (What.Chan cap)) h = cc
 what-plain (Some What.Mutex) h = cc
 what-plain (Some What.Wg) h = cc
+what-plain (Some (What.Cond mutex)) h = cc
 what-plain (Some What.Function) h = cc
 
 pub timer-plain : (script : Script) (t : ℕ) → is_timer script t ≡ true → is_chan script t ≡ false

@@ -48,6 +48,7 @@ channel-timer (Some decl) kind e h = of_what decl.what kind e h
     of_what (What.Chan cap) kind e h = cc
     of_what What.Mutex kind e h = cc
     of_what What.Wg kind e h = cc
+    of_what (What.Cond mutex) kind e h = cc
     of_what What.Function kind e h = cc
 
 kind-func : (o : Option Decl) → (elim o as (λ _. Option RecKind) [ None ↦ Some RecKind.Sleep | Some decl ↦ kind_of_what decl.what ]) ≡ Some RecKind.Func → names_func (option_map (λ (d : Decl). d.what) o) ≡ true
@@ -61,6 +62,7 @@ kind-func (Some decl) e = of_what decl.what e
     of_what (What.Chan cap) e = cc
     of_what What.Mutex e = cc
     of_what What.Wg e = cc
+    of_what (What.Cond mutex) e = cc
     of_what What.Function e = cc
 
 pub kind-sleep : (o : Option Decl) → (elim o as (λ _. Option RecKind) [ None ↦ Some RecKind.Sleep | Some decl ↦ kind_of_what decl.what ]) ≡ Some RecKind.Sleep → o ≡ None
@@ -74,6 +76,7 @@ kind-sleep (Some decl) e = absurd (of_what decl.what e)
     of_what (What.Chan cap) e = cc
     of_what What.Mutex e = cc
     of_what What.Wg e = cc
+    of_what (What.Cond mutex) e = cc
     of_what What.Function e = cc
 
 kind-other : (o : Option Decl) (kind : RecKind) → (elim o as (λ _. Option RecKind) [ None ↦ Some RecKind.Sleep | Some decl ↦ kind_of_what decl.what ]) ≡ Some kind
@@ -88,6 +91,7 @@ kind-other (Some decl) kind e h = of_what decl.what kind e h
     of_what (What.Chan cap) kind e h = cc
     of_what What.Mutex kind e h = cc
     of_what What.Wg kind e h = cc
+    of_what (What.Cond mutex) kind e h = cc
     of_what What.Function kind e h = cc
 
 pub never-deadline : (script : Script) (id : ℕ) (r : Rec) → kind_by script id ≡ Some r.kind → r.kind ≡ RecKind.Deadline → ⊥
@@ -280,6 +284,7 @@ not-named (Some decl) e = of_what decl.what e
     of_what (What.Chan cap) e = (refl, refl)
     of_what What.Mutex e = (refl, refl)
     of_what What.Wg e = (refl, refl)
+    of_what (What.Cond mutex) e = (refl, refl)
     of_what What.Function e = (refl, refl)
 
 neither : (a b : Bool) → (a || b) ≡ true → a ≡ false → b ≡ false → ⊥
@@ -294,6 +299,7 @@ func-not_timer (Some (What.AfterFunc f)) e h = cc
 func-not_timer (Some (What.Chan cap)) e h = cc
 func-not_timer (Some What.Mutex) e h = cc
 func-not_timer (Some What.Wg) e h = cc
+func-not_timer (Some (What.Cond mutex)) e h = cc
 func-not_timer (Some What.Function) e h = cc
 
 declared-needing : (x : Runner) (id w : ℕ) → IsLawful x.book → NobodyRuns x.book → IsServed x → id < length x.book.script.decls → Counts x.book id w → Needing x id w

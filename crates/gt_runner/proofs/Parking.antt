@@ -29,7 +29,7 @@ use Rattle.gt_runner.proofs.Fitting.{MarksFit, fit-is}
 use Rattle.gt_runner.proofs.Named.{timer-plain}
 use Rattle.gt_runner.proofs.Passes.{WasParked, was-parked_at, was-parked_cases, goes-waits}
 use Rattle.gt_runner.proofs.Tending.{tended-spared}
-use Rattle.gt_runner.proofs.Calling.{after-makes}
+use Rattle.gt_runner.proofs.Calling.{after-makes, after-broadcasts}
 use Rattle.gt_runner.proofs.Enrolling.{parked-marks_at, parked-status, parked-others, parked-named, none-marked, spares-parked}
 
 -- ---- the timers that are awaited at channels
@@ -129,6 +129,8 @@ does-after x x' g (Step.Parks kind) did ready next does other records_are heap_i
 does-after x x' g (Step.Chooses true) did ready next does other records_are heap_is noted_is = absurd (other (TimerOp.Enrolled (ticket_of x.book.schedule g)) does.1)
 does-after x x' g (Step.Chooses false) did ready next does other records_are heap_is noted_is =
     after-parks x x' g (Step.Chooses false) _ ready next refl does.0 (was-parked_cases x.book.schedule g (cases_of (stands_at x.book.script x.book.state g))) records_are heap_is noted_is
+does-after x x' g (Step.Broadcasts k) did ready next does other records_are heap_is noted_is =
+    after-broadcasts x x' g k ready next does.0 records_are heap_is noted_is
 does-after x x' g (Step.Needs op) did ready next does other records_are heap_is noted_is = absurd (other op does.1)
 does-after x x' g Step.Nowhere did ready next does other records_are heap_is noted_is = absurd does
 

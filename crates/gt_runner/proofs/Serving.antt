@@ -25,7 +25,9 @@ use Rattle.gt_rows.specs.Lent.{IsKept, IsLentRec}
 use Rattle.gt_rows.specs.Rows.{Pair, Parts, Answers, HeadRow, HeadBy, FiresAs, Fires, Runs, DeliverRow, DeliversBy, DeliversTo, Gives}
 use Rattle.gt_schedule.specs.Counts.{as_number, often}
 use Rattle.gt_schedule.specs.Schedule.{status_of, is_parked, parties_at, mark_count, Served}
-use Rattle.gt_book.specs.View.{BookView, Enters, outcome_of, is_at, is_parked_at}
+use Rattle.gt_book.specs.View.{BookView, Enters, IsLawful, outcome_of, is_at, wants, is_parked_at}
+use Rattle.gt_book.proofs.Wanting.{wants-receives}
+use Rattle.gt_model.specs.Script.{is_timer, is_chan}
 use Rattle.gt_book.proofs.Fitting.{first-waiting, asleep-parked}
 use Rattle.gt_book.proofs.Going.{parked-goes}
 use Rattle.gt_runner.specs.declared.runner.Runner.{Runner}
@@ -439,10 +441,13 @@ waiter-there x id r idle d channel =
 by-delivering : (b : BookView) (reply : Delivered) (Same Row : Type 0) → outcome_of b ≡ None → Rattle.gt_rows.specs.Rows.UnlessOver b Delivered.Over reply Same Row → Row
 by-delivering b reply Same Row none h = subst (λ (o : Option Outcome). MatchOption o Row (λ outcome. (reply ≡ Delivered.Over outcome) × Same)) none h
 
-party-parked : (v : BookView) (p : Party) (id : ℕ) → is_parked_at v.script v.state v.schedule p (receives_from id) ≡ true → (is_parked (status_of v.schedule p.g) ≡ true) × (sleeps_until v.state p.g ≡ None)
-party-parked v p id h =
-    let parked : is_parked (status_of v.schedule p.g) ≡ true = left-true (is_parked (status_of v.schedule p.g)) (is_at v.script v.state p (receives_from id)) h in
-    let there : is_at v.script v.state p (receives_from id) ≡ true = right-true (is_parked (status_of v.schedule p.g)) (is_at v.script v.state p (receives_from id)) h in
+party-parked : (v : BookView) (p : Party) (id : ℕ) → IsLawful v → is_timer v.script id ≡ true → is_parked_at v.script v.state v.schedule p (receives_from id) ≡ true
+    → (is_parked (status_of v.schedule p.g) ≡ true) × (sleeps_until v.state p.g ≡ None)
+party-parked v p id lawful timer h =
+    let parked : is_parked (status_of v.schedule p.g) ≡ true = left-true (is_parked (status_of v.schedule p.g)) (wants v.script v.state p (receives_from id)) h in
+    let there : is_at v.script v.state p (receives_from id) ≡ true =
+    wants-receives v.script v.state p id lawful.good lawful.formed (ap (λ b. b || is_chan v.script id) timer)
+    (right-true (is_parked (status_of v.schedule p.g)) (wants v.script v.state p (receives_from id)) h) in
     let at : AtOperation v.script v.state p (CaseKind.Recv id) = at_operation v.script v.state p (CaseKind.Recv id) (at-recv (operation_at v.script v.state p) there) in
     (parked, stands-awake v p.g at.instr at.stands)
   where
@@ -485,7 +490,7 @@ sends-passing x x' id seq r r1 r' b1 h1 reply idle d there s records_are spare n
     let named : names_timer (what_at v.script id) ≡ true = channel-timer (of_declaration v.script id) r.kind (ap (kind_by v.script) (sym d.id_is) ∙ d.watched.kept.rec.agrees.kind) s.channel in
     let within : id < length v.script.decls = named-within v.script id names_timer refl named in
     let parked : is_parked_at v.script v.state v.schedule waiter.0 (receives_from id) ≡ true = first-waiting v.script v.state v.schedule waiter.0 id idle.lawful.fits within waiter.1 in
-    let at = party-parked v waiter.0 id parked in
+    let at = party-parked v waiter.0 id idle.lawful named parked in
     let same_heaped : r'.heaped ≡ r1.heaped = ap (λ (r : Rec). r.heaped) gives.rec in
     let same_key : r'.key ≡ r1.key = ap (λ (r : Rec). r.key) gives.rec in
     let same1 : r'.id ≡ r1.id = ap (λ (r : Rec). r.id) gives.rec in

@@ -285,6 +285,7 @@ timer-channel (Some decl) kind h e = of_what decl.what kind h e
     of_what (What.Chan cap) kind h e = cc
     of_what What.Mutex kind h e = cc
     of_what What.Wg kind h e = cc
+    of_what (What.Cond mutex) kind h e = cc
     of_what What.Function kind h e = cc
 
 pub channel-of : (x : Runner) (t : ℕ) (r : Rec) → is_timer x.book.script t ≡ true → HasRecord x t × (r.id ≡ t) × IsWatched x.book x.heap x.noted r → has_channel r.kind ≡ true

@@ -24,7 +24,8 @@ use Rattle.gt_schedule.specs.Counts.{times}
 use Rattle.gt_schedule.specs.Schedule.{Schedule, status_of, is_parked, marks_at, mark_count}
 use Rattle.gt_book.specs.Least.{NobodyRuns}
 use Rattle.gt_book.specs.Steps.{timer_of}
-use Rattle.gt_book.specs.View.{BookView, IsLawful, Agrees, is_at, is_parked_at}
+use Rattle.gt_book.specs.View.{BookView, IsLawful, Agrees, wants, is_parked_at}
+use Rattle.gt_book.proofs.Wanting.{operates-wanted}
 use Rattle.gt_book.proofs.Fitting.{has_status, none-queued}
 use Rattle.gt_runner.specs.declared.runner.Runner.{Runner}
 use Rattle.gt_runner.specs.Served.{MarkFits, MarkFitsAt, awaited_by, operations_of, timers_of}
@@ -215,11 +216,11 @@ receiver-awaited v t p lawful at =
     ∙ offers-operation (receives_from t) at.instr p.case_no (CaseKind.Recv t) at.has (eq-eqb t t refl)))
 
 -- whether it stands there
-receiver-receiving : (script : Script) (s : State) (t : ℕ) (p : Party) → IsReceiver script s t p → is_at script s p (receives_from t) ≡ true
+receiver-receiving : (script : Script) (s : State) (t : ℕ) (p : Party) → IsReceiver script s t p → wants script s p (receives_from t) ≡ true
 receiver-receiving script s t p at =
     let there : operation_at script s p ≡ Some (CaseKind.Recv t) =
     ap (λ (o : Option Instr). elim o as (λ _. Option CaseKind) [ None ↦ None | Some i ↦ operation i p.case_no ]) at.stands ∙ at.has in
-    ap (λ (o : Option CaseKind). elim o as (λ _. Bool) [ None ↦ false | Some kind ↦ receives_from t kind ]) there ∙ eq-eqb t t refl
+    ap (λ (o : Option CaseKind). elim o as (λ _. Bool) [ None ↦ false | Some kind ↦ receives_from t kind ]) (operates-wanted script s p (CaseKind.Recv t) there) ∙ eq-eqb t t refl
 
 pub receiver-parked : (v : BookView) (t : ℕ) (p : Party) → IsLawful v → NobodyRuns v → IsReceiver v.script v.state t p → is_parked_at v.script v.state v.schedule p (receives_from t) ≡ true
 receiver-parked v t p lawful nobody at =

@@ -17,6 +17,7 @@ kind_at (What.AfterFunc f) = RecKind.Func
 kind_at (What.Chan cap) = RecKind.Func
 kind_at What.Mutex = RecKind.Func
 kind_at What.Wg = RecKind.Func
+kind_at (What.Cond mutex) = RecKind.Func
 kind_at What.Function = RecKind.Func
 
 -- each declaration has a record with nothing set

@@ -24,8 +24,12 @@ fn kind_of(what: &What) -> RecKind
     match what {
         What::Timer => RecKind::Timer,
         What::Ticker => RecKind::Ticker,
-        What::AfterFunc { .. } | What::Chan { .. } | What::Mutex | What::Wg | What::Function =>
-            RecKind::Func,
+        What::AfterFunc { .. }
+        | What::Chan { .. }
+        | What::Mutex
+        | What::Wg
+        | What::Cond { .. }
+        | What::Function => RecKind::Func,
     }
 }
 

@@ -29,6 +29,10 @@ pub waiting_at-marks : (m : Schedule) (p : Party) (kind : CaseKind) → (waiting
 waiting_at-marks m p (CaseKind.Recv o) = refl
 waiting_at-marks m p (CaseKind.Send c v) = refl
 
+pub waiting_at-mutexes : (m : Schedule) (p : Party) (kind : CaseKind) → (waiting_at m p kind).mutexes ≡ m.mutexes
+waiting_at-mutexes m p (CaseKind.Recv o) = refl
+waiting_at-mutexes m p (CaseKind.Send c v) = refl
+
 pub waiting_at-receivers_long : (m : Schedule) (p : Party) (kind : CaseKind) → length (waiting_at m p kind).receivers ≡ length m.receivers
 waiting_at-receivers_long m p (CaseKind.Recv o) = length-joins m.receivers o p
 waiting_at-receivers_long m p (CaseKind.Send c v) = refl
@@ -51,6 +55,9 @@ cases-run_queue = stays (λ (m : Schedule). m.run_queue) waiting_at-run_queue
 
 pub cases-marks : (m : Schedule) (g n : ℕ) (cases : List Case) → (waiting_at_cases m g n cases).marks ≡ m.marks
 cases-marks = stays (λ (m : Schedule). m.marks) waiting_at-marks
+
+pub cases-mutexes : (m : Schedule) (g n : ℕ) (cases : List Case) → (waiting_at_cases m g n cases).mutexes ≡ m.mutexes
+cases-mutexes = stays (λ (m : Schedule). m.mutexes) waiting_at-mutexes
 
 pub cases-receivers_long : (m : Schedule) (g n : ℕ) (cases : List Case) → length (waiting_at_cases m g n cases).receivers ≡ length m.receivers
 cases-receivers_long = stays (λ (m : Schedule). length m.receivers) waiting_at-receivers_long

@@ -6,6 +6,7 @@ use Rattle.std.proofs.lemmas.List.{get_or-set_same, get_or-set_other, get_or-tak
 use Rattle.std.proofs.Math.Seq.{take-set-lt}
 use Rattle.std.proofs.lemmas.Option.{slice_get_within}
 use Rattle.gt_model.specs.declared.script.Script.{Script}
+use Rattle.gt_model.specs.declared.script.Decl.{Decl}
 use Rattle.gt_model.specs.declared.script.Case.{Case}
 use Rattle.gt_model.specs.declared.script.CaseKind.{CaseKind}
 use Rattle.gt_model.specs.declared.entry.Party.{Party}
@@ -20,21 +21,22 @@ use Rattle.gt_select.proofs.Callers.{MayWait-enrolled}
 use Rattle.gt_schedule.specs.declared.status.RunStatus.{RunStatus}
 use Rattle.gt_schedule.specs.declared.scheduler.Scheduler.{Scheduler}
 use Rattle.gt_schedule.specs.Counts.{as_number, times}
-use Rattle.gt_schedule.specs.Schedule.{Schedule, at_case, waiting_at_cases, parked, status_of, first_schedule, is_parked, is_queued, is_in_hand, parties_at, without_goroutine, waiting_at, object_of, unparked, RunsQueued}
+use Rattle.gt_schedule.specs.Schedule.{Schedule, at_case, waiting_at_cases, parked, status_of, first_schedule, is_parked, is_queued, is_in_hand, parties_at, without_goroutine, waiting_at, object_of, unparked, mutex_in, RunsQueued}
 use Rattle.gt_schedule.specs.Scheduler.{schedule_of, capacity, list_of, HoldParked, IsScheduler}
 use Rattle.gt_room.specs.Contents.{Contents}
 use Rattle.gt_schedule.proofs.Lists.{times-contains, length-joins}
 use Rattle.gt_schedule.proofs.Counting.{no-ticket, count-cons}
 
 pub schedule-is : (m n : Schedule) → m.statuses ≡ n.statuses → m.run_queue ≡ n.run_queue → m.receivers ≡ n.receivers → m.senders ≡ n.senders → m.parks ≡ n.parks
-    → m.marks ≡ n.marks → m ≡ n
-schedule-is m n statuses run receivers senders parks marks =
+    → m.marks ≡ n.marks → m.mutexes ≡ n.mutexes → m ≡ n
+schedule-is m n statuses run receivers senders parks marks mutexes =
     ap (λ x. record m { statuses = x }) statuses
     ∙ (ap (λ x. record m { statuses = n.statuses; run_queue = x }) run
     ∙ (ap (λ x. record m { statuses = n.statuses; run_queue = n.run_queue; receivers = x }) receivers
     ∙ (ap (λ x. record m { statuses = n.statuses; run_queue = n.run_queue; receivers = n.receivers; senders = x }) senders
     ∙ (ap (λ x. record m { statuses = n.statuses; run_queue = n.run_queue; receivers = n.receivers; senders = n.senders; parks = x }) parks
-    ∙ ap (λ x. record m { statuses = n.statuses; run_queue = n.run_queue; receivers = n.receivers; senders = n.senders; parks = n.parks; marks = x }) marks))))
+    ∙ (ap (λ x. record m { statuses = n.statuses; run_queue = n.run_queue; receivers = n.receivers; senders = n.senders; parks = n.parks; marks = x }) marks
+    ∙ ap (λ x. record m { statuses = n.statuses; run_queue = n.run_queue; receivers = n.receivers; senders = n.senders; parks = n.parks; marks = n.marks; mutexes = x }) mutexes)))))
 
 -- ---- who waits where
 
@@ -148,6 +150,7 @@ joined-at m p (CaseKind.Recv o) within =
     (drop-set-lt d lists o xs within)
     refl
     refl
+    refl
 joined-at m p (CaseKind.Send c v) within =
     let lists : List (List Party) = m.waiters.lists in
     let d : ℕ = m.declared in
@@ -157,6 +160,7 @@ joined-at m p (CaseKind.Send c v) within =
     refl
     (take-set-le d lists (d + c) xs (omega arith))
     (drop-set-add d lists c xs ∙ ap (λ ps. set (drop d lists) c (ps ++ p ∷ [])) (sym (parties-senders d lists c)))
+    refl
     refl
     refl
 
@@ -266,7 +270,7 @@ hold-first m goroutines lists empty h has =
 behind-first : (x p : Party) (ps : List Party) → Contains ps p → Contains (x ∷ ps) p
 behind-first x p ps h = (suc h.0, omega (arith, h.1), h.2)
 
-without-absent : (g : ℕ) (ps : List Party) → ((p : Party) → Contains ps p → p.g ≢ g) → without_goroutine g ps ≡ ps
+pub without-absent : (g : ℕ) (ps : List Party) → ((p : Party) → Contains ps p → p.g ≢ g) → without_goroutine g ps ≡ ps
 without-absent g [] absent = refl
 without-absent g (x ∷ ps) absent =
     rw (ne_eqb x.g g (absent x (0, omega arith, refl)))
@@ -300,6 +304,7 @@ unparked-is m statuses queue w g kept items queues now =
     (ap (λ (x : Waiting). drop m.declared x.lists) now ∙ drop-map (without_goroutine g) m.declared m.waiters.lists)
     refl
     refl
+    refl
 
 -- its ticket is gone, and the others have theirs
 pub gone-own : (w : Waiting) (g : ℕ) → IsSome (ticket_of (gone w g) g) → ⊥
@@ -323,8 +328,8 @@ gone-tickets w g h has =
 pub begun-is : (m : Scheduler) (script : Script) (made : List (List ℕ)) (goroutines : ℕ) → m.statuses.items ≡ RunStatus.Queued ∷ [] → m.declared ≡ length script.decls
     → made ≡ replicate 1 []
     → m.run_queue.queues ≡ set made 0 (waiting_in made 0 ++ 1 ∷ []) → m.waiters ≡ nobody_waits goroutines (length script.decls + length script.decls)
-    → m.parks ≡ 0 → m.marks.items ≡ [] ∷ [] → schedule_of m ≡ first_schedule script
-begun-is m script made goroutines statuses declared empty queues waiters parks marks =
+    → m.parks ≡ 0 → m.marks.items ≡ [] ∷ [] → m.mutexes.items ≡ map (λ (d : Decl). mutex_in d.what) script.decls → schedule_of m ≡ first_schedule script
+begun-is m script made goroutines statuses declared empty queues waiters parks marks mutexes =
     let d : ℕ = length script.decls in
     let left : (d + d) - d ≡ d = omega arith in
     schedule-is (schedule_of m) (first_schedule script)
@@ -335,3 +340,4 @@ begun-is m script made goroutines statuses declared empty queues waiters parks m
     ∙ (ap (λ k. drop k (replicate (d + d) [])) declared ∙ (drop-replicate d (d + d) [] ∙ ap (λ k. replicate k []) left)))
     parks
     marks
+    mutexes

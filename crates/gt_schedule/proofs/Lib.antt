@@ -6,3 +6,6 @@ pub mod Moving
 pub mod Marked
 pub mod Back
 pub mod Cases
+pub mod Places
+pub mod Relocked
+pub mod Signalled

@@ -58,6 +58,10 @@ pub parked_at-marks : (m : Schedule) (p : Party) (kind : CaseKind) → (parked_a
 parked_at-marks m p (CaseKind.Recv o) = refl
 parked_at-marks m p (CaseKind.Send c v) = refl
 
+pub parked_at-mutexes : (m : Schedule) (p : Party) (kind : CaseKind) → (parked_at m p kind).mutexes ≡ m.mutexes
+parked_at-mutexes m p (CaseKind.Recv o) = refl
+parked_at-mutexes m p (CaseKind.Send c v) = refl
+
 pub parked_at-as_many : (m : Schedule) (p : Party) (kind : CaseKind) → length (parked_at m p kind).statuses ≡ length m.statuses
 parked_at-as_many m p kind = ap length (parked_at-statuses m p kind) ∙ length-change_numbered m.statuses p.g (λ _. RunStatus.Parked m.parks)
 

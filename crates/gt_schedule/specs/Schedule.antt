@@ -1,8 +1,11 @@
 -- Who runs, who is to run and who waits.
-use Rattle.std.specs.Prelude.{ℕ, ◌+◌, ◌-◌, ◌^◌, ◌<◌, ◌==◌, ◌≡◌, cond, IsTrue, Bool, true, false, not, ◌||◌, min, length, replicate, map, filter, List, [], ◌∷◌, ◌++◌, drop, set, slice_index_or, count_by, sum_by}
+use Rattle.std.specs.Prelude.{ℕ, ◌+◌, ◌-◌, ◌^◌, ◌<◌, ◌==◌, ◌≡◌, ◌≢◌, cond, nat_lt, IsTrue, Bool, true, false, not, ◌||◌, min, length, replicate, map, filter, List, [], ◌∷◌, ◌++◌, drop, set, slice_index_or, count_by, sum_by}
+use Rattle.std.specs.List.{list_all}
 use Rattle.std.specs.declared.option.Option.{Option}
 use Rattle.std.specs.declared.option.Option.TheVariants.{None, Some}
 use Rattle.gt_model.specs.declared.script.Script.{Script}
+use Rattle.gt_model.specs.declared.script.Decl.{Decl}
+use Rattle.gt_model.specs.declared.script.What.{What}
 use Rattle.gt_model.specs.declared.entry.Entry.{Entry}
 use Rattle.gt_model.specs.declared.entry.Limits.{Limits}
 use Rattle.gt_model.specs.declared.entry.Party.{Party}
@@ -24,6 +27,7 @@ pub record Schedule : Type 0 where
   pub senders : List (List Party)  -- by declaration: the parties parked at a send to it, the longest waiting first
   pub parks : ℕ  -- how many times a goroutine was parked
   pub marks : List (List ℕ)  -- by goroutine number, from 1: the timers whose records count it among those that wait there, the earliest first
+  pub mutexes : List ℕ  -- by declaration: the mutex of a Cond; 0 of what is none
 
 -- the greatest number of goroutines of a run: main's, and one for each entry
 abbrev pub most_goroutines : Limits → ℕ
@@ -47,6 +51,14 @@ is_in_hand _ = false
 abbrev pub is_parked : Option RunStatus → Bool
 is_parked (Some (RunStatus.Parked since)) = true
 is_parked _ = false
+
+-- how many times a goroutine was parked before this one was; 0 of one that is not parked
+abbrev pub since_of : Schedule → ℕ → ℕ
+since_of m g = since_in (status_of m g)
+  where
+    since_in : Option RunStatus → ℕ
+    since_in (Some (RunStatus.Parked since)) = since
+    since_in _ = 0
 
 -- a ticket is live while its goroutine is parked as it was when it got it
 abbrev pub IsLive : Schedule → Ticket → Type 0
@@ -127,6 +139,20 @@ without_goroutine g parties = filter (λ (p : Party). not (p.g == g)) parties
 abbrev pub joins : List (List Party) → ℕ → Party → List (List Party)
 joins lists t p = set lists t (parties_at lists t ++ p ∷ [])
 
+-- the mutex of a Cond
+abbrev pub mutex_in : What → ℕ
+mutex_in What.Timer = 0
+mutex_in What.Ticker = 0
+mutex_in (What.AfterFunc func) = 0
+mutex_in (What.Chan cap) = 0
+mutex_in What.Mutex = 0
+mutex_in What.Wg = 0
+mutex_in (What.Cond mutex) = mutex
+mutex_in What.Function = 0
+
+abbrev pub mutex_at : Schedule → ℕ → ℕ
+mutex_at m k = slice_index_or m.mutexes k 0
+
 -- before the first entry: goroutine 1 is to be taken
 abbrev pub first_schedule : Script → Schedule
 first_schedule script = record {
@@ -136,6 +162,7 @@ first_schedule script = record {
   senders = replicate (length script.decls) [];
   parks = 0;
   marks = [] ∷ [];
+  mutexes = map (λ (d : Decl). mutex_in d.what) script.decls;
 }
 
 abbrev pub with_status : Schedule → ℕ → RunStatus → Schedule
@@ -204,9 +231,43 @@ abbrev pub gone_on : Schedule → ℕ → Bool → Schedule
 gone_on m g true = unparked m g
 gone_on m g false = m
 
+-- ---- who was signalled at a Cond waits for its mutex
+
+-- a goroutine leaves those at a declaration
+abbrev pub leaves : List (List Party) → ℕ → ℕ → List (List Party)
+leaves lists t g = set lists t (without_goroutine g (parties_at lists t))
+
+-- a party stands in front of those at the end of a list that are later
+abbrev pub in_place : (Party → Bool) → Party → List Party → List Party
+in_place later p [] = p ∷ []
+in_place later p (x ∷ xs) = cond (list_all later (x ∷ xs)) (p ∷ x ∷ xs) (x ∷ in_place later p xs)
+
+abbrev pub takes_place : (Party → Bool) → List (List Party) → ℕ → Party → List (List Party)
+takes_place later lists t p = set lists t (in_place later p (parties_at lists t))
+
+-- a party was parked later than goroutine g
+abbrev pub is_later : Schedule → ℕ → Party → Bool
+is_later m g q = nat_lt (since_of m g) (since_of m q.g)
+
+-- a goroutine leaves those at a Cond, and takes its place among those that wait for the mutex, by when it was parked
+abbrev pub relocked : Schedule → ℕ → ℕ → Schedule
+relocked m g k = record m { receivers = takes_place (is_later m g) (leaves m.receivers k g) (mutex_at m k) (plainly g) }
+
+-- so do the goroutines of parties, one after the other
+abbrev pub each_relocked : Schedule → ℕ → List Party → Schedule
+each_relocked m k [] = m
+each_relocked m k (p ∷ ps) = each_relocked (relocked m p.g k) k ps
+
+-- so do all that wait at a Cond
+abbrev pub all_relocked : Schedule → ℕ → Schedule
+all_relocked m k = each_relocked m k (parties_at m.receivers k)
+
+-- who waits at a Cond stands behind those that wait there
 abbrev pub turned : Schedule → ℕ → Move → Schedule
 turned m g (Move.GoesOn case_no) = gone_on m g (is_parked (status_of m g))
 turned m g (Move.FallsAsleep until) = parked m g
+turned m g (Move.Suspends k) = parked_at m (plainly g) (CaseKind.Recv k)
+turned m g (Move.Relocks k) = relocked m g k
 turned m g Move.Ends = with_status m g RunStatus.Ended
 turned m g Move.Panics = m
 
@@ -214,13 +275,17 @@ abbrev pub moved_by : Schedule → Option (ℕ × Move) → Schedule
 moved_by m None = m
 moved_by m (Some x) = turned m x.0 x.1
 
+abbrev pub signalled_by : Schedule → Option ℕ → Schedule
+signalled_by m None = m
+signalled_by m (Some k) = all_relocked m k
+
 abbrev pub begun_by : Schedule → List Start → Schedule
 begun_by m [] = m
 begun_by m (x ∷ xs) = begun_by (with_new m) xs
 
 -- what a change does to the schedule
 abbrev pub rescheduled : Schedule → Change → Schedule
-rescheduled m c = begun_by (moved_by (moved_by m c.mover) c.partner) c.starts
+rescheduled m c = begun_by (signalled_by (moved_by (moved_by m c.mover) c.partner) c.broadcast) c.starts
 
 -- what an entry does to the schedule
 abbrev pub scheduled : Schedule → Entry → Schedule
@@ -230,10 +295,12 @@ abbrev pub schedule_after : Schedule → List Entry → Schedule
 schedule_after m [] = m
 schedule_after m (e ∷ h) = schedule_after (scheduled m e) h
 
--- where a goroutine has to be that moves: in hand, or parked where it goes on or panics
+-- where a goroutine has to be that moves: in hand, or parked where it goes on or panics; who is signalled is parked
 abbrev pub MayMove : Option RunStatus → Move → Type 0
 MayMove status (Move.GoesOn case_no) = IsTrue (is_in_hand status || is_parked status)
 MayMove status (Move.FallsAsleep until) = status ≡ Some RunStatus.InHand
+MayMove status (Move.Suspends k) = status ≡ Some RunStatus.InHand
+MayMove status (Move.Relocks k) = IsTrue (is_parked status)
 MayMove status Move.Ends = status ≡ Some RunStatus.InHand
 MayMove status Move.Panics = IsTrue (is_in_hand status || is_parked status)
 
@@ -247,6 +314,39 @@ ServedIn m c = ServedBy m c.mover × ServedBy (moved_by m c.mover) c.partner
 
 abbrev pub Served : Schedule → Entry → Type 0
 Served m e = ServedIn m (change_of e)
+
+-- a Cond and its mutex are declared, and are two
+pub record IsCondAt (m : Schedule) (k : ℕ) : Type 0 where
+  pub declared : k < length m.receivers
+  pub mutex_declared : mutex_at m k < length m.receivers
+  pub apart : mutex_at m k ≢ k
+
+-- who waits at a Cond and is signalled stands there at its plain instruction
+abbrev pub StandsAt : Schedule → ℕ → ℕ → Type 0
+StandsAt m g k = 0 < often (plainly g) (parties_at m.receivers k)
+
+abbrev pub ArePlain : List Party → Type 0
+ArePlain parties = (p : Party) → 0 < often p parties → p.case_no ≡ 0
+
+-- what the lists need of a move, and of a broadcast
+abbrev pub HasLists : Schedule → ℕ → Move → Type 0
+HasLists m g (Move.GoesOn case_no) = Unit {0}
+HasLists m g (Move.FallsAsleep until) = Unit {0}
+HasLists m g (Move.Suspends k) = k < length m.receivers
+HasLists m g (Move.Relocks k) = IsCondAt m k × StandsAt m g k
+HasLists m g Move.Ends = Unit {0}
+HasLists m g Move.Panics = Unit {0}
+
+abbrev pub HasListsBy : Schedule → Option (ℕ × Move) → Type 0
+HasListsBy m None = Unit {0}
+HasListsBy m (Some x) = HasLists m x.0 x.1
+
+abbrev pub HasListsAt : Schedule → Option ℕ → Type 0
+HasListsAt m None = Unit {0}
+HasListsAt m (Some k) = IsCondAt m k × ArePlain (parties_at m.receivers k)
+
+abbrev pub HasListsIn : Schedule → Change → Type 0
+HasListsIn m c = HasListsBy m c.mover × HasListsBy (moved_by m c.mover) c.partner × HasListsAt (moved_by (moved_by m c.mover) c.partner) c.broadcast
 
 -- the run queue has exactly those that are queued, each once
 abbrev pub RunsQueued : Schedule → Type 0

@@ -2,10 +2,11 @@
 use Rattle.std.specs.Prelude.{ℕ, ◌+◌, ◌-◌, ◌^◌, ◌<◌, ◌≤◌, ◌≡◌, IsSome, true, length, take, drop}
 use Rattle.gt_model.specs.declared.entry.Entry.{Entry}
 use Rattle.gt_model.specs.declared.script.CaseKind.{CaseKind}
+use Rattle.gt_rules.specs.Change.{change_of}
 use Rattle.gt_queue.specs.Contents.{waiting_in}
 use Rattle.gt_select.specs.Waiting.{ticket_of}
 use Rattle.gt_schedule.specs.declared.scheduler.Scheduler.{Scheduler}
-use Rattle.gt_schedule.specs.Schedule.{Schedule, status_of, is_parked, in_hand, Served, RunsQueued, AreParked}
+use Rattle.gt_schedule.specs.Schedule.{Schedule, status_of, is_parked, in_hand, Served, HasListsIn, RunsQueued, AreParked}
 
 -- the lists of the first declared names have those that are parked at a receive from each, and the others behind them those at a send to it
 abbrev pub schedule_of : Scheduler → Schedule
@@ -16,6 +17,7 @@ schedule_of m = record {
   senders = drop m.declared m.waiters.lists;
   parks = m.parks;
   marks = m.marks.items;
+  mutexes = m.mutexes.items;
 }
 
 -- the list of those that are parked at an operation, where so many names are declared
@@ -52,9 +54,10 @@ pub record IsOrderly (m : Schedule) : Type 0 where
   pub receivers : AreParked m m.receivers
   pub senders : AreParked m m.senders
 
--- an entry can be made: its goroutine is where it has to be, and there is room for a new one
+-- an entry can be made: its goroutine is where it has to be, the lists that it changes are there, and there is room for a new goroutine
 pub record CanApply (m : Scheduler) (e : Entry) : Type 0 where
   pub kept : IsScheduler m
   pub orderly : IsOrderly (schedule_of m)
   pub served : Served (schedule_of m) e
+  pub lists : HasListsIn (schedule_of m) (change_of e)
   pub spare : length m.statuses.items < capacity m

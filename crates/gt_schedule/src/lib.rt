@@ -2,6 +2,7 @@
 #![tactic(auto)]
 
 mod marks;
+mod relocking;
 mod scheduler;
 mod status;
 

@@ -13,15 +13,16 @@ ghost use Rattle.gt_select.specs.Waiting.{MayEnrol, MayWait, gone};
 ghost use Rattle.gt_schedule.specs.Counts.{times};
 ghost use Rattle.gt_schedule.specs.declared.status.RunStatus.{RunStatus};
 ghost use Rattle.gt_schedule.specs.Schedule as table;
-ghost use Rattle.gt_schedule.specs.Schedule.{first_schedule, status_of, with_status, with_new, parked, parked_at, waiting_at, at_case, waiting_at_cases, parked_cases, unparked, taken, turned, scheduled, is_parked, parties_at, ticket_of, marks_at, marked, unmarked, HasMarkRoom, object_of, put_back, given_back, in_hand, is_in_hand, IsLive, RunsQueued, MayMove};
+ghost use Rattle.gt_schedule.specs.Schedule.{first_schedule, status_of, with_status, with_new, parked, parked_at, waiting_at, at_case, waiting_at_cases, parked_cases, unparked, taken, turned, scheduled, is_parked, parties_at, ticket_of, marks_at, marked, unmarked, HasMarkRoom, object_of, put_back, given_back, in_hand, is_in_hand, IsLive, RunsQueued, MayMove, HasLists};
 ghost use Rattle.gt_schedule.specs.Scheduler.{schedule_of, capacity, list_of, IsScheduler, IsOrderly, CanApply};
 
 use crate::marks::Marks;
+use crate::relocking::mutexes_of;
 use crate::status::{RunStatus, Ticket};
 use gt_model::{Case, CaseKind, Entry, Limits, NoMemory, Party, Script};
 use gt_queue::Queues;
 use gt_room::Room;
-use gt_rules::{Move, mover_of, partner_of, start_of};
+use gt_rules::{Move, broadcast_of, mover_of, partner_of, start_of};
 use gt_select::Waiters;
 use std::alloc::Global;
 
@@ -46,6 +47,8 @@ pub struct Scheduler {
     pub running: u64,
     /// By goroutine, as `statuses`: the timers whose records count it among those that wait there.
     pub marks: Room<Marks>,
+    /// By declaration: the mutex of a Cond; 0 of what is none.
+    pub mutexes: Vec<u32>,
 }
 
 /// The greatest number of goroutines of a run: main's, and one for each entry.
@@ -101,6 +104,7 @@ impl Scheduler {
         let mut run_queue = Queues::with_room(alloc, 1, most + 1).map_err(|_| NoMemory)?;
         run_queue.enqueue(RUN_QUEUE, 1);
         let waiters = Waiters::with_room(alloc, most, declared + declared).map_err(|_| NoMemory)?;
+        let mutexes = mutexes_of(alloc, script.decls.as_slice())?;
         Ok(Scheduler {
             statuses,
             declared: declared as u32,
@@ -109,6 +113,7 @@ impl Scheduler {
             parks: 0,
             running: 0,
             marks,
+            mutexes,
         })
     }
 
@@ -276,8 +281,9 @@ impl Scheduler {
     /// Does what a move of a goroutine means.
     fn turn(&mut self, g: u32, step: Move)
         requires kept { IsScheduler self.old }
-        requires queued { RunsQueued (schedule_of self.old) }
+        requires orderly { IsOrderly (schedule_of self.old) }
         requires served { MayMove (status_of (schedule_of self.old) g) step }
+        requires lists { HasLists (schedule_of self.old) g step }
         ensures schedule { schedule_of self.new ≡ turned (schedule_of self.old) g step }
         ensures room { capacity self.new ≡ capacity self.old }
         ensures kept { IsScheduler self.new }
@@ -289,6 +295,10 @@ impl Scheduler {
                 }
             }
             Move::FallsAsleep { .. } => self.park(g),
+            Move::Suspends { cond } => {
+                self.park_at(g, CaseKind::Recv(cond));
+            }
+            Move::Relocks { cond } => self.relock(g, cond),
             Move::Ends => self.end(g),
             Move::Panics => {}
         }
@@ -321,6 +331,9 @@ impl Scheduler {
         }
         if let Some((g, step)) = partner_of(entry) {
             self.turn(g, step);
+        }
+        if let Some(k) = broadcast_of(entry) {
+            self.relock_all(k);
         }
         if start_of(entry).is_some() {
             self.start();
@@ -423,7 +436,7 @@ impl Scheduler {
         self.status_of(ticket.g) == Some(RunStatus::Parked { since: ticket.turn })
     }
 
-    /// The party that has waited longest at a receive from `t`, or None where nobody waits there.
+    /// The party that has waited longest at a receive from `t`, or at the Cond `t`; None where nobody waits there.
     pub fn first_receiver(&self, t: u32) -> Option<Party>
         requires kept { IsScheduler self.now }
         requires declared { t < length (schedule_of self.now).receivers }

@@ -8,7 +8,7 @@ ghost use Rattle.gt_table.specs.Forms.{most_of};
 ghost use Rattle.gt_names.specs.Known.{known};
 ghost use Rattle.gt_names.specs.Names.{is_free_name};
 ghost use Rattle.gt_grammar.specs.Duration.{duration_of};
-ghost use Rattle.gt_grammar.specs.Statements.{setting_place, channel_place, source_place, mutex_place, wg_place, function_place, number_to, added_of, value_of};
+ghost use Rattle.gt_grammar.specs.Statements.{setting_place, channel_place, source_place, mutex_place, wg_place, cond_place, function_place, number_to, added_of, value_of};
 
 use gt_dur::read_dur;
 use gt_lines::read_number;
@@ -63,7 +63,7 @@ fn setting_place(d: Declared) -> Option<u32>
 {
     match d.kind {
         Kind::Timer | Kind::Ticker | Kind::AfterFunc => Some(d.place),
-        Kind::Chan | Kind::Mutex | Kind::Wg | Kind::Function => None,
+        Kind::Chan | Kind::Mutex | Kind::Wg | Kind::Cond | Kind::Function => None,
     }
 }
 
@@ -72,8 +72,13 @@ fn channel_place(d: Declared) -> Option<u32>
 {
     match d.kind {
         Kind::Chan => Some(d.place),
-        Kind::Timer | Kind::Ticker | Kind::AfterFunc | Kind::Mutex | Kind::Wg | Kind::Function =>
-            None,
+        Kind::Timer
+        | Kind::Ticker
+        | Kind::AfterFunc
+        | Kind::Mutex
+        | Kind::Wg
+        | Kind::Cond
+        | Kind::Function => None,
     }
 }
 
@@ -82,7 +87,7 @@ fn source_place(d: Declared) -> Option<u32>
 {
     match d.kind {
         Kind::Timer | Kind::Ticker | Kind::Chan => Some(d.place),
-        Kind::AfterFunc | Kind::Mutex | Kind::Wg | Kind::Function => None,
+        Kind::AfterFunc | Kind::Mutex | Kind::Wg | Kind::Cond | Kind::Function => None,
     }
 }
 
@@ -91,8 +96,13 @@ fn mutex_place(d: Declared) -> Option<u32>
 {
     match d.kind {
         Kind::Mutex => Some(d.place),
-        Kind::Timer | Kind::Ticker | Kind::AfterFunc | Kind::Chan | Kind::Wg | Kind::Function =>
-            None,
+        Kind::Timer
+        | Kind::Ticker
+        | Kind::AfterFunc
+        | Kind::Chan
+        | Kind::Wg
+        | Kind::Cond
+        | Kind::Function => None,
     }
 }
 
@@ -101,8 +111,28 @@ fn wg_place(d: Declared) -> Option<u32>
 {
     match d.kind {
         Kind::Wg => Some(d.place),
-        Kind::Timer | Kind::Ticker | Kind::AfterFunc | Kind::Chan | Kind::Mutex | Kind::Function =>
-            None,
+        Kind::Timer
+        | Kind::Ticker
+        | Kind::AfterFunc
+        | Kind::Chan
+        | Kind::Mutex
+        | Kind::Cond
+        | Kind::Function => None,
+    }
+}
+
+fn cond_place(d: Declared) -> Option<u32>
+    ensures { result ≡ cond_place d }
+{
+    match d.kind {
+        Kind::Cond => Some(d.place),
+        Kind::Timer
+        | Kind::Ticker
+        | Kind::AfterFunc
+        | Kind::Chan
+        | Kind::Mutex
+        | Kind::Wg
+        | Kind::Function => None,
     }
 }
 
@@ -111,7 +141,13 @@ fn function_place(d: Declared) -> Option<u32>
 {
     match d.kind {
         Kind::Function => Some(d.func),
-        Kind::Timer | Kind::Ticker | Kind::AfterFunc | Kind::Chan | Kind::Mutex | Kind::Wg => None,
+        Kind::Timer
+        | Kind::Ticker
+        | Kind::AfterFunc
+        | Kind::Chan
+        | Kind::Mutex
+        | Kind::Wg
+        | Kind::Cond => None,
     }
 }
 
@@ -139,6 +175,7 @@ pub(crate) fn read_value<'a>(names: &NameTable<'a>, arg: Arg, word: &'a [u8]) ->
         Arg::Source => Some(u64::from(source_place(names.find(word)?)?)),
         Arg::Mutex => Some(u64::from(mutex_place(names.find(word)?)?)),
         Arg::WaitGroup => Some(u64::from(wg_place(names.find(word)?)?)),
+        Arg::Cond => Some(u64::from(cond_place(names.find(word)?)?)),
         Arg::Function => Some(u64::from(function_place(names.find(word)?)?)),
         Arg::Duration => read_duration(word),
         Arg::Number => Some(u64::from(read_number(word)?)),

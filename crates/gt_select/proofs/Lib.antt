@@ -7,4 +7,5 @@ pub mod Tickets
 pub mod Places
 pub mod Noted
 pub mod Shown
+pub mod InFront
 pub mod Callers

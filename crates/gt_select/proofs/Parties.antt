@@ -141,19 +141,24 @@ module _ (goroutines turns : ℕ) (keys : List (Option ℕ)) (tickets : Slab Wai
       let x = key * 17 + p.case_no in
       party_eq (at x) p (goroutine_from_key x p.g key known (key_of-node key p.case_no small)) (case_of-node key p.case_no small)
 
+  -- a node is a party's own, or another party's
+  pub is_party-node : (p : Party) (key : ℕ) → get_or keys p.g None ≡ Some key → p.case_no ≤ 16 → (x : ℕ) → IsSome (get tickets (x / 17)) → is_party (at x) p ≡ eqb x (key * 17 + p.case_no)
+  is_party-node p key known small x stands =
+      let node = key * 17 + p.case_no in
+      let own = party_at-node p key known small in
+      elim (cases_eq x node) [
+        | inl e ↦ is_party-same (at x) p (ap at e ∙ own) ∙ sym (eq-eqb x node e)
+        | inr n ↦
+            is_party-other (at x) p (λ e. n (same_node x node stands (rw (key_of-node key p.case_no small) (ticketed p.g key known)) (e ∙ sym own)))
+            ∙ sym (ne_eqb x node n)
+      ]
+
   module _ (xs : List ℕ) (stands : (x : ℕ) → Contains xs x → IsSome (get tickets (x / 17))) where
     -- without one party
     pub map-without : (p : Party) (key : ℕ) → get_or keys p.g None ≡ Some key → p.case_no ≤ 16 → map at (without xs (key * 17 + p.case_no)) ≡ without_party (map at xs) p
     map-without p key known small =
-        let node = key * 17 + p.case_no in
-        let own = party_at-node p key known small in
-        map-filter at at (λ x. not (eqb x node)) (λ q. not (is_party q p)) xs
-        (λ x h. ap not (elim (cases_eq x node) [
-          | inl e ↦ is_party-same (at x) p (ap at e ∙ own) ∙ sym (eq-eqb x node e)
-          | inr n ↦
-              is_party-other (at x) p (λ e. n (same_node x node (stands x h) (rw (key_of-node key p.case_no small) (ticketed p.g key known)) (e ∙ sym own)))
-              ∙ sym (ne_eqb x node n)
-        ]))
+        map-filter at at (λ x. not (eqb x (key * 17 + p.case_no))) (λ q. not (is_party q p)) xs
+        (λ x h. ap not (is_party-node p key known small x (stands x h)))
         (λ x h k. refl)
 
     -- and without all of a goroutine, whose ticket may be gone then

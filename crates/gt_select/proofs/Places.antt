@@ -1,5 +1,5 @@
 -- The places of those that wait, after one joined, left or went on.
-use Rattle.std.proofs.Common.{◌≡◌, ◌≢◌, ℕ, ◌*◌, ◌/◌, ◌%◌, ◌^◌, ◌<◌, ◌≤◌, Option, Some, None, IsSome, List, [], ◌∷◌, length, map, get_or, set, replicate, length-set, get_or-set_same, get_or-set_other, refl, sym, ap, ◌∙◌, inl, inr, arith}
+use Rattle.std.proofs.Common.{◌≡◌, ◌≢◌, ℕ, ◌*◌, ◌/◌, ◌%◌, ◌^◌, ◌<◌, ◌≤◌, ◌⊎◌, Option, Some, None, IsSome, List, [], ◌∷◌, length, map, get_or, set, replicate, length-set, get_or-set_same, get_or-set_other, refl, sym, ap, ◌∙◌, inl, inr, arith}
 use Rattle.std.specs.List.{Contains}
 use Rattle.std.proofs.Math.ListN.{get_or-map}
 use Rattle.std.proofs.lemmas.Bool.{cases_eq, cases_lt}
@@ -7,7 +7,6 @@ use Rattle.std.proofs.lemmas.List.{get_or_past, get_or-replicate, length-replica
 use Rattle.slab.specs.Slab.{Slab, get, Updates}
 use Rattle.gt_queue.specs.Contents.{Contents, IsWaiting, waiting_in, without}
 use Rattle.gt_queue.proofs.Members.{Contains-nil, Contains-here, Contains-there, Contains_cases, Contains-without}
-use Rattle.gt_queue.proofs.Waiting.{pushed, waited_or_pushed}
 use Rattle.gt_select.specs.declared.nodes.Waiter.{Waiter}
 use Rattle.gt_select.specs.Kept.{without_key, ArePlaced}
 use Rattle.gt_select.proofs.Runs.{without_key-same, without_key-other}
@@ -74,8 +73,8 @@ module _ (places : List (Option ℕ)) (tickets : Slab Waiter) (c c' : Contents) 
       }
 
   -- where one has joined, after its case was noted
-  pub ArePlaced-joined : (queue node : ℕ) → queue < length c.queues → node < c.members → ¬ IsWaiting c.queues node → IsSome (get tickets (node / 17)) → ((w : Waiter) → get tickets (node / 17) ≡ Some w → node % 17 ≤ w.most) → c'.queues ≡ pushed c.queues queue node → ArePlaced (set places node (Some queue)) tickets c'
-  ArePlaced-joined queue node ql nl free ticket noted e =
+  pub ArePlaced-joined : (queue node : ℕ) → node < c.members → ¬ IsWaiting c.queues node → IsSome (get tickets (node / 17)) → ((w : Waiter) → get tickets (node / 17) ≡ Some w → node % 17 ≤ w.most) → ((q y : ℕ) → Contains (waiting_in c'.queues q) y → Contains (waiting_in c.queues q) y ⊎ ((q ≡ queue) × (node ≡ y))) → ArePlaced (set places node (Some queue)) tickets c'
+  ArePlaced-joined queue node nl free ticket noted was =
       let size = a.size in
       let inside : node < length places = omega arith in
       record {
@@ -83,17 +82,17 @@ module _ (places : List (Option ℕ)) (tickets : Slab Waiter) (c c' : Contents) 
         few = rw members a.few;
         size = length-set places node (Some queue) ∙ a.size ∙ sym members;
         placed = λ q y h.
-            elim (waited_or_pushed c.queues queue node q y ql (rw e at h)) [
+            elim (was q y h) [
               | inl old ↦ get_or-set_other places node y (Some queue) None (λ same. free (q, rw same at old)) ∙ a.placed q y old
               | inr new ↦ rw (← new.1, new.0) (get_or-set_same places node (Some queue) None inside)
             ];
         ticketed = λ q y h.
-            elim (waited_or_pushed c.queues queue node q y ql (rw e at h)) [
+            elim (was q y h) [
               | inl old ↦ a.ticketed q y old
               | inr new ↦ rw (← new.1) ticket
             ];
         reached = λ k w now q y h of.
-            elim (waited_or_pushed c.queues queue node q y ql (rw e at h)) [
+            elim (was q y h) [
               | inl old ↦ a.reached k w now q y old of
               | inr new ↦ rw (← new.1) (noted w (ap (λ n. get tickets (n / 17)) new.1 ∙ ap (get tickets) of ∙ now))
             ];

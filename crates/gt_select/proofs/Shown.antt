@@ -88,7 +88,7 @@ module _ (goroutines turns : ℕ) (keys places : List (Option ℕ)) (tickets : S
       ap mk (u.others (x / 17) (λ same. let no = sym some.1 ∙ ap (get tickets) same ∙ vacant in cc))))
 
   -- who stands in a list stands at a node
-  at_node : (q : ℕ) (p : Party) → Contains (parties_in (lists_of tickets c.queues) q) p → (x : ℕ) × Contains (waiting_in c.queues q) x × (at x ≡ p)
+  pub at_node : (q : ℕ) (p : Party) → Contains (parties_in (lists_of tickets c.queues) q) p → (x : ℕ) × Contains (waiting_in c.queues q) x × (at x ≡ p)
   at_node q p h = Contains-map at (waiting_in c.queues q) p (rw (parties_in-lists tickets c.queues q) at h)
 
   pub IsLawful-shown : queue.IsLawful c → IsLawful (record { lists = lists_of tickets c.queues; tickets = turns_of tickets keys; turns = turns; goroutines = goroutines })

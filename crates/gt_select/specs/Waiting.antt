@@ -46,6 +46,19 @@ without_party waiting p = filter (λ other. not (is_party other p)) waiting
 abbrev pub without_goroutine : List Party → ℕ → List Party
 without_goroutine waiting g = filter (λ other. not (other.g == g)) waiting
 
+-- those that wait in front of p, in their order
+abbrev pub parties_in_front : List Party → Party → List Party
+parties_in_front [] p = []
+parties_in_front (first ∷ others) p =
+    if is_party first p then [] else first ∷ parties_in_front others p
+
+-- p comes to stand in front of another party, and the rest keep their order
+abbrev pub put_party_before : List Party → Party → Party → List Party
+put_party_before [] other p = []
+put_party_before (first ∷ others) other p =
+    if is_party first other then p ∷ first ∷ others
+    else first ∷ put_party_before others other p
+
 -- nobody waits, and there is no ticket yet
 abbrev pub nobody_waits : ℕ → ℕ → Waiting
 nobody_waits goroutines lists = record {
@@ -66,6 +79,11 @@ enrolled w g = record w { tickets = slice_set w.tickets g (Some w.turns); turns 
 -- p is the last in a list
 abbrev pub joined : Waiting → ℕ → Party → Waiting
 joined w list p = record w { lists = slice_set w.lists list (parties_in w.lists list ++ p ∷ []) }
+
+-- p stands in front of another party in a list
+abbrev pub joined_before : Waiting → ℕ → Party → Party → Waiting
+joined_before w list p other =
+    record w { lists = slice_set w.lists list (put_party_before (parties_in w.lists list) other p) }
 
 -- p stands in no list
 abbrev pub left : Waiting → Party → Waiting

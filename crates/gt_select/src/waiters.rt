@@ -1,6 +1,7 @@
 //! Those that wait.
-ghost use Rattle.std.specs.Prelude.{◌≡◌, ◌↔◌, ◌≤◌, ◌<◌, [], length, slice_get, IsTrue, IsNone, IfOk, if◌then◌else◌};
-ghost use Rattle.gt_select.specs.Waiting.{IsLawful, IsLive, MayEnrol, MayWait, ticket_of, parties_in, without_goroutine, nobody_waits, enrolled, joined, left, forgotten, gone};
+ghost use Rattle.std.specs.Prelude.{◌≡◌, ◌↔◌, ◌≤◌, ◌<◌, [], length, slice_get, Contains, None, IsTrue, IsNone, IfOk, if◌then◌else◌};
+ghost use Rattle.std.specs.List.{last_or};
+ghost use Rattle.gt_select.specs.Waiting.{IsLawful, IsLive, MayEnrol, MayWait, ticket_of, parties_in, parties_in_front, without_goroutine, nobody_waits, enrolled, joined, joined_before, left, forgotten, gone};
 
 use crate::nodes::{NODES, Ticket, Waiter, first_other, leave_all, leave_one, note, party_at};
 use crate::table::Table;
@@ -135,6 +136,22 @@ impl Waiters {
         self.places.set(node, Some(list));
     }
 
+    /// From now on p waits in a list, in front of another party, which waits there. p's goroutine has a live ticket, and p stands
+    /// in no list.
+    pub fn wait_before(&mut self, list: u32, p: Party, other: Party)
+        requires may_wait { MayWait self.old p }
+        requires other { Contains (parties_in self.old.lists list) other }
+        ensures { self.new ≡ joined_before self.old list p other }
+    {
+        let key = self.keys.at(p.g).unwrap();
+        let other_key = self.keys.at(other.g).unwrap();
+        let node = key * NODES + p.case_no;
+        note(&mut self.tickets, key, p.case_no);
+        self.queues
+            .enqueue_before(list, node, other_key * NODES + other.case_no);
+        self.places.set(node, Some(list));
+    }
+
     /// The party that has waited longest in a list, or None where nobody waits there.
     pub fn first(&self, list: u32) -> Option<Party>
         requires { list < length self.now.lists }
@@ -142,6 +159,27 @@ impl Waiters {
         ensures none { IsNone result ↔ (parties_in self.now.lists list ≡ []) }
     {
         let node = self.queues.first(list)?;
+        Some(party_at(&self.tickets, node))
+    }
+
+    /// The party that came last to a list, or None where nobody waits there.
+    pub fn last(&self, list: u32) -> Option<Party>
+        requires { list < length self.now.lists }
+        ensures last { result ≡ last_or None (parties_in self.now.lists list) }
+        ensures none { IsNone result ↔ (parties_in self.now.lists list ≡ []) }
+    {
+        let node = self.queues.last(list)?;
+        Some(party_at(&self.tickets, node))
+    }
+
+    /// The party in front of p in the list in which p stands, or None where p is the first there. `list` is there for the
+    /// contract.
+    pub fn before(&self, list: u32, p: Party) -> Option<Party>
+        requires { Contains (parties_in self.now.lists list) p }
+        ensures { result ≡ last_or None (parties_in_front (parties_in self.now.lists list) p) }
+    {
+        let key = self.keys.at(p.g).unwrap();
+        let node = self.queues.prev_in(key * NODES + p.case_no)?;
         Some(party_at(&self.tickets, node))
     }
 

@@ -34,6 +34,7 @@ is_kind_function Kind.AfterFunc = false
 is_kind_function Kind.Chan = false
 is_kind_function Kind.Mutex = false
 is_kind_function Kind.Wg = false
+is_kind_function Kind.Cond = false
 is_kind_function Kind.Function = true
 
 -- a timer that is set and stopped
@@ -44,6 +45,7 @@ is_kind_setting Kind.AfterFunc = true
 is_kind_setting Kind.Chan = false
 is_kind_setting Kind.Mutex = false
 is_kind_setting Kind.Wg = false
+is_kind_setting Kind.Cond = false
 is_kind_setting Kind.Function = false
 
 -- a timer that is received from
@@ -54,6 +56,7 @@ is_kind_timer Kind.AfterFunc = false
 is_kind_timer Kind.Chan = false
 is_kind_timer Kind.Mutex = false
 is_kind_timer Kind.Wg = false
+is_kind_timer Kind.Cond = false
 is_kind_timer Kind.Function = false
 
 abbrev pub is_kind_chan : Kind → Bool
@@ -63,6 +66,7 @@ is_kind_chan Kind.AfterFunc = false
 is_kind_chan Kind.Chan = true
 is_kind_chan Kind.Mutex = false
 is_kind_chan Kind.Wg = false
+is_kind_chan Kind.Cond = false
 is_kind_chan Kind.Function = false
 
 -- what is received from
@@ -73,6 +77,7 @@ is_kind_source Kind.AfterFunc = false
 is_kind_source Kind.Chan = true
 is_kind_source Kind.Mutex = false
 is_kind_source Kind.Wg = false
+is_kind_source Kind.Cond = false
 is_kind_source Kind.Function = false
 
 abbrev pub is_kind_mutex : Kind → Bool
@@ -82,6 +87,7 @@ is_kind_mutex Kind.AfterFunc = false
 is_kind_mutex Kind.Chan = false
 is_kind_mutex Kind.Mutex = true
 is_kind_mutex Kind.Wg = false
+is_kind_mutex Kind.Cond = false
 is_kind_mutex Kind.Function = false
 
 abbrev pub is_kind_wg : Kind → Bool
@@ -91,7 +97,18 @@ is_kind_wg Kind.AfterFunc = false
 is_kind_wg Kind.Chan = false
 is_kind_wg Kind.Mutex = false
 is_kind_wg Kind.Wg = true
+is_kind_wg Kind.Cond = false
 is_kind_wg Kind.Function = false
+
+abbrev pub is_kind_cond : Kind → Bool
+is_kind_cond Kind.Timer = false
+is_kind_cond Kind.Ticker = false
+is_kind_cond Kind.AfterFunc = false
+is_kind_cond Kind.Chan = false
+is_kind_cond Kind.Mutex = false
+is_kind_cond Kind.Wg = false
+is_kind_cond Kind.Cond = true
+is_kind_cond Kind.Function = false
 
 -- the declaration of a function opens it
 abbrev pub opens : Role → Bool
@@ -141,6 +158,7 @@ is_wanted Arg.Channel = true
 is_wanted Arg.Source = true
 is_wanted Arg.Mutex = true
 is_wanted Arg.WaitGroup = true
+is_wanted Arg.Cond = true
 is_wanted Arg.Function = true
 is_wanted Arg.Duration = true
 is_wanted Arg.Number = true
@@ -157,6 +175,7 @@ is_amount Arg.Channel = false
 is_amount Arg.Source = false
 is_amount Arg.Mutex = false
 is_amount Arg.WaitGroup = false
+is_amount Arg.Cond = false
 is_amount Arg.Function = false
 is_amount Arg.Duration = true
 is_amount Arg.Number = true
@@ -173,6 +192,7 @@ most_of Arg.Channel = 4294967295
 most_of Arg.Source = 4294967295
 most_of Arg.Mutex = 4294967295
 most_of Arg.WaitGroup = 4294967295
+most_of Arg.Cond = 4294967295
 most_of Arg.Function = 4294967295
 most_of Arg.Duration = greatest_time
 most_of Arg.Number = 4294967295

@@ -32,6 +32,7 @@ row_of Keyword.AfterFunc = row (codes "afterfunc") (Role.Declares Kind.AfterFunc
 row_of Keyword.Chan = row (codes "chan") (Role.Declares Kind.Chan) Arg.NewName Arg.Capacity (λ a cap. Step.Declare (What.Chan cap))
 row_of Keyword.Mutex = row (codes "mutex") (Role.Declares Kind.Mutex) Arg.NewName Arg.Nothing (λ a b. Step.Declare What.Mutex)
 row_of Keyword.Wg = row (codes "wg") (Role.Declares Kind.Wg) Arg.NewName Arg.Nothing (λ a b. Step.Declare What.Wg)
+row_of Keyword.Cond = row (codes "cond") (Role.Declares Kind.Cond) Arg.NewName Arg.Mutex (λ a m. Step.Declare (What.Cond m))
 row_of Keyword.Func = row (codes "func") (Role.Declares Kind.Function) Arg.NewName Arg.Nothing (λ decl b. Step.Open decl)
 row_of Keyword.End = row (codes "end") Role.Closes Arg.Nothing Arg.Nothing (λ a b. Step.Close)
 row_of Keyword.Loop = row (codes "loop") Role.Loops Arg.Passes Arg.Nothing (λ n b. Step.Loop n)
@@ -55,12 +56,15 @@ row_of Keyword.Unlock = row (codes "unlock") Role.Acts Arg.Mutex Arg.Nothing (λ
 row_of Keyword.Add = row (codes "add") Role.Acts Arg.WaitGroup Arg.Added (λ w n. Step.Do (Instr.Add w (pos n -ℤ pos most_added)))
 row_of Keyword.Done = row (codes "done") Role.Acts Arg.WaitGroup Arg.Nothing (λ w b. Step.Do (Instr.Add w (negsuc 0)))
 row_of Keyword.Wait = row (codes "wait") Role.Acts Arg.WaitGroup Arg.Nothing (λ w b. Step.Do (Instr.Wait w))
+row_of Keyword.CWait = row (codes "cwait") Role.Acts Arg.Cond Arg.Nothing (λ k b. Step.Do (Instr.CWait k))
+row_of Keyword.Signal = row (codes "signal") Role.Acts Arg.Cond Arg.Nothing (λ k b. Step.Do (Instr.Signal k))
+row_of Keyword.Broadcast = row (codes "broadcast") Role.Acts Arg.Cond Arg.Nothing (λ k b. Step.Do (Instr.Broadcast k))
 
 abbrev pub keywords : List Keyword
 keywords =
-    Keyword.Timer ∷ Keyword.Ticker ∷ Keyword.AfterFunc ∷ Keyword.Chan ∷ Keyword.Mutex ∷ Keyword.Wg ∷ Keyword.Func ∷ Keyword.End ∷ Keyword.Loop ∷ Keyword.Select ∷ Keyword.Default ∷ Keyword.Say ∷ Keyword.Now ∷ Keyword.Sleep ∷ Keyword.Go ∷ Keyword.New
+    Keyword.Timer ∷ Keyword.Ticker ∷ Keyword.AfterFunc ∷ Keyword.Chan ∷ Keyword.Mutex ∷ Keyword.Wg ∷ Keyword.Cond ∷ Keyword.Func ∷ Keyword.End ∷ Keyword.Loop ∷ Keyword.Select ∷ Keyword.Default ∷ Keyword.Say ∷ Keyword.Now ∷ Keyword.Sleep ∷ Keyword.Go ∷ Keyword.New
     ∷ Keyword.Stop ∷ Keyword.Reset ∷ Keyword.Recv ∷ Keyword.Make ∷ Keyword.Send ∷ Keyword.Close
-    ∷ Keyword.Lock ∷ Keyword.Unlock ∷ Keyword.Add ∷ Keyword.Done ∷ Keyword.Wait ∷ []
+    ∷ Keyword.Lock ∷ Keyword.Unlock ∷ Keyword.Add ∷ Keyword.Done ∷ Keyword.Wait ∷ Keyword.CWait ∷ Keyword.Signal ∷ Keyword.Broadcast ∷ []
 
 abbrev pub keyword_in : List Keyword → List ℕ → Option Keyword
 keyword_in [] word = None

@@ -13,6 +13,7 @@ pub enum Kind {
     Chan,
     Mutex,
     Wg,
+    Cond,
     Function,
 }
 
@@ -33,6 +34,8 @@ pub enum Arg {
     Mutex,
     /// The name of a WaitGroup.
     WaitGroup,
+    /// The name of a Cond.
+    Cond,
     /// The name of a function.
     Function,
     /// A duration.

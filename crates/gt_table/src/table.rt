@@ -19,6 +19,7 @@ pub enum Keyword {
     Chan,
     Mutex,
     Wg,
+    Cond,
     Func,
     End,
     Loop,
@@ -44,6 +45,9 @@ pub enum Keyword {
     Add,
     Done,
     Wait,
+    CWait,
+    Signal,
+    Broadcast,
 }
 
 /// The keyword that the first word of a line is, if it is one. That of a case has two words: [`read_case`] reads the second one.
@@ -57,6 +61,7 @@ pub fn read_keyword(word: &[u8]) -> Option<Keyword>
         b"chan" => Some(Keyword::Chan),
         b"mutex" => Some(Keyword::Mutex),
         b"wg" => Some(Keyword::Wg),
+        b"cond" => Some(Keyword::Cond),
         b"func" => Some(Keyword::Func),
         b"end" => Some(Keyword::End),
         b"loop" => Some(Keyword::Loop),
@@ -78,6 +83,9 @@ pub fn read_keyword(word: &[u8]) -> Option<Keyword>
         b"add" => Some(Keyword::Add),
         b"done" => Some(Keyword::Done),
         b"wait" => Some(Keyword::Wait),
+        b"cwait" => Some(Keyword::CWait),
+        b"signal" => Some(Keyword::Signal),
+        b"broadcast" => Some(Keyword::Broadcast),
         _ => None,
     }
 }
@@ -111,6 +119,7 @@ impl Keyword {
             Keyword::Chan => declares(Kind::Chan, Arg::Capacity),
             Keyword::Mutex => declares(Kind::Mutex, Arg::Nothing),
             Keyword::Wg => declares(Kind::Wg, Arg::Nothing),
+            Keyword::Cond => declares(Kind::Cond, Arg::Mutex),
             Keyword::Func => declares(Kind::Function, Arg::Nothing),
             Keyword::End => Form::new(Role::Closes, Arg::Nothing, Arg::Nothing),
             Keyword::Loop => Form::new(Role::Loops, Arg::Passes, Arg::Nothing),
@@ -130,6 +139,9 @@ impl Keyword {
             Keyword::Lock | Keyword::Unlock => Form::new(Role::Acts, Arg::Mutex, Arg::Nothing),
             Keyword::Add => Form::new(Role::Acts, Arg::WaitGroup, Arg::Added),
             Keyword::Done | Keyword::Wait => Form::new(Role::Acts, Arg::WaitGroup, Arg::Nothing),
+            Keyword::CWait | Keyword::Signal | Keyword::Broadcast => {
+                Form::new(Role::Acts, Arg::Cond, Arg::Nothing)
+            }
         }
     }
 
@@ -146,6 +158,7 @@ impl Keyword {
             | Keyword::Chan
             | Keyword::Mutex
             | Keyword::Wg
+            | Keyword::Cond
             | Keyword::Func => self.declaration(first, second),
             Keyword::End => Step::Close,
             Keyword::Loop => Step::Loop {
@@ -179,6 +192,9 @@ impl Keyword {
             Keyword::Chan => declare(What::Chan { cap: second as u32 }),
             Keyword::Mutex => declare(What::Mutex),
             Keyword::Wg => declare(What::Wg),
+            Keyword::Cond => declare(What::Cond {
+                mutex: second as u32,
+            }),
             Keyword::Func => Step::Open { decl: first as u32 },
             _ => unreachable!(),
         }
@@ -217,6 +233,9 @@ impl Keyword {
             Keyword::Add => add(first as u32, second as i64 - MOST_ADDED),
             Keyword::Done => add(first as u32, -1),
             Keyword::Wait => Instr::Wait { w: first as u32 },
+            Keyword::CWait => Instr::CWait { k: first as u32 },
+            Keyword::Signal => Instr::Signal { k: first as u32 },
+            Keyword::Broadcast => Instr::Broadcast { k: first as u32 },
             _ => unreachable!(),
         }
     }

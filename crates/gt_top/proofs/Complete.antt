@@ -9,8 +9,9 @@ use Rattle.gt_rules.specs.State.{State}
 use Rattle.gt_rules.specs.After.{first_state}
 use Rattle.gt_rules.specs.History.{History, AllLegal, AllJump, state_after}
 use Rattle.gt_model.specs.Named.{AllNamed}
+use Rattle.gt_facts.proofs.Formed.{formed-first}
 use Rattle.gt_facts.proofs.Named.{AllNamed-legal}
-use Rattle.gt_laws.proofs.Laws.{each-in_order, each-in_time, each-fresh, each-passes_on, each-chooses_rightly, each-alone, each-adds_up}
+use Rattle.gt_laws.proofs.Laws.{each-in_order, each-in_time, each-fresh, each-passes_on, each-chooses_rightly, each-alone, each-adds_up, each-signalled}
 use Rattle.gt_laws.proofs.Made.{each-uses_rightly}
 use Rattle.gt_laws.proofs.Jumps.{each-jumps}
 use Rattle.gt_laws.proofs.Turns.{each-in_turn}
@@ -47,6 +48,7 @@ complete-IsRun script limits b outcome run lawful is =
       chooses = each-chooses_rightly script limits b.history outcome good complete;
       alone = each-alone script limits b.history outcome good complete;
       adds_up = each-adds_up script limits b.history outcome good complete;
+      signals = each-signalled script limits b.history outcome good complete;
       ends = each-ends script limits b.history outcome good complete;
       ends_where_stuck = each-ends_where_stuck script limits 0 b.history outcome good complete jumps;
       jumps_to_least = each-jumps script limits 0 b.history outcome good complete jumps;
@@ -54,4 +56,4 @@ complete-IsRun script limits b outcome run lawful is =
 
 pub complete-AllNamed : (script : Script) (limits : Limits) (b : BookView) → IsComplete script limits b → IsLawful b → AllNamed script b.history
 complete-AllNamed script limits b run lawful =
-    rw (sym run.of_script) (AllNamed-legal b.script b.limits (first_state b.script) b.history lawful.good lawful.legal)
+    rw (sym run.of_script) (AllNamed-legal b.script b.limits (first_state b.script) b.history lawful.good (formed-first b.script lawful.good) lawful.legal)

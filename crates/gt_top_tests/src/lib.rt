@@ -2,6 +2,8 @@
 #![tactic(auto)]
 
 #[cfg(test)]
+mod conds;
+#[cfg(test)]
 mod selects;
 #[cfg(test)]
 mod syncs;

@@ -9,7 +9,7 @@ use Rattle.gt_model.specs.declared.entry.Entry.{Entry}
 use Rattle.gt_model.specs.declared.entry.Outcome.{Outcome}
 use Rattle.gt_model.specs.declared.entry.Party.{Party}
 use Rattle.gt_model.specs.declared.entry.Reason.{Reason}
-use Rattle.gt_model.specs.Parts.{Part, keyword, goroutine, party, number, maybe_number, signed, timer, after_func, setting, channel, mutex, wait_group, function, flag, reason, outcome, parts_of}
+use Rattle.gt_model.specs.Parts.{Part, keyword, goroutine, maybe_goroutine, party, number, maybe_number, signed, timer, after_func, setting, channel, mutex, wait_group, cond, function, flag, reason, outcome, parts_of}
 
 -- the byte between two words
 abbrev pub space : ℕ
@@ -26,6 +26,11 @@ function_name script f = elim (slice_get script.funcs f) [ None ↦ [] | Some fu
 -- a goroutine
 abbrev pub goroutine_word : ℕ → List ℕ
 goroutine_word g = codes "g" ++ decimal g
+
+-- a goroutine, where there is one
+abbrev pub maybe_goroutine_word : Option ℕ → List ℕ
+maybe_goroutine_word None = codes "-"
+maybe_goroutine_word (Some g) = goroutine_word g
 
 -- the case of a select behind its goroutine; a plain instruction has none
 abbrev pub case_suffix : ℕ → List ℕ
@@ -66,6 +71,7 @@ outcome_word Outcome.Limit = codes "limit"
 abbrev pub word_of : Script → Part → List ℕ
 word_of script (keyword word) = word
 word_of script (goroutine g) = goroutine_word g
+word_of script (maybe_goroutine g) = maybe_goroutine_word g
 word_of script (party p) = party_word p
 word_of script (number n) = decimal n
 word_of script (maybe_number n) = maybe_word n
@@ -76,6 +82,7 @@ word_of script (setting t) = name_of script t
 word_of script (channel c) = name_of script c
 word_of script (mutex m) = name_of script m
 word_of script (wait_group w) = name_of script w
+word_of script (cond k) = name_of script k
 word_of script (function f) = function_name script f
 word_of script (flag b) = flag_word b
 word_of script (reason why) = reason_word why

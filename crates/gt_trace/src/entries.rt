@@ -12,7 +12,7 @@ use crate::line::{
     push_party, push_word,
 };
 use crate::names::name_of_function;
-use crate::syncs::{fill_add, fill_mutex, fill_wait_group};
+use crate::syncs::{fill_add, fill_broadcast, fill_cond, fill_mutex, fill_signal, fill_wait_group};
 use crate::timers::{fill_fire, fill_tick, fill_timer};
 use gt_model::{Entry, Outcome, Party, Reason, Script};
 
@@ -55,6 +55,10 @@ fn fill_words(line: &mut Line, script: &Script, entry: &Entry)
         Entry::Default { g } => fill_goroutine(line, b"default", g),
         Entry::Lock { g, m } => fill_mutex(line, b"lock", script, g, m),
         Entry::Unlock { g, m } => fill_mutex(line, b"unlock", script, g, m),
+        Entry::CondWait { g, k } => fill_cond(line, b"cwait", script, g, k),
+        Entry::CondWake { g, k } => fill_cond(line, b"cwake", script, g, k),
+        Entry::Signal { g, k, woken } => fill_signal(line, script, g, k, woken),
+        Entry::Broadcast { g, k, count } => fill_broadcast(line, script, g, k, count),
         Entry::Add { g, w, n } => fill_add(line, script, g, w, n),
         Entry::WgWait { g, w } => fill_wait_group(line, b"wait", script, g, w),
         Entry::Clock { world, at } => fill_clock(line, world, at),

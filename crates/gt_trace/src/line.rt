@@ -2,7 +2,7 @@
 ghost use Rattle.std.specs.Prelude.{◌≡◌, ◌+◌, ◌≤◌, ◌∷◌, ◌++◌, length, decimal};
 ghost use Rattle.std.specs.Fmt.{signed_decimal};
 ghost use Rattle.arrayvec.specs.ArrayVec.{array_vec_len};
-ghost use Rattle.gt_trace.specs.Text.{space, goroutine_word, party_word, maybe_word, flag_word};
+ghost use Rattle.gt_trace.specs.Text.{space, goroutine_word, maybe_goroutine_word, party_word, maybe_word, flag_word};
 
 use arrayvec::ArrayVec;
 use gt_model::Party;
@@ -73,6 +73,18 @@ pub fn push_goroutine(line: &mut Line, g: u32)
     line.push(b' ');
     line.push(b'g');
     push_decimal(line, u64::from(g));
+}
+
+/// Appends a space and a goroutine, or `-` where there is none.
+pub fn push_maybe_goroutine(line: &mut Line, g: Option<u32>)
+    requires { array_vec_len line.old + 12 ≤ LINE_ROOM }
+    ensures appended { line.new.items ≡ line.old.items ++ space ∷ maybe_goroutine_word g }
+    ensures short { array_vec_len line.new ≤ array_vec_len line.old + 12 }
+{
+    match g {
+        Some(g) => push_goroutine(line, g),
+        None => push_word(line, b"-"),
+    }
 }
 
 /// Appends a space and a party: its goroutine, and behind it the case of its select where it stands at one.

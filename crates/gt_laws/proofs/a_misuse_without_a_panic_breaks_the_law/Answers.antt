@@ -66,3 +66,8 @@ returns-clause-for_no_close c = λ h.
     let at : choice ≡ panic.0 = cc in
     let closed : false ≡ true = (subst (λ (i : Instr). IsMisuse front i 1 Reason.Closed (misuse_told two_polls front i)) (sym at) panic.2).0 in
     cc closed
+
+pub returns-clause-without_a_lock : goal.returns-clause-without_a_lock
+returns-clause-without_a_lock c = λ h.
+    let held : false ≡ true = h (Entry.Go 1 2 1 ∷ []) (Entry.CondWait 1 2) [] refl in
+    cc held

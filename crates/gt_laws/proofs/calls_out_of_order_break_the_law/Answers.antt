@@ -4,7 +4,8 @@ use Rattle.gt_model.specs.declared.script.Instr.{Instr}
 use Rattle.gt_model.specs.declared.entry.Entry.{Entry}
 use Rattle.gt_rules.specs.Legal.{sleep_end}
 use Rattle.gt_laws.specs.Laws.{InOrder}
-use Rattle.gt_laws.specs.Broken.{case_taken, one_sleep, one_start, value_waits}
+use Rattle.gt_laws.specs.Told.{awake, signalled, suspended}
+use Rattle.gt_laws.specs.Broken.{case_taken, is_woken, one_sleep, one_start, value_waits}
 use Rattle.gt_laws.proofs.calls_out_of_order_break_the_law.Goals as goal
 
 pub returns-clause-swapped : goal.returns-clause-swapped
@@ -49,3 +50,13 @@ pub returns-clause-other_case : goal.returns-clause-other_case
 returns-clause-other_case c = λ h.
     let none : None ≡ Some (CaseKind.Recv 1) = (h value_waits (Entry.Recv (record { g = 1; case_no = 0 }) 1 (Some 7)) [] refl).0 in
     cc none
+
+pub returns-clause-wakes_unsignalled : goal.returns-clause-wakes_unsignalled
+returns-clause-wakes_unsignalled c = λ h.
+    let waits : suspended 2 ≡ signalled 2 = h (Entry.Go 1 2 1 ∷ Entry.Lock 1 1 ∷ Entry.CondWait 1 2 ∷ []) (Entry.CondWake 1 2) [] refl in
+    cc waits
+
+pub returns-clause-wakes_twice : goal.returns-clause-wakes_twice
+returns-clause-wakes_twice c = λ h.
+    let wakes : awake ≡ signalled 2 = h is_woken (Entry.CondWake 1 2) [] refl in
+    cc wakes

@@ -56,6 +56,24 @@ returns-in-unlock c =
     let is : word ≡ codes "unlock" = text_from_reads word (codes "unlock") (omega arith) (search rules) in
     rw is
 
+pub returns-in-cwait : goal.returns-in-cwait
+returns-in-cwait c =
+    let word : List ℕ = c.args.word.now in
+    let is : word ≡ codes "cwait" = text_from_reads word (codes "cwait") (omega arith) (search rules) in
+    rw is
+
+pub returns-in-signal : goal.returns-in-signal
+returns-in-signal c =
+    let word : List ℕ = c.args.word.now in
+    let is : word ≡ codes "signal" = text_from_reads word (codes "signal") (omega arith) (search rules) in
+    rw is
+
+pub returns-in-broadcast : goal.returns-in-broadcast
+returns-in-broadcast c =
+    let word : List ℕ = c.args.word.now in
+    let is : word ≡ codes "broadcast" = text_from_reads word (codes "broadcast") (omega arith) (search rules) in
+    rw is
+
 -- `default`
 pub returns-in-100 : goal.returns-in-100
 returns-in-100 c =

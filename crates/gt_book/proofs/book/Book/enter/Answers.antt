@@ -5,8 +5,8 @@ use Rattle.gt_book.specs.Book.{seen}
 use Rattle.gt_book.proofs.Waking.{can_enter-seen, kept-ends, enters-ends}
 use Rattle.gt_book.proofs.book.Book.enter.Goals as goal
 
-pub enter-requires : goal.enter-requires
-enter-requires c = can_enter-seen c.self.inside c.args.self.now c.args.entry c.self.view_is c.self.invariant c.requires.running c.requires.may c.requires.served
+pub enter-requires-clause-can : goal.enter-requires-clause-can
+enter-requires-clause-can c = can_enter-seen c.self.inside c.args.self.now c.args.entry c.self.view_is c.self.invariant c.requires.running c.requires.may c.requires.served
 
 pub end-requires : goal.end-requires
 end-requires c = (c.self.inside.script, record { kept = c.enter.ensures.kept; calm = c.enter.ensures.calm })

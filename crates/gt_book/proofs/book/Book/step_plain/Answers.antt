@@ -3,7 +3,7 @@ use Rattle.gt_model.specs.declared.script.CaseKind.{CaseKind}
 use Rattle.gt_book.specs.declared.step.Step.{Step}
 use Rattle.gt_book.specs.Steps.{step_of}
 use Rattle.gt_book.specs.View.{IsLawful, outcome_of}
-use Rattle.gt_book.proofs.Going.{in_hand-acts}
+use Rattle.gt_book.proofs.Going.{in_hand-acts, makes-call}
 use Rattle.gt_book.proofs.Parking.{may-seen, served-seen, MayPark, waits-may, parks-may, park-declared, kept-parked}
 use Rattle.gt_book.proofs.book.Book.step_plain.Goals as goal
 
@@ -18,6 +18,11 @@ enter-requires-clause-served c =
     let step : step_of c.args.self.now.script c.args.self.now.state c.args.self.now.schedule c.args.g ≡ Some (Step.Makes c.in-Makes.entry) = search rules in
     let none : outcome_of c.args.self.now ≡ None = sym c.outcome.ensures ∙ c.in_default.is in
     served-seen c.self.inside c.args.self.now c.args.g c.in-Makes.entry c.self.view_is c.self.invariant none c.requires step
+
+pub enter-requires-clause-alone : goal.enter-requires-clause-alone
+enter-requires-clause-alone c =
+    let step : step_of c.args.self.now.script c.args.self.now.state c.args.self.now.schedule c.args.g ≡ Some (Step.Makes c.in-Makes.entry) = search rules in
+    (makes-call c.args.self.now.script c.args.self.now.state c.args.self.now.schedule c.args.g c.in-Makes.entry step).alone
 
 pub park_at-ticket-requires-clause-declared : goal.park_at-ticket-requires-clause-declared
 park_at-ticket-requires-clause-declared c =

@@ -1,5 +1,8 @@
-use Rattle.gt_book.proofs.Books.{makes-applied}
+use Rattle.gt_book.proofs.Books.{can_make-applies, makes-applied}
 use Rattle.gt_book.proofs.run.Run.make.Goals as goal
+
+pub apply-requires-2 : goal.apply-requires-2
+apply-requires-2 c = can_make-applies c.args.script.now c.requires.can.0 c.args.self.now c.args.entry c.requires.can.1
 
 pub returns : goal.returns
 returns c = λ limits can.

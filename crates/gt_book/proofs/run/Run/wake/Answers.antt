@@ -4,7 +4,7 @@ use Rattle.gt_machine.specs.Outcomes.{due_outcome}
 use Rattle.gt_schedule.specs.Scheduler.{schedule_of}
 use Rattle.gt_book.specs.Woken.{next_woken}
 use Rattle.gt_book.specs.Run.{CanMake}
-use Rattle.gt_book.proofs.Waking.{waking-first, waking-lists, waking-can, waking-more, waking-less, wakes-none, wakes-due, none-due, some-due}
+use Rattle.gt_book.proofs.Waking.{waking-first, waking-lists, waking-can, waking-alone, waking-more, waking-less, wakes-none, wakes-due, none-due, some-due}
 use Rattle.gt_book.proofs.run.Run.wake.Goals as goal
 
 pub loop-limits-init : goal.loop-limits-init
@@ -23,12 +23,17 @@ pub returns-in_default : goal.returns-in_default
 returns-in_default c =
     wakes-none c.args.script.now c.args.limits c.args.self.now c.loop-limits.self c.args.o c.loop-limits.invariant (sym c.next_woken.ensures ∙ c.in_default.is)
 
-pub make-requires : goal.make-requires
-make-requires c = (
+pub make-requires-clause-can : goal.make-requires-clause-can
+make-requires-clause-can c = (
   c.args.limits,
   waking-can c.args.script.now c.args.limits c.args.self.now c.loop-limits.self c.args.o c.in-Some.entry c.loop-limits.invariant (sym c.next_woken.ensures ∙ c.in-Some.is)
       (none-due c.args.limits c.loop-limits.self c.due_outcome.result c.is_none.result c.due_outcome.ensures c.is_none.ensures c.loop-limits-test.true),
 )
+
+pub make-requires-clause-alone : goal.make-requires-clause-alone
+make-requires-clause-alone c =
+    waking-alone c.args.script.now c.args.limits c.args.self.now c.loop-limits.self c.args.o c.in-Some.entry c.loop-limits.invariant (sym c.next_woken.ensures ∙ c.in-Some.is)
+    (none-due c.args.limits c.loop-limits.self c.due_outcome.result c.is_none.result c.due_outcome.ensures c.is_none.ensures c.loop-limits-test.true)
 
 pub loop-limits-smaller : goal.loop-limits-smaller
 loop-limits-smaller c =

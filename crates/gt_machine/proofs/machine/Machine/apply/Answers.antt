@@ -24,7 +24,7 @@ pub step_sync-requires : goal.step_sync-requires
 step_sync-requires c =
     let retimed : c.retime.new.self.syncs.items ≡ c.args.self.now.syncs.items = ap (λ (s : State). s.syncs) c.retime.ensures.state in
     let same : c.trade.new.self.syncs.items ≡ c.args.self.now.syncs.items = ap (λ (s : State). s.syncs) c.trade.ensures.state ∙ retimed in
-    subst (λ syncs. IfSome c.sync_of.result (λ x. IsSteppable syncs x.0 x.1)) (sym same)
+    subst (λ syncs. IfSome c.sync_of.result (λ x. IsSteppable c.args.script.now syncs x.0 x.1)) (sym same)
     (rw c.sync_of.ensures (steppable-May c.args.script.now (state_of c.args.self.now) c.args.entry.now c.requires.good c.requires.formed c.requires.may c.requires.few))
 
 pub move_on-requires-clause-inside : goal.move_on-requires-clause-inside
@@ -63,5 +63,6 @@ returns-clause-state c =
       clock = c.clock_of.ensures;
       ending = c.ending_of.ensures;
     })
+    c.requires.signalled
     c.started-begins.ensures c.retime.ensures.state c.trade.ensures.state c.step_sync.ensures.state c.move_on.ensures.state c.move_on-2.ensures.state c.start.ensures.state c.move_clock.ensures.state
     c.end.ensures.state

@@ -1,13 +1,12 @@
 use Rattle.std.proofs.Common.{sym, subst}
 use Rattle.gt_rules.specs.Change.{change_of}
-use Rattle.gt_schedule.specs.Schedule.{RunsQueued}
-use Rattle.gt_schedule.specs.Scheduler.{schedule_of}
-use Rattle.gt_schedule.proofs.Moving.{HasMoved, moved-some, moved-none, orderly-moved, orderly-both, spare-both}
+use Rattle.gt_schedule.specs.Scheduler.{schedule_of, IsOrderly}
+use Rattle.gt_schedule.proofs.Moving.{HasMoved, HasSignalled, moved-some, moved-none, signalled-some, signalled-none, orderly-moved, orderly-all_moved, spare-all_moved}
 use Rattle.gt_schedule.proofs.scheduler.Scheduler.apply.Goals as goal
-use Rattle.gt_schedule.proofs.scheduler.Scheduler.apply.Goals.{in-Some, in_default, in-Some-partner_of, in_default-partner_of}
+use Rattle.gt_schedule.proofs.scheduler.Scheduler.apply.Goals.{in-Some, in_default, in-Some-partner_of, in_default-partner_of, in-Some-broadcast_of, in_default-broadcast_of}
 
-pub turn-requires-in-Some-partner_of-clause-queued : goal.turn-requires-in-Some-partner_of-clause-queued
-turn-requires-in-Some-partner_of-clause-queued c =
+pub turn-requires-in-Some-partner_of-clause-orderly : goal.turn-requires-in-Some-partner_of-clause-orderly
+turn-requires-in-Some-partner_of-clause-orderly c =
     let m = c.args.self.now in
     let mid = c.match-mover_of.self in
     let mover = (change_of c.args.entry.now).mover in
@@ -15,7 +14,7 @@ turn-requires-in-Some-partner_of-clause-queued c =
       | in-Some w ↦ moved-some m mid w.turn.new.self mover c.mover_of.result w.in-Some.g w.in-Some.step c.mover_of.ensures w.in-Some.is w.self-is w.turn.ensures.schedule w.turn.ensures.room
       | in_default w ↦ moved-none m mid mover c.mover_of.result c.mover_of.ensures w.in_default.is w.self-is
     ] in
-    subst RunsQueued (sym first.schedule) (orderly-moved (schedule_of m) mover c.requires.orderly c.requires.served.0).queued
+    subst IsOrderly (sym first.schedule) (orderly-moved (schedule_of m) mover c.requires.orderly c.requires.served.0)
 
 -- what the mover has done, and what the partner
 first-is : (c : goal.After-start-arg-1) → HasMoved c.args.self.now c.match-mover_of.self (change_of c.args.entry.now).mover
@@ -41,10 +40,25 @@ second-is c =
       | in_default-partner_of w ↦ moved-none mid end partner c.partner_of.result c.partner_of.ensures w.in_default-partner_of.is w.self-is
     ]
 
+-- and what a broadcast has
+third-is : (c : goal.After-start-arg-1) → HasSignalled c.match-partner_of.self c.match-broadcast_of.self (change_of c.args.entry.now).broadcast
+third-is c =
+    let end = c.match-partner_of.self in
+    let all = c.match-broadcast_of.self in
+    let broadcast = (change_of c.args.entry.now).broadcast in
+    elim c.match-broadcast_of.branch [
+      | in-Some-broadcast_of w ↦
+          signalled-some end all w.relock_all.new.self broadcast c.broadcast_of.result w.in-Some-broadcast_of.k c.broadcast_of.ensures w.in-Some-broadcast_of.is w.self-is
+          w.relock_all.ensures.schedule w.relock_all.ensures.room
+      | in_default-broadcast_of w ↦ signalled-none end all broadcast c.broadcast_of.result c.broadcast_of.ensures w.in_default-broadcast_of.is w.self-is
+    ]
+
 pub start-requires-clause-orderly : goal.start-requires-clause-orderly
 start-requires-clause-orderly c =
-    orderly-both c.args.self.now c.match-mover_of.self c.match-partner_of.self (change_of c.args.entry.now) (first-is c) (second-is c) c.requires.orderly c.requires.served
+    orderly-all_moved c.args.self.now c.match-mover_of.self c.match-partner_of.self c.match-broadcast_of.self (change_of c.args.entry.now) (first-is c) (second-is c) (third-is c)
+    c.requires.orderly c.requires.served
 
 pub start-requires-clause-spare : goal.start-requires-clause-spare
 start-requires-clause-spare c =
-    spare-both c.args.self.now c.match-mover_of.self c.match-partner_of.self (change_of c.args.entry.now) (first-is c) (second-is c) c.requires.spare
+    spare-all_moved c.args.self.now c.match-mover_of.self c.match-partner_of.self c.match-broadcast_of.self (change_of c.args.entry.now) (first-is c) (second-is c) (third-is c)
+    c.requires.spare

@@ -2,6 +2,7 @@ use Rattle.std.proofs.Common.{◌≡◌, ◌+◌, ◌*◌, ◌/◌, ◌%◌, ◌
 use Rattle.std.proofs.lemmas.List.{length-map}
 use Rattle.slab.specs.Slab.{get}
 use Rattle.gt_queue.specs.Contents.{IsWaiting}
+use Rattle.gt_queue.proofs.Waiting.{waited_or_pushed}
 use Rattle.gt_select.specs.declared.nodes.Waiter.{Waiter}
 use Rattle.gt_select.specs.Kept.{party_at, lists_of, turns_of, AreTickets, ArePlaced}
 use Rattle.gt_select.proofs.Parties.{key_of-node, party_at-node, ticketed}
@@ -42,8 +43,11 @@ invariant_of-self c =
     let are : AreTickets f.goroutines f.turns f.keys after = rw noted (AreTickets-noted f.tickets key case_no t.0 t.1 f.goroutines f.turns f.keys c.self.invariant.0) in
     let placed : ArePlaced f.places after f.queues = rw noted (ArePlaced-noted f.tickets key case_no t.0 t.1 f.places f.queues small c.self.invariant.1) in
     let ticket : IsSome (get after (node / 17)) = rw (key_of-node key case_no small) (ticketed f.goroutines f.turns f.keys after are c.args.p.g key known) in
-    let top : (w : Waiter) → get after (node / 17) ≡ Some w → node % 17 ≤ w.most = rw noted (noted_node f.tickets key case_no t.0 t.1 small) in
-    (are, rw c.set.ensures (ArePlaced-joined f.places after f.queues c.enqueue.new.self placed c.enqueue.ensures.members c.args.list node inside below free ticket top c.enqueue.ensures.queues))
+    let top : (w : Waiter) → get after (node / 17) ≡ Some w → node % 17 ≤ w.most = rw noted (noted_node f.tickets key case_no t.0 t.1 small) in (
+      are,
+      rw c.set.ensures (ArePlaced-joined f.places after f.queues c.enqueue.new.self placed c.enqueue.ensures.members c.args.list node below free ticket top
+          (λ q y h. waited_or_pushed f.queues.queues c.args.list node q y inside (rw c.enqueue.ensures.queues at h))),
+    )
 
 pub returns : goal.returns
 returns c =
