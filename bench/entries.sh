@@ -60,6 +60,12 @@ script() {
         printf 'sleep 1ms\n' && repeated "signal k" "$((waiting / 2))"
         printf 'broadcast k\nsleep 1ms\nend\nfunc a\nlock m\ncwait k\nunlock m\nend\n'
         ;;
+    signals)
+        local waiting=$(($2 / 11))
+        printf 'mutex m\ncond k m\nfunc main\n' && repeated "go a" "$waiting" && printf 'sleep 1ms\nlock m\n'
+        repeated "go b" "$waiting" && printf 'sleep 1ms\n' && repeated "signal k" "$waiting"
+        printf 'unlock m\nsleep 1ms\nend\nfunc a\nlock m\ncwait k\nunlock m\nend\nfunc b\nlock m\nunlock m\nend\n'
+        ;;
     ticks) printf 'ticker k\nfunc main\nnew k 1ms\nloop %s\nsleep 3ms\nrecv k\nend\nend\n' "$(($2 / 4))" ;;
     cases)
         seq -f 'chan c%g 0' 16
@@ -79,7 +85,7 @@ instructions() {
 }
 
 # A chain of goroutines goes on until its limit, the others to their end. A script has fewer than 4,096 timers.
-for kind in say loop sleep reset receive go sleepers timers buffered pairs senders closed cases ticks wg mutex cond; do
+for kind in say loop sleep reset receive go sleepers timers buffered pairs senders closed cases ticks wg mutex cond signals; do
     for count in 1000 99000; do
         limit=200000
         if [ "$kind" = timers ] && [ "$count" -gt 12000 ]; then count=12000; fi

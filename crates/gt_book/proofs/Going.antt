@@ -15,7 +15,7 @@ use Rattle.gt_model.specs.declared.state.Goroutine.{Goroutine}
 use Rattle.gt_model.specs.declared.state.Mode.{Mode}
 use Rattle.gt_rules.specs.State.{State, timer_at, channel_at, stands, stands_at, clock_of, until_of, sleeps_until, items_of, item_count, is_open, is_closed, is_locked, counter_of, is_done}
 use Rattle.gt_model.specs.Script.{instr_at, code_of, what_at, is_timer, is_chan, is_mutex, is_wg, capacity_of, names_timer, names_chan, names_mutex, names_wg}
-use Rattle.gt_model.proofs.Declared.{declared_within, chan_declared}
+use Rattle.gt_model.proofs.Declared.{declared_within}
 use Rattle.gt_model.proofs.Items.{numbered-change_other}
 use Rattle.gt_rules.specs.Panics.{fault, fault_case, when, panic_at}
 use Rattle.gt_rules.specs.Legal.{May, MayPanic, Signals, ChoosesClosed, Does, Operates, operation_at, is_polling}
@@ -421,7 +421,7 @@ module _ (script : Script) (s : State) (m : Schedule) (g : ℕ) (good : IsGood s
   makes-sender n c (Some q) e met chan gets h =
       let v : ℕ = value_of (operation_at script s q) in
       let is : Entry.Pair q (at_case g n) c v ≡ e = cc in
-      let sender : Met script s m q c (CaseKind.Send c v) = sender-met script s m q c fits calm (chan_declared script c chan) met in
+      let sender : Met script s m q c (CaseKind.Send c v) = sender-met script s m q c good formed fits calm chan met in
       subst (MakesSo script s m g) is (from_partner q n c v sender.waits (
         sender.operates,
         gets,

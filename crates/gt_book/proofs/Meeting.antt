@@ -185,12 +185,12 @@ parked-polling script s m p kind calm waits e =
     let there : Parked script s m p.g at.instr = parked-unready script s m p.g at.instr calm waits at.stands in
     ap (λ (o : Option Instr). elim o as (λ o. Bool) [ None ↦ false | Some i ↦ polls i ]) at.stands ∙ unready-waits script s no_timer (is_waiting m) p.g at.instr there.unready
 
-pub sender-met : (script : Script) (s : State) (m : Schedule) (q : Party) (c : ℕ) → Fits script s m → IsCalm script s m → c < length script.decls → partner_in script m.senders c ≡ Some q
+pub sender-met : (script : Script) (s : State) (m : Schedule) (q : Party) (c : ℕ) → IsGood script → IsFormed script s → Fits script s m → IsCalm script s m → IsTrue (is_chan script c) → partner_in script m.senders c ≡ Some q
     → Met script s m q c (CaseKind.Send c (value_of (operation_at script s q)))
-sender-met script s m q c fits calm declared e =
+sender-met script s m q c good formed fits calm chan e =
     let one : First script m.senders c q = partner-first script m.senders c q e in
-    let both = and_parts (is_waiting m q.g) (wants script s q (sends_to c)) (first-sending script s m q c fits declared one.first) in
-    let sends = at-sends script s q c (wants-sends script s q c both.1) in
+    let both = and_parts (is_waiting m q.g) (wants script s q (sends_to c)) (first-sending script s m q c fits (chan_declared script c chan) one.first) in
+    let sends = at-sends script s q c (wants-sends script s q c good formed chan both.1) in
     record { waits = both.0; operates = parked-operates script s m q _ calm both.0 sends; none_kept = one.none_kept; settled = parked-polling script s m q _ calm both.0 sends }
 
 -- a channel gives values

@@ -11,7 +11,7 @@ use Rattle.gt_model.specs.declared.state.Goroutine.{Goroutine}
 use Rattle.gt_model.specs.declared.state.Mode.{Mode}
 use Rattle.gt_model.specs.Tables.{change_numbered}
 use Rattle.gt_model.specs.Good.{IsGood, NamesRightly}
-use Rattle.gt_model.specs.Script.{instr_at, what_at, mutex_of, is_cond, is_mutex, names_timer, names_chan, names_mutex, names_wg, names_cond}
+use Rattle.gt_model.specs.Script.{instr_at, what_at, mutex_of, is_cond, names_timer, names_chan, names_mutex, names_wg, names_cond}
 use Rattle.gt_model.proofs.Declared.{cond_declared, mutex_declared}
 use Rattle.gt_model.proofs.Changes.{length-change_numbered}
 use Rattle.gt_model.proofs.Items.{numbered-change_same, numbered-change_other, HasNumber}
@@ -20,13 +20,13 @@ use Rattle.gt_rules.specs.After.{in_mode}
 use Rattle.gt_rules.specs.Operations.{operation, receives_from, sends_to}
 use Rattle.gt_facts.proofs.Formed.{WaitsRightly}
 use Rattle.gt_facts.proofs.Lookups.{InMode, in-mode, names-operation, names-instr_at, mode_there}
-use Rattle.gt_facts.proofs.Within.{mutex_of-is, mutex_of-other}
+use Rattle.gt_facts.proofs.Within.{mutex_of-is}
 use Rattle.gt_schedule.specs.declared.status.RunStatus.{RunStatus}
 use Rattle.gt_schedule.specs.Counts.{as_number, is_party, often}
 use Rattle.gt_schedule.specs.Schedule.{Schedule, plainly, status_of, is_parked, parties_at, mutex_at, relocked, IsCondAt, StandsAt, ArePlain}
 use Rattle.gt_schedule.proofs.Counting.{Parking, status-parked}
 use Rattle.gt_schedule.proofs.Parties.{OthersStay}
-use Rattle.gt_schedule.proofs.Signalled.{others-relocked, relocked-cond, relocked-mutex, relocked-elsewhere, mutex-script}
+use Rattle.gt_schedule.proofs.Signalled.{others-relocked, relocked-cond, relocked-mutex, relocked-elsewhere, relocked-senders_elsewhere, mutex-script}
 use Rattle.gt_book.specs.View.{Agrees, Fits, is_parked_at, is_waiting, wants_plainly}
 use Rattle.gt_book.proofs.Changing.{party, wants_of, Known, known, has_status, fits-changes, one-is, one-of}
 use Rattle.gt_book.proofs.Joining.{WaitsFor, own-party}
@@ -36,23 +36,23 @@ abbrev pub WaitAtConds : Script → State → Type 0
 WaitAtConds script s = (g : ℕ) (r : Goroutine) → goroutine_at s g ≡ Some r → WaitsRightly script r.mode
 
 -- what is wanted plainly
-wants-plainly : (o n : ℕ) (test : CaseKind → Bool)
-    → (elim (wants_plainly o n) as (λ x. Bool) [ None ↦ false | Some kind ↦ test kind ]) ≡ (eqb 0 n && test (CaseKind.Recv o))
-wants-plainly o zero test = refl
-wants-plainly o (suc n) test = ap (λ b. b && test (CaseKind.Recv o)) (sym (ne_eqb 0 (suc n) (λ e. absurd (omega arith))))
+wants-plainly : (kind : CaseKind) (n : ℕ) (test : CaseKind → Bool)
+    → (elim (wants_plainly kind n) as (λ x. Bool) [ None ↦ false | Some kind ↦ test kind ]) ≡ (eqb 0 n && test kind)
+wants-plainly kind zero test = refl
+wants-plainly kind (suc n) test = ap (λ b. b && test kind) (sym (ne_eqb 0 (suc n) (λ e. absurd (omega arith))))
 
 pub suspended-waits : (script : Script) (r : Goroutine) (k : ℕ) → WaitsFor script (in_mode (Mode.Suspended k) r) (CaseKind.Recv k)
-suspended-waits script r k n test = wants-plainly k n test
+suspended-waits script r k n test = wants-plainly (CaseKind.Recv k) n test
 
-pub relocking-waits : (script : Script) (r : Goroutine) (k : ℕ) → WaitsFor script (in_mode (Mode.Relocking k) r) (CaseKind.Recv (mutex_of script k))
-relocking-waits script r k n test = wants-plainly (mutex_of script k) n test
+pub relocking-waits : (script : Script) (r : Goroutine) (k : ℕ) → WaitsFor script (in_mode (Mode.Relocking k) r) (CaseKind.Send (mutex_of script k) 0)
+relocking-waits script r k n test = wants-plainly (CaseKind.Send (mutex_of script k) 0) n test
 
 -- and by the mode that a goroutine has
 pub in-suspended : (script : Script) (r : Goroutine) (k : ℕ) → r.mode ≡ Mode.Suspended k → WaitsFor script r (CaseKind.Recv k)
 in-suspended script r k is = subst (λ (mode : Mode). WaitsFor script (record r { mode = mode }) (CaseKind.Recv k)) (sym is) (suspended-waits script r k)
 
-pub in-relocking : (script : Script) (r : Goroutine) (k : ℕ) → r.mode ≡ Mode.Relocking k → WaitsFor script r (CaseKind.Recv (mutex_of script k))
-in-relocking script r k is = subst (λ (mode : Mode). WaitsFor script (record r { mode = mode }) (CaseKind.Recv (mutex_of script k))) (sym is) (relocking-waits script r k)
+pub in-relocking : (script : Script) (r : Goroutine) (k : ℕ) → r.mode ≡ Mode.Relocking k → WaitsFor script r (CaseKind.Send (mutex_of script k) 0)
+in-relocking script r k is = subst (λ (mode : Mode). WaitsFor script (record r { mode = mode }) (CaseKind.Send (mutex_of script k) 0)) (sym is) (relocking-waits script r k)
 
 -- ---- a Cond and its mutex have their lists
 
@@ -60,13 +60,10 @@ pub cond-at : (script : Script) (s : State) (m : Schedule) (k : ℕ) → IsGood 
 cond-at script s m k good fits cond =
     let of : mutex_at m k ≡ mutex_of script k = mutex-script script m k fits.mutexes in
     let many : length m.receivers ≡ length script.decls = fits.receivers in
+    let as_many : length m.senders ≡ length script.decls = fits.senders in
     let declared : k < length script.decls = cond_declared script k cond in
     let mutex : mutex_of script k < length script.decls = mutex_declared script (mutex_of script k) (mutex_of-is script k good cond) in
-    record {
-      declared = omega arith;
-      mutex_declared = omega arith;
-      apart = λ e. mutex_of-other script k good cond (sym of ∙ e);
-    }
+    record { declared = omega arith; mutex_declared = omega arith }
 
 -- ---- a goroutine that waits at a Cond
 
@@ -129,27 +126,32 @@ module _ (script : Script) (s : State) (m : Schedule) (g k : ℕ) (good : IsGood
   stood : (u n : ℕ) → u < length script.decls → often (party g n) (parties_at m.receivers u) ≡ as_number (eqb 0 n && eqb k u)
   stood u n within = a.its.one.waiting u n within ∙ ap as_number (in-suspended script who k a.mode n (receives_from u))
 
-  in-list : (u n : ℕ) → u < length script.decls → often (party g n) (parties_at after_it.receivers u) ≡ as_number (eqb 0 n && eqb (mutex_of script k) u)
+  -- nowhere among receivers, and among the senders of the mutex alone
+  in-list : (u n : ℕ) → u < length script.decls → often (party g n) (parties_at after_it.receivers u) ≡ 0
   in-list u n within =
       elim (cases_eq u k) [
-        | inl e ↦
-            subst (λ u. often (party g n) (parties_at after_it.receivers u) ≡ as_number (eqb 0 n && eqb (mutex_of script k) u)) (sym e)
-            (relocked-cond m g k (party g n) at refl ∙ sym (none-else (eqb 0 n) (eqb (mutex_of script k) k) (ne_eqb (mutex_of script k) k (mutex_of-other script k good cond))))
+        | inl e ↦ subst (λ u. often (party g n) (parties_at after_it.receivers u) ≡ 0) (sym e) (relocked-cond m g k (party g n) at refl)
         | inr other ↦
-            let none : often (party g n) (parties_at m.receivers u) ≡ 0 = stood u n within ∙ none-else (eqb 0 n) (eqb k u) (ne_eqb k u (λ e. other (sym e))) in
-            elim (cases_eq u (mutex_at m k)) [
-              | inl e ↦
-                  let here : often (party g n) (parties_at m.receivers (mutex_at m k)) ≡ 0 =
-                  subst (λ u. often (party g n) (parties_at m.receivers u) ≡ 0) e none in
-                  let one : often (party g n) (parties_at after_it.receivers (mutex_at m k)) ≡ often (party g n) (parties_at m.receivers (mutex_at m k)) + as_number (is_party (plainly g) (party g n)) =
-                  relocked-mutex m g k (party g n) at in
-                  let same : as_number (is_party (plainly g) (party g n)) ≡ as_number (eqb 0 n && eqb (mutex_of script k) (mutex_at m k)) =
-                  ap as_number (own-party g n ∙ sym (both-true (eqb 0 n) (eqb (mutex_of script k) (mutex_at m k)) (eq-eqb (mutex_of script k) (mutex_at m k) (sym of)))) in
-                  subst (λ u. often (party g n) (parties_at after_it.receivers u) ≡ as_number (eqb 0 n && eqb (mutex_of script k) u)) (sym e) (omega arith)
-              | inr apart ↦
-                  ap (often (party g n)) (relocked-elsewhere m g k u other apart)
-                  ∙ (none ∙ sym (none-else (eqb 0 n) (eqb (mutex_of script k) u) (ne_eqb (mutex_of script k) u (λ e. apart (sym e ∙ sym of)))))
-            ]
+            ap (often (party g n)) (relocked-elsewhere m g k u other)
+            ∙ (stood u n within ∙ none-else (eqb 0 n) (eqb k u) (ne_eqb k u (λ e. other (sym e))))
+      ]
+
+  sent : (u n : ℕ) → u < length script.decls → often (party g n) (parties_at m.senders u) ≡ 0
+  sent u n within = a.its.one.sending u n within ∙ (ap as_number (in-suspended script who k a.mode n (sends_to u)) ∙ none-else (eqb 0 n) false refl)
+
+  in-senders : (u n : ℕ) → u < length script.decls → often (party g n) (parties_at after_it.senders u) ≡ as_number (eqb 0 n && eqb (mutex_of script k) u)
+  in-senders u n within =
+      elim (cases_eq u (mutex_at m k)) [
+        | inl e ↦
+            let here : often (party g n) (parties_at m.senders (mutex_at m k)) ≡ 0 = subst (λ u. often (party g n) (parties_at m.senders u) ≡ 0) e (sent u n within) in
+            let one : often (party g n) (parties_at after_it.senders (mutex_at m k)) ≡ often (party g n) (parties_at m.senders (mutex_at m k)) + as_number (is_party (plainly g) (party g n)) =
+            relocked-mutex m g k (party g n) at in
+            let same : as_number (is_party (plainly g) (party g n)) ≡ as_number (eqb 0 n && eqb (mutex_of script k) (mutex_at m k)) =
+            ap as_number (own-party g n ∙ sym (both-true (eqb 0 n) (eqb (mutex_of script k) (mutex_at m k)) (eq-eqb (mutex_of script k) (mutex_at m k) (sym of)))) in
+            subst (λ u. often (party g n) (parties_at after_it.senders u) ≡ as_number (eqb 0 n && eqb (mutex_of script k) u)) (sym e) (omega arith)
+        | inr apart ↦
+            ap (often (party g n)) (relocked-senders_elsewhere m g k u apart)
+            ∙ (sent u n within ∙ sym (none-else (eqb 0 n) (eqb (mutex_of script k) u) (ne_eqb (mutex_of script k) u (λ e. apart (sym e ∙ sym of)))))
       ]
     where
       both-true : (a b : Bool) → b ≡ true → (a && b) ≡ a
@@ -175,9 +177,8 @@ module _ (script : Script) (s : State) (m : Schedule) (g k : ℕ) (good : IsGood
       (numbered-change_same s.goroutines g (in_mode (Mode.Relocking k)) who a.its.there)
       a.parked
       (one-of script after_it g (in_mode (Mode.Relocking k) who) x tt a.its.one.queued
-      (λ u n h. in-list u n h ∙ sym (ap as_number (relocking-waits script who k n (receives_from u))))
-      (λ u n h. a.its.one.sending u n h
-      ∙ (ap as_number (in-suspended script who k a.mode n (sends_to u)) ∙ (none-else (eqb 0 n) false refl ∙ sym (ap as_number (relocking-waits script who k n (sends_to u)) ∙ none-else (eqb 0 n) false refl))))))
+      (λ u n h. in-list u n h ∙ sym (ap as_number (relocking-waits script who k n (receives_from u)) ∙ none-else (eqb 0 n) false refl))
+      (λ u n h. in-senders u n h ∙ sym (ap as_number (relocking-waits script who k n (sends_to u))))))
 
 -- who is suspended is so at a Cond
 pub waits-cond : (script : Script) (s : State) (g k : ℕ) → WaitAtConds script s → mode_of s g ≡ Some (Mode.Suspended k) → IsTrue (is_cond script k)
@@ -197,10 +198,6 @@ fits-relocked script s m g k good conds fits waits =
 no-object : (w : Option What) → IsTrue ((names_timer w || names_chan w) || (names_mutex w || names_wg w)) → IsTrue (names_cond w) → ⊥
 no-object (Some (What.Cond mutex)) h cond = cc
 no-object _ h cond = cc
-
-no-mutex : (w : Option What) → IsTrue (names_mutex w) → IsTrue (names_cond w) → ⊥
-no-mutex (Some What.Mutex) mutex cond = cc
-no-mutex _ mutex cond = cc
 
 and-parts : (a b : Bool) → (a && b) ≡ true → (a ≡ true) × (b ≡ true)
 and-parts true b h = (refl, h)
@@ -237,10 +234,9 @@ waits-there script r k n good conds cond h =
           let both : (eqb 0 n ≡ true) × (eqb j k ≡ true) = and-parts (eqb 0 n) (eqb j k) (sym (in-suspended script r j is n (receives_from k)) ∙ h) in
           record { mode = is ∙ ap Mode.Suspended (eqb-true j k both.1); plain = plain-number n both.0 }
       | Mode.Relocking j ↦ λ is.
-          let both : (eqb 0 n ≡ true) × (eqb (mutex_of script j) k ≡ true) =
-          and-parts (eqb 0 n) (eqb (mutex_of script j) k) (sym (in-relocking script r j is n (receives_from k)) ∙ h) in
-          let its : IsTrue (is_cond script j) = (subst (WaitsRightly script) is conds).1 in
-          absurd (no-mutex (what_at script k) (subst (λ o. IsTrue (is_mutex script o)) (eqb-true (mutex_of script j) k both.1) (mutex_of-is script j good its)) cond)
+          let both : (eqb 0 n ≡ true) × (false ≡ true) = and-parts (eqb 0 n) false (sym (in-relocking script r j is n (receives_from k)) ∙ h) in
+          let never : false ≡ true = both.1 in
+          cc
       | Mode.Ended ↦ λ is. let none : wants_of script (Some (in_mode Mode.Ended r)) n (receives_from k) ≡ true = by_mode Mode.Ended is in cc
     ] refl
   where

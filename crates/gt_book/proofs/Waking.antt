@@ -13,7 +13,7 @@ use Rattle.gt_model.specs.declared.entry.Limits.{Limits}
 use Rattle.gt_model.specs.declared.entry.Outcome.{Outcome}
 use Rattle.gt_model.specs.declared.entry.Reason.{Reason}
 use Rattle.gt_model.specs.Good.{IsGood}
-use Rattle.gt_model.specs.Script.{what_at, names_chan, names_mutex, names_wg, capacity_of, instr_at, is_mutex, is_cond, mutex_of}
+use Rattle.gt_model.specs.Script.{what_at, names_chan, names_mutex, names_wg, capacity_of, instr_at, is_chan, is_mutex, is_cond, mutex_of}
 use Rattle.gt_rules.specs.State.{State, Channel, goroutine_at, channel_at, items_of, item_count, is_closed, is_locked, is_done, counter_of, stands_at, mode_of}
 use Rattle.gt_rules.specs.Operations.{operation, receives_from, sends_to}
 use Rattle.gt_rules.specs.Panics.{fault, case_fault, when, or_else, open_fault, panic_at}
@@ -36,15 +36,15 @@ use Rattle.gt_facts.specs.Formed.{IsFormed}
 use Rattle.gt_facts.proofs.Within.{mutex_of-is, suspended-cond, relocking-cond}
 use Rattle.gt_book.specs.declared.run.Run.{Run}
 use Rattle.gt_book.specs.Steps.{or_next, goes_alone, receives_alone, sends_alone, takes_alone}
-use Rattle.gt_book.specs.Woken.{first_alone, alone_of, woken_by, next_woken, changed_object, woken_in}
+use Rattle.gt_book.specs.Woken.{first_alone, alone_of, woken_by, is_longer, first_woken, next_woken, changed_object, woken_in}
 use Rattle.gt_book.specs.Calm.{IsCalm, IsCalmBut, unmade}
 use Rattle.gt_book.specs.declared.book.Book.TheInside.{Inside}
 use Rattle.gt_book.specs.Book.{seen, IsKept}
 use Rattle.gt_book.specs.Run.{seen_of, CanMake, Makes, CanWake, Wakes, CanEnter, Entered, Ends}
 use Rattle.gt_book.specs.View.{BookView, Fits, AreWoken, Enters, is_waiting, is_parked_at, is_firm_at, with_entries, finish_due, outcome_of, wanted_at, wants}
 use Rattle.gt_book.proofs.Firm.{operation_of, firm_on, firm-stood, firm-quiet, choice-sound, made-sound, case-there, never-both, both-false, panic-standing, calm-standing, open-no_fault, calm_but-calm, stood, firm-locked}
-use Rattle.gt_book.proofs.Wanting.{Wanting, operates, suspends, relocks, wanting, operates-wanted, relocking-wanted}
-use Rattle.gt_book.proofs.Woken.{cond-unready, locked-unready, unready-locked, woken_as, woken-stands, woken-relocks, locked-none}
+use Rattle.gt_book.proofs.Wanting.{Wanting, operates, suspends, relocks, wanting, operates-wanted, operates-named, relocking-wanted}
+use Rattle.gt_book.proofs.Woken.{cond-unready, woken_as, woken-stands, woken-relocks, locked-none}
 use Rattle.gt_book.proofs.Fitting.{first-waiting, first-sending}
 use Rattle.gt_book.proofs.Stays.{alters}
 use Rattle.gt_book.proofs.Calm.{calm-but, calm-entered, calm_but-again}
@@ -92,6 +92,33 @@ both-none None next h = (refl, h)
 both-none (Some e) next h = cc
 
 -- ---- the one that goes on
+
+-- of two that may go on one is asked first: that somebody does, and that nobody does
+abbrev asked : Option Entry → Option Entry → Bool → Option Entry
+asked receiver sender true = or_next sender receiver
+asked receiver sender false = or_next receiver sender
+
+either-first : (script : Script) (s : State) (receiver sender : Option Party) {x : Option Entry} (b : Bool) → first_woken script s receiver sender b ≡ x
+    → asked (woken_by script s receiver) (woken_by script s sender) b ≡ x
+either-first script s receiver sender true h = h
+either-first script s receiver sender false h = h
+
+first-some : (receiver sender : Option Entry) (e : Entry) (b : Bool) (P : Type 0) → (receiver ≡ Some e → P) → (sender ≡ Some e → P) → asked receiver sender b ≡ Some e → P
+first-some None sender e false P by_receiver by_sender h = by_sender h
+first-some (Some x) sender e false P by_receiver by_sender h = by_receiver h
+first-some receiver None e true P by_receiver by_sender h = by_receiver h
+first-some receiver (Some x) e true P by_receiver by_sender h = by_sender h
+
+first-none : (receiver sender : Option Entry) (b : Bool) → asked receiver sender b ≡ None → (receiver ≡ None) × (sender ≡ None)
+first-none None sender false h = (refl, h)
+first-none (Some x) sender false h = cc
+first-none receiver None true h = (h, refl)
+first-none receiver (Some x) true h = cc
+
+-- a mutex is no channel
+chan-mutex : (w : Option What) → IsTrue (names_chan w) → IsTrue (names_mutex w) → ⊥
+chan-mutex (Some What.Mutex) chan mutex = cc
+chan-mutex _ chan mutex = cc
 
 -- an entry of one that waits at object c, and is firmly ready there
 pub record IsWoken (script : Script) (s : State) (m : Schedule) (c : ℕ) (e : Entry) : Type 0 where
@@ -498,13 +525,19 @@ module _ (script : Script) (s : State) (m : Schedule) (c : ℕ) (good : IsGood s
   first-sender : (p : Party) → slice_get (parties_at m.senders c) 0 ≡ Some p → (is_waiting m p.g ≡ true) × (wants script s p (sends_to c) ≡ true)
   first-sender p first = and_parts (is_waiting m p.g) (wants script s p (sends_to c)) (first-sending script s m p c fits declared first)
 
+  receiver-woken : (e : Entry) → woken_by script s (slice_get (parties_at m.receivers c) 0) ≡ Some e → IsWoken script s m c e
+  receiver-woken e h = by-woken (slice_get (parties_at m.receivers c) 0) e (λ p first. (first-receiver p first).0) h
+
+  sender-woken : (e : Entry) → woken_by script s (slice_get (parties_at m.senders c) 0) ≡ Some e → IsWoken script s m c e
+  sender-woken e h = by-woken (slice_get (parties_at m.senders c) 0) e (λ p first. (first-sender p first).0) h
+
   pub is-woken : (e : Entry) → next_woken script s m c ≡ Some e → IsWoken script s m c e
   is-woken e h =
-      elim (woken_by script s (slice_get (parties_at m.receivers c) 0))
-      as (λ o. woken_by script s (slice_get (parties_at m.receivers c) 0) ≡ o → or_next o (woken_by script s (slice_get (parties_at m.senders c) 0)) ≡ Some e → IsWoken script s m c e) [
-        | None ↦ λ q k. by-woken (slice_get (parties_at m.senders c) 0) e (λ p first. (first-sender p first).0) k
-        | Some x ↦ λ q k. by-woken (slice_get (parties_at m.receivers c) 0) e (λ p first. (first-receiver p first).0) (q ∙ k)
-      ] refl h
+      first-some (woken_by script s (slice_get (parties_at m.receivers c) 0)) (woken_by script s (slice_get (parties_at m.senders c) 0)) e
+      (is_longer m (slice_get (parties_at m.senders c) 0) (slice_get (parties_at m.receivers c) 0))
+      (IsWoken script s m c e) (receiver-woken e) (sender-woken e)
+      (either-first script s (slice_get (parties_at m.receivers c) 0) (slice_get (parties_at m.senders c) 0)
+      (is_longer m (slice_get (parties_at m.senders c) 0) (slice_get (parties_at m.receivers c) 0)) h)
 
   -- ---- where nobody goes on there
 
@@ -524,11 +557,7 @@ module _ (script : Script) (s : State) (m : Schedule) (c : ℕ) (good : IsGood s
   first-unready p kind none (suspends k mode plain) is =
       let here : k ≡ c = cc in
       cond-unready s c (what_at script c) (subst (λ k. IsTrue (is_cond script k)) here (suspended-cond script s p.g k formed mode))
-  first-unready p kind none (relocks k mode plain) is =
-      let here : mutex_of script k ≡ c = cc in
-      let locked : is_locked s (mutex_of script k) ≡ true = locked-none (is_locked s (mutex_of script k)) (Entry.CondWake p.g k) (sym (woken-relocks script s p k mode) ∙ none) in
-      locked-unready s c (what_at script c) (subst (λ o. IsTrue (is_mutex script o)) here (mutex_of-is script k good (relocking-cond script s p.g k formed mode)))
-      (subst (λ o. is_locked s o ≡ true) here locked)
+  first-unready p kind none (relocks k mode plain) is = cc
 
   rests-recv : (p : Party) → woken_by script s (slice_get (parties_at m.receivers c) 0) ≡ None → is_waiting m p.g ≡ true → wanted_at script s p ≡ Some (CaseKind.Recv c)
       → is_ready_alone script s no_timer (CaseKind.Recv c) ≡ false
@@ -540,33 +569,49 @@ module _ (script : Script) (s : State) (m : Schedule) (c : ℕ) (good : IsGood s
       let its : wanted_at script s first.0 ≡ Some (CaseKind.Recv c) = at-recv (wanted_at script s first.0) c (first-receiver first.0 first.1).1 in
       first-unready first.0 (CaseKind.Recv c) (ap (woken_by script s) (sym first.1) ∙ none) (wanting script s first.0 (CaseKind.Recv c) its) refl
 
-  -- who waits to send stands at its send
-  sender-stands : (p : Party) (kind : CaseKind) (v : ℕ) → Wanting script s p kind → kind ≡ CaseKind.Send c v → operation_at script s p ≡ Some (CaseKind.Send c v)
-  sender-stands p kind v (operates _ at) is = at ∙ ap Some is
-  sender-stands p kind v (suspends k mode plain) is = cc
-  sender-stands p kind v (relocks k mode plain) is = cc
+  -- who waits to send to a channel stands at its send
+  sender-stands : (p : Party) (kind : CaseKind) (v : ℕ) → IsTrue (is_chan script c) → Wanting script s p kind → kind ≡ CaseKind.Send c v → operation_at script s p ≡ Some (CaseKind.Send c v)
+  sender-stands p kind v chan (operates _ at) is = at ∙ ap Some is
+  sender-stands p kind v chan (suspends k mode plain) is = cc
+  sender-stands p kind v chan (relocks k mode plain) is =
+      let here : mutex_of script k ≡ c = cc in
+      absurd (chan-mutex (what_at script c) chan (subst (λ o. IsTrue (is_mutex script o)) here (mutex_of-is script k good (relocking-cond script s p.g k formed mode))))
 
   rests-send : (p : Party) (v : ℕ) → woken_by script s (slice_get (parties_at m.senders c) 0) ≡ None → is_waiting m p.g ≡ true → operation_at script s p ≡ Some (CaseKind.Send c v)
       → is_ready_alone script s no_timer (CaseKind.Send c v) ≡ false
   rests-send p v none waits at =
+      let chan : IsTrue (is_chan script c) = operates-named script s p (CaseKind.Send c v) good at in
       let here : wants script s p (sends_to c) ≡ true =
       ap (λ (o : Option CaseKind). elim o as (λ o. Bool) [ None ↦ false | Some kind ↦ sends_to c kind ]) (operates-wanted script s p (CaseKind.Send c v) at) ∙ eq-eqb c c refl in
       let parked : is_parked_at script s m p (sends_to c) ≡ true = and_from (is_waiting m p.g) (wants script s p (sends_to c)) waits here in
       let first = one-first p (parties_at m.senders c) (fits.sending c p declared ∙ ap as_number parked) in
       let its : AtSend (wanted_at script s first.0) c = at-send (wanted_at script s first.0) c (first-sender first.0 first.1).1 in
-      let stands : operation_at script s first.0 ≡ Some (CaseKind.Send c its.value) = sender-stands first.0 (CaseKind.Send c its.value) its.value (wanting script s first.0 (CaseKind.Send c its.value) its.is) refl in
+      let stands : operation_at script s first.0 ≡ Some (CaseKind.Send c its.value) = sender-stands first.0 (CaseKind.Send c its.value) its.value chan (wanting script s first.0 (CaseKind.Send c its.value) its.is) refl in
       let rests : goes_alone script s (at_case first.0.g first.0.case_no) (CaseKind.Send c its.value) ≡ None =
       first-rests first.0 (CaseKind.Send c its.value) (ap (woken_by script s) (sym first.1) ∙ none) stands in
       let quiet = none-sending (at_case first.0.g first.0.case_no) c its.value (is_closed s c) (nat_lt (item_count s c) (capacity_of script c)) rests in
       both-false (is_closed s c) (nat_lt (item_count s c) (capacity_of script c)) quiet.0 quiet.1
 
   -- who waits for a mutex after a signal waits while it is locked
-  rests-locked : (g k : ℕ) → woken_by script s (slice_get (parties_at m.receivers c) 0) ≡ None → is_waiting m g ≡ true → mode_of s g ≡ Some (Mode.Relocking k) → mutex_of script k ≡ c
+  sender-locked : (p : Party) (kind : CaseKind) (v : ℕ) → IsTrue (is_mutex script c) → woken_by script s (Some p) ≡ None → Wanting script s p kind → kind ≡ CaseKind.Send c v → is_locked s c ≡ true
+  sender-locked p kind v mutex none (operates _ at) is = absurd (chan-mutex (what_at script c) (operates-named script s p (CaseKind.Send c v) good (at ∙ ap Some is)) mutex)
+  sender-locked p kind v mutex none (suspends k mode plain) is = cc
+  sender-locked p kind v mutex none (relocks k mode plain) is =
+      let here : mutex_of script k ≡ c = cc in
+      subst (λ o. is_locked s o ≡ true) here (locked-none (is_locked s (mutex_of script k)) (Entry.CondWake p.g k) (sym (woken-relocks script s p k mode) ∙ none))
+
+  rests-locked : (g k : ℕ) → woken_by script s (slice_get (parties_at m.senders c) 0) ≡ None → is_waiting m g ≡ true → mode_of s g ≡ Some (Mode.Relocking k) → mutex_of script k ≡ c
       → is_locked s (mutex_of script k) ≡ true
   rests-locked g k none waits mode here =
-      let at : wanted_at script s (plainly g) ≡ Some (CaseKind.Recv c) = relocking-wanted script s g k mode ∙ ap (λ o. Some (CaseKind.Recv o)) here in
       let mutex : IsTrue (is_mutex script c) = subst (λ o. IsTrue (is_mutex script o)) here (mutex_of-is script k good (relocking-cond script s g k formed mode)) in
-      subst (λ o. is_locked s o ≡ true) (sym here) (unready-locked s c (what_at script c) mutex (rests-recv (plainly g) none waits at))
+      let at : wanted_at script s (plainly g) ≡ Some (CaseKind.Send c 0) = relocking-wanted script s g k mode ∙ ap (λ o. Some (CaseKind.Send o 0)) here in
+      let wants_it : wants script s (plainly g) (sends_to c) ≡ true =
+      ap (λ (o : Option CaseKind). elim o as (λ o. Bool) [ None ↦ false | Some kind ↦ sends_to c kind ]) at ∙ eq-eqb c c refl in
+      let parked : is_parked_at script s m (plainly g) (sends_to c) ≡ true = and_from (is_waiting m g) (wants script s (plainly g) (sends_to c)) waits wants_it in
+      let first = one-first (plainly g) (parties_at m.senders c) (fits.sending c (plainly g) declared ∙ ap as_number parked) in
+      let its : AtSend (wanted_at script s first.0) c = at-send (wanted_at script s first.0) c (first-sender first.0 first.1).1 in
+      subst (λ o. is_locked s o ≡ true) (sym here)
+      (sender-locked first.0 (CaseKind.Send c its.value) its.value mutex (ap (woken_by script s) (sym first.1) ∙ none) (wanting script s first.0 (CaseKind.Send c its.value) its.is) refl)
 
   -- no operation of one that waits is ready by itself
   rests : (p : Party) (kind : CaseKind) → woken_by script s (slice_get (parties_at m.receivers c) 0) ≡ None → woken_by script s (slice_get (parties_at m.senders c) 0) ≡ None
@@ -578,14 +623,17 @@ module _ (script : Script) (s : State) (m : Schedule) (c : ℕ) (good : IsGood s
 
   pub none-woken : next_woken script s m c ≡ None → IsCalm script s m
   none-woken h =
-      let none = both-none (woken_by script s (slice_get (parties_at m.receivers c) 0)) (woken_by script s (slice_get (parties_at m.senders c) 0)) h in
+      let none = first-none (woken_by script s (slice_get (parties_at m.receivers c) 0)) (woken_by script s (slice_get (parties_at m.senders c) 0))
+      (is_longer m (slice_get (parties_at m.senders c) 0) (slice_get (parties_at m.receivers c) 0))
+      (either-first script s (slice_get (parties_at m.receivers c) 0) (slice_get (parties_at m.senders c) 0)
+      (is_longer m (slice_get (parties_at m.senders c) 0) (slice_get (parties_at m.receivers c) 0)) h) in
       calm_but-calm script s m (λ o. eqb o c) but (λ g n kind waits at.
       elim (eqb (object_of kind) c) as (λ b. eqb (object_of kind) c ≡ b → is_ready_alone script s no_timer kind ≡ false) [
         | true ↦ λ q. rests (at_case g n) kind none.0 none.1 waits at (eqb-true (object_of kind) c q)
         | false ↦ λ q. but.others g n kind waits at q
       ] refl) (λ g k waits mode.
       elim (eqb (mutex_of script k) c) as (λ b. eqb (mutex_of script k) c ≡ b → is_locked s (mutex_of script k) ≡ true) [
-        | true ↦ λ q. rests-locked g k none.0 waits mode (eqb-true (mutex_of script k) c q)
+        | true ↦ λ q. rests-locked g k none.1 waits mode (eqb-true (mutex_of script k) c q)
         | false ↦ λ q. but.relocks g k waits mode q
       ] refl)
 

@@ -11,7 +11,7 @@ use Rattle.gt_model.specs.declared.entry.Party.{Party}
 use Rattle.gt_model.specs.declared.state.Goroutine.{Goroutine}
 use Rattle.gt_model.specs.declared.state.Mode.{Mode}
 use Rattle.gt_model.specs.Good.{IsGood, gives_values}
-use Rattle.gt_model.specs.Script.{instr_at, what_at, is_mutex, is_cond, names_timer, names_chan, names_mutex, names_wg, names_cond, mutex_of}
+use Rattle.gt_model.specs.Script.{is_chan, instr_at, what_at, is_mutex, is_cond, names_timer, names_chan, names_mutex, names_wg, names_cond, mutex_of}
 use Rattle.gt_rules.specs.State.{State, goroutine_at, mode_of, stands, stands_at}
 use Rattle.gt_rules.specs.Operations.{operation, receives_from, sends_to}
 use Rattle.gt_rules.specs.Legal.{operation_at}
@@ -24,24 +24,24 @@ use Rattle.gt_book.specs.View.{is_at, wants_plainly, wanted, wanted_at, wants}
 pub data Wanting (script : Script) (s : State) (p : Party) : CaseKind → Type 0 where
   operates : (kind : CaseKind) → operation_at script s p ≡ Some kind → Wanting script s p kind
   suspends : (k : ℕ) → mode_of s p.g ≡ Some (Mode.Suspended k) → p.case_no ≡ 0 → Wanting script s p (CaseKind.Recv k)
-  relocks : (k : ℕ) → mode_of s p.g ≡ Some (Mode.Relocking k) → p.case_no ≡ 0 → Wanting script s p (CaseKind.Recv (mutex_of script k))
+  relocks : (k : ℕ) → mode_of s p.g ≡ Some (Mode.Relocking k) → p.case_no ≡ 0 → Wanting script s p (CaseKind.Send (mutex_of script k) 0)
 
 -- what is wanted that is plain
-record IsPlain (o n : ℕ) (kind : CaseKind) : Type 0 where
+record IsPlain (want : CaseKind) (n : ℕ) (kind : CaseKind) : Type 0 where
   plain : n ≡ 0
-  is : CaseKind.Recv o ≡ kind
+  is : want ≡ kind
 
-plainly-is : (o n : ℕ) (kind : CaseKind) → wants_plainly o n ≡ Some kind → IsPlain o n kind
-plainly-is o zero kind h = record { plain = refl; is = cc }
-plainly-is o (suc k) kind h = cc
+plainly-is : (want : CaseKind) (n : ℕ) (kind : CaseKind) → wants_plainly want n ≡ Some kind → IsPlain want n kind
+plainly-is want zero kind h = record { plain = refl; is = cc }
+plainly-is want (suc k) kind h = cc
 
 -- what a goroutine wants in a mode
 abbrev wanted_in : Script → ℕ → Place → Mode → Option CaseKind
 wanted_in script n place mode = elim mode [
   | Mode.At ↦ option_and_then (λ (i : Instr). operation i n) (instr_at script place)
   | Mode.Sleeping until ↦ None
-  | Mode.Suspended k ↦ wants_plainly k n
-  | Mode.Relocking k ↦ wants_plainly (mutex_of script k) n
+  | Mode.Suspended k ↦ wants_plainly (CaseKind.Recv k) n
+  | Mode.Relocking k ↦ wants_plainly (CaseKind.Send (mutex_of script k) 0) n
   | Mode.Ended ↦ None
 ]
 
@@ -59,10 +59,10 @@ wanting-in script s p kind r Mode.At there is h =
     operates kind (ap (λ (o : Option Instr). elim o as (λ o. Option CaseKind) [ None ↦ None | Some i ↦ operation i p.case_no ]) stood ∙ (at-place (instr_at script r.place) p.case_no ∙ h))
 wanting-in script s p kind r (Mode.Sleeping until) there is h = cc
 wanting-in script s p kind r (Mode.Suspended k) there is h =
-    let plain : IsPlain k p.case_no kind = plainly-is k p.case_no kind h in
+    let plain : IsPlain (CaseKind.Recv k) p.case_no kind = plainly-is (CaseKind.Recv k) p.case_no kind h in
     subst (Wanting script s p) plain.is (suspends k (mode_there s p.g r (Mode.Suspended k) there is) plain.plain)
 wanting-in script s p kind r (Mode.Relocking k) there is h =
-    let plain : IsPlain (mutex_of script k) p.case_no kind = plainly-is (mutex_of script k) p.case_no kind h in
+    let plain : IsPlain (CaseKind.Send (mutex_of script k) 0) p.case_no kind = plainly-is (CaseKind.Send (mutex_of script k) 0) p.case_no kind h in
     subst (Wanting script s p) plain.is (relocks k (mode_there s p.g r (Mode.Relocking k) there is) plain.plain)
 wanting-in script s p kind r Mode.Ended there is h = cc
 
@@ -88,8 +88,8 @@ suspended-wanted script s g k h =
     let a : InMode s g (Mode.Suspended k) = in-mode s g (Mode.Suspended k) h in
     ap (option_and_then (wanted script 0)) a.there ∙ ap (wanted_in script 0 a.who.place) a.its
 
--- who was signalled there for its mutex
-pub relocking-wanted : (script : Script) (s : State) (g k : ℕ) → mode_of s g ≡ Some (Mode.Relocking k) → wanted_at script s (plainly g) ≡ Some (CaseKind.Recv (mutex_of script k))
+-- who was signalled there for its mutex, among those that send
+pub relocking-wanted : (script : Script) (s : State) (g k : ℕ) → mode_of s g ≡ Some (Mode.Relocking k) → wanted_at script s (plainly g) ≡ Some (CaseKind.Send (mutex_of script k) 0)
 relocking-wanted script s g k h =
     let a : InMode s g (Mode.Relocking k) = in-mode s g (Mode.Relocking k) h in
     ap (option_and_then (wanted script 0)) a.there ∙ ap (wanted_in script 0 a.who.place) a.its
@@ -118,32 +118,31 @@ at-passes script s p test kind e h = ap (λ (o : Option CaseKind). elim o as (λ
 
 -- ---- who waits at a channel or a timer stands at its operation
 
-sends-at : (script : Script) (s : State) (p : Party) (c : ℕ) (kind : CaseKind) → Wanting script s p kind → sends_to c kind ≡ true
-    → is_at script s p (sends_to c) ≡ true
-sends-at script s p c kind (operates _ e) h = at-passes script s p (sends_to c) kind e h
-sends-at script s p c kind (suspends k e plain) h = cc
-sends-at script s p c kind (relocks k e plain) h = cc
+no-chan_mutex : (w : Option What) → IsTrue (names_chan w) → IsTrue (names_mutex w) → ⊥
+no-chan_mutex (Some What.Mutex) h mutex = cc
+no-chan_mutex _ h mutex = cc
 
-pub wants-sends : (script : Script) (s : State) (p : Party) (c : ℕ) → wants script s p (sends_to c) ≡ true → is_at script s p (sends_to c) ≡ true
-wants-sends script s p c h =
+sends-at : (script : Script) (s : State) (p : Party) (c : ℕ) (kind : CaseKind) → IsGood script → IsFormed script s → IsTrue (is_chan script c) → Wanting script s p kind
+    → sends_to c kind ≡ true → is_at script s p (sends_to c) ≡ true
+sends-at script s p c kind good formed chan (operates _ e) h = at-passes script s p (sends_to c) kind e h
+sends-at script s p c kind good formed chan (suspends k e plain) h = cc
+sends-at script s p c kind good formed chan (relocks k e plain) h =
+    absurd (no-chan_mutex (what_at script c) chan
+    (subst (λ m. IsTrue (is_mutex script m)) (eqb-true (mutex_of script k) c h) (mutex_of-is script k good (relocking-cond script s p.g k formed e))))
+
+pub wants-sends : (script : Script) (s : State) (p : Party) (c : ℕ) → IsGood script → IsFormed script s → IsTrue (is_chan script c) → wants script s p (sends_to c) ≡ true
+    → is_at script s p (sends_to c) ≡ true
+wants-sends script s p c good formed chan h =
     let w : Wanted script s p (sends_to c) = wants-some script s p (sends_to c) h in
-    sends-at script s p c w.kind (wanting script s p w.kind w.there) w.passes
+    sends-at script s p c w.kind good formed chan (wanting script s p w.kind w.there) w.passes
 
 no-value_cond : (w : Option What) → IsTrue (names_timer w || names_chan w) → IsTrue (names_cond w) → ⊥
 no-value_cond (Some (What.Cond mutex)) h cond = cc
 no-value_cond _ h cond = cc
 
-no-value_mutex : (w : Option What) → IsTrue (names_timer w || names_chan w) → IsTrue (names_mutex w) → ⊥
-no-value_mutex (Some What.Mutex) h mutex = cc
-no-value_mutex _ h mutex = cc
-
 no-operation_cond : (w : Option What) → IsTrue ((names_timer w || names_chan w) || (names_mutex w || names_wg w)) → IsTrue (names_cond w) → ⊥
 no-operation_cond (Some (What.Cond mutex)) h cond = cc
 no-operation_cond _ h cond = cc
-
-no-mutex_cond : (w : Option What) → IsTrue (names_mutex w) → IsTrue (names_cond w) → ⊥
-no-mutex_cond (Some What.Mutex) mutex cond = cc
-no-mutex_cond _ mutex cond = cc
 
 receives-at : (script : Script) (s : State) (p : Party) (o : ℕ) (kind : CaseKind) → IsGood script → IsFormed script s → IsTrue (gives_values script o)
     → Wanting script s p kind
@@ -151,9 +150,7 @@ receives-at : (script : Script) (s : State) (p : Party) (o : ℕ) (kind : CaseKi
 receives-at script s p o kind good formed gives (operates _ e) h = at-passes script s p (receives_from o) kind e h
 receives-at script s p o kind good formed gives (suspends k e plain) h =
     absurd (no-value_cond (what_at script o) gives (subst (λ k. IsTrue (is_cond script k)) (eqb-true k o h) (suspended-cond script s p.g k formed e)))
-receives-at script s p o kind good formed gives (relocks k e plain) h =
-    absurd (no-value_mutex (what_at script o) gives
-    (subst (λ m. IsTrue (is_mutex script m)) (eqb-true (mutex_of script k) o h) (mutex_of-is script k good (relocking-cond script s p.g k formed e))))
+receives-at script s p o kind good formed gives (relocks k e plain) h = cc
 
 pub wants-receives : (script : Script) (s : State) (p : Party) (o : ℕ) → IsGood script → IsFormed script s → IsTrue (gives_values script o)
     → wants script s p (receives_from o) ≡ true
@@ -168,23 +165,25 @@ pub receives-kind : (kind : CaseKind) (o : ℕ) → receives_from o kind ≡ tru
 receives-kind (CaseKind.Recv p) o h = ap CaseKind.Recv (eqb-true p o h)
 receives-kind (CaseKind.Send c v) o h = cc
 
+-- what somebody operates at is declared for it
+pub operates-named : (script : Script) (s : State) (p : Party) (kind : CaseKind) → IsGood script → operation_at script s p ≡ Some kind → NamesObject script kind
+operates-named script s p kind good e =
+    let at : AtOperation script s p kind = at_operation script s p kind e in
+    let st : Standing script s p.g at.instr = standing script s p.g at.instr at.stands in
+    names-operation script at.instr p.case_no kind at.has (names-instr_at script st.who.place at.instr good st.on)
+
 -- nobody operates at a Cond
 operates-nowhere : (script : Script) (s : State) (p : Party) (k : ℕ) → IsGood script → IsTrue (is_cond script k)
     → operation_at script s p ≡ Some (CaseKind.Recv k) → ⊥
 operates-nowhere script s p k good cond e =
-    let at : AtOperation script s p (CaseKind.Recv k) = at_operation script s p (CaseKind.Recv k) e in
-    let st : Standing script s p.g at.instr = standing script s p.g at.instr at.stands in
-    let names : NamesObject script (CaseKind.Recv k) = names-operation script at.instr p.case_no (CaseKind.Recv k) at.has (names-instr_at script st.who.place at.instr good st.on) in
-    no-operation_cond (what_at script k) names cond
+    no-operation_cond (what_at script k) (operates-named script s p (CaseKind.Recv k) good e) cond
 
 suspends-at : (script : Script) (s : State) (p : Party) (k : ℕ) (kind : CaseKind) → IsGood script → IsFormed script s → IsTrue (is_cond script k)
     → Wanting script s p kind
     → receives_from k kind ≡ true → mode_of s p.g ≡ Some (Mode.Suspended k)
 suspends-at script s p k kind good formed cond (operates _ e) h = absurd (operates-nowhere script s p k good cond (e ∙ ap Some (receives-kind kind k h)))
 suspends-at script s p k kind good formed cond (suspends j e plain) h = e ∙ ap (λ k. Some (Mode.Suspended k)) (eqb-true j k h)
-suspends-at script s p k kind good formed cond (relocks j e plain) h =
-    absurd (no-mutex_cond (what_at script k)
-    (subst (λ m. IsTrue (is_mutex script m)) (eqb-true (mutex_of script j) k h) (mutex_of-is script j good (relocking-cond script s p.g j formed e))) cond)
+suspends-at script s p k kind good formed cond (relocks j e plain) h = cc
 
 pub wants-suspended : (script : Script) (s : State) (p : Party) (k : ℕ) → IsGood script → IsFormed script s → IsTrue (is_cond script k)
     → wants script s p (receives_from k) ≡ true

@@ -149,17 +149,17 @@ abbrev pub stands_for : Script → State → ℕ → ℕ → Bool
 stands_for script s g o = elim (stands_at script s g) [ None ↦ false | Some i ↦ offers (receives_from o) i ]
 
 -- what a goroutine wants that is plain: nothing under the number of a case
-abbrev pub wants_plainly : ℕ → ℕ → Option CaseKind
-wants_plainly o zero = Some (CaseKind.Recv o)
-wants_plainly o (suc k) = None
+abbrev pub wants_plainly : CaseKind → ℕ → Option CaseKind
+wants_plainly kind zero = Some kind
+wants_plainly kind (suc k) = None
 
--- what a party waits for: its operation; who is suspended a signal of its Cond; who was signalled there the Cond's mutex
+-- what a party waits for: its operation; who is suspended a signal of its Cond. Who was signalled there waits for the Cond's mutex, where senders stand
 abbrev pub wanted : Script → ℕ → Goroutine → Option CaseKind
 wanted script case_no r = elim r.mode [
   | Mode.At ↦ option_and_then (λ (i : Instr). operation i case_no) (instr_at script r.place)
   | Mode.Sleeping until ↦ None
-  | Mode.Suspended k ↦ wants_plainly k case_no
-  | Mode.Relocking k ↦ wants_plainly (mutex_of script k) case_no
+  | Mode.Suspended k ↦ wants_plainly (CaseKind.Recv k) case_no
+  | Mode.Relocking k ↦ wants_plainly (CaseKind.Send (mutex_of script k) 0) case_no
   | Mode.Ended ↦ None
 ]
 

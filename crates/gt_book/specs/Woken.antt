@@ -1,5 +1,5 @@
 -- Who goes on at an object after it changed, of those that wait there.
-use Rattle.std.specs.Prelude.{ℕ, ◌+◌, cond, List, [], ◌∷◌, slice_get}
+use Rattle.std.specs.Prelude.{ℕ, ◌+◌, nat_lt, Bool, true, false, cond, List, [], ◌∷◌, slice_get}
 use Rattle.std.specs.declared.option.Option.{Option}
 use Rattle.std.specs.declared.option.Option.TheVariants.{None, Some}
 use Rattle.gt_model.specs.declared.script.Script.{Script}
@@ -16,7 +16,7 @@ use Rattle.gt_rules.specs.declared.change.Move.{Move}
 use Rattle.gt_rules.specs.Change.{Change}
 use Rattle.gt_rules.specs.declared.change.Trade.{Trade}
 use Rattle.gt_rules.specs.declared.change.SyncStep.{SyncStep}
-use Rattle.gt_schedule.specs.Schedule.{Schedule, plainly, at_case, parties_at}
+use Rattle.gt_schedule.specs.Schedule.{Schedule, plainly, at_case, parties_at, since_of}
 use Rattle.gt_book.specs.Steps.{goes_alone, or_next}
 
 -- the entry of the first case that can go on by itself, where the first one has the number n
@@ -54,10 +54,22 @@ abbrev pub woken_by : Script → State → Option Party → Option Entry
 woken_by script s None = None
 woken_by script s (Some p) = elim (goroutine_at s p.g) [ None ↦ None | Some r ↦ woken_in script s p.g r ]
 
--- the entry of the one that goes on next: of receivers, and of senders, the one that has waited longest
+-- whether a sender has waited longer than a receiver, where there are both
+abbrev pub is_longer : Schedule → Option Party → Option Party → Bool
+is_longer m (Some q) (Some p) = nat_lt (since_of m q.g) (since_of m p.g)
+is_longer m (Some q) None = false
+is_longer m None receiver = false
+
+abbrev pub first_woken : Script → State → Option Party → Option Party → Bool → Option Entry
+first_woken script s receiver sender true = or_next (woken_by script s sender) (woken_by script s receiver)
+first_woken script s receiver sender false = or_next (woken_by script s receiver) (woken_by script s sender)
+
+-- the entry of the one that goes on next: of those that have waited longest, of receivers and of senders, who has waited longer is asked first
 abbrev pub next_woken : Script → State → Schedule → ℕ → Option Entry
 next_woken script s m c =
-    or_next (woken_by script s (slice_get (parties_at m.receivers c) 0)) (woken_by script s (slice_get (parties_at m.senders c) 0))
+    let receiver : Option Party = slice_get (parties_at m.receivers c) 0
+    in let sender : Option Party = slice_get (parties_at m.senders c) 0
+    in first_woken script s receiver sender (is_longer m sender receiver)
 
 -- the mutex or the WaitGroup that a step changes, as far as somebody waits for it: of a Cond its mutex
 abbrev pub stepped_object : Script → ℕ → SyncStep → ℕ

@@ -190,6 +190,24 @@ fn woken_by(machine: &Machine, script: &Script, p: Party) -> Option<Entry>
     }
 }
 
+/// The entry of a party that waits, if there is one, where it can go on by itself.
+fn woken_of(machine: &Machine, script: &Script, party: Option<Party>) -> Option<Entry>
+    requires { IsGood script.now }
+    ensures { result ≡ woken.woken_by script.now (state_of machine.now) party }
+{
+    woken_by(machine, script, party?)
+}
+
+/// Whether a sender has waited longer than a receiver, where there are both.
+fn is_longer(scheduler: &Scheduler, sender: Option<Party>, receiver: Option<Party>) -> bool
+    ensures { result ≡ woken.is_longer (schedule_of scheduler.now) sender receiver }
+{
+    match (sender, receiver) {
+        (Some(q), Some(p)) => scheduler.since_of(q.g) < scheduler.since_of(p.g),
+        _ => false,
+    }
+}
+
 /// The entry of the one that goes on next at an object, of those that wait there; None where none can.
 pub fn next_woken(
     machine: &Machine,
@@ -203,12 +221,15 @@ pub fn next_woken(
     requires senders { c < length (schedule_of scheduler.now).senders }
     ensures { result ≡ woken.next_woken script.now (state_of machine.now) (schedule_of scheduler.now) c }
 {
-    let receiver = match scheduler.first_receiver(c) {
-        Some(p) => woken_by(machine, script, p),
-        None => None,
+    let receiver = scheduler.first_receiver(c);
+    let sender = scheduler.first_sender(c);
+    let (first, next) = if is_longer(scheduler, sender, receiver) {
+        (sender, receiver)
+    } else {
+        (receiver, sender)
     };
-    match receiver {
+    match woken_of(machine, script, first) {
         Some(entry) => Some(entry),
-        None => woken_by(machine, script, scheduler.first_sender(c)?),
+        None => woken_of(machine, script, next),
     }
 }

@@ -2,7 +2,7 @@
 use Rattle.std.proofs.Common.{◌≡◌, ◌≢◌, ℕ, ◌+◌, ◌-◌, ◌<◌, ◌≤◌, ◌^◌, eqb, Bool, true, false, List, [], ◌∷◌, ◌++◌, length, map, set, Some, None, IsSome, is_some, slice_get, get_or-set_same, get_or-set_other, length-set, refl, sym, ap, subst, ◌∙◌, inl, inr, arith}
 use Rattle.std.specs.List.{Contains, IsDistinct, AllByRecursion}
 use Rattle.std.proofs.lemmas.Bool.{cases_Bool, cases_eq, cases_lt, and_parts, eq-eqb, eqb-true, ne_eqb, false≢true}
-use Rattle.std.proofs.lemmas.List.{get_or_past, set_past, drop-set-lt, length-map}
+use Rattle.std.proofs.lemmas.List.{get_or_past, set_past, take-set-le, drop-set-lt, drop-set-add, length-map}
 use Rattle.std.proofs.lemmas.Map.Keys.{IsDistinct-head, IsDistinct-tail, IsDistinct-cons}
 use Rattle.std.proofs.Math.Seq.{take-set-lt}
 use Rattle.gt_model.specs.declared.entry.Party.{Party}
@@ -14,15 +14,16 @@ use Rattle.gt_schedule.specs.Counts.{as_number, is_party, often}
 use Rattle.gt_schedule.specs.Schedule.{Schedule, plainly, status_of, is_parked, parties_at, without_goroutine, joins, leaves, in_place, takes_place, is_later, mutex_at, relocked, each_relocked, all_relocked, IsCondAt, StandsAt, ArePlain, AreParked}
 use Rattle.gt_schedule.specs.Scheduler.{schedule_of, capacity, IsScheduler, IsOrderly}
 use Rattle.gt_schedule.proofs.Lists.{is_party-same, is_party-other, often-push, often-without_same, often-without_other}
-use Rattle.gt_schedule.proofs.Keeping.{schedule-is, parties-receivers, names-receivers, without-absent}
+use Rattle.gt_schedule.proofs.Keeping.{schedule-is, parties-receivers, parties-senders, names-receivers, without-absent}
 use Rattle.gt_schedule.proofs.Places.{Contains-here, Contains-there, Contains-cases, often-place}
 
 -- ---- what each relocking leaves of a schedule
 
 pub long-relocked : (m : Schedule) (g k : ℕ) → length (relocked m g k).receivers ≡ length m.receivers
-long-relocked m g k =
-    let left : List (List Party) = leaves m.receivers k g in
-    length-set left (mutex_at m k) _ ∙ length-set m.receivers k _
+long-relocked m g k = length-set m.receivers k _
+
+pub long-relocked_senders : (m : Schedule) (g k : ℕ) → length (relocked m g k).senders ≡ length m.senders
+long-relocked_senders m g k = length-set m.senders (mutex_at m k) _
 
 each-stays : {X : Type 0} (part : Schedule → X) → ((m : Schedule) (g k : ℕ) → part (relocked m g k) ≡ part m) → (m : Schedule) (k : ℕ) (ps : List Party)
     → part (each_relocked m k ps) ≡ part m
@@ -34,9 +35,6 @@ each-statuses = each-stays (λ (m : Schedule). m.statuses) (λ m g k. refl)
 
 pub each-run_queue : (m : Schedule) (k : ℕ) (ps : List Party) → (each_relocked m k ps).run_queue ≡ m.run_queue
 each-run_queue = each-stays (λ (m : Schedule). m.run_queue) (λ m g k. refl)
-
-pub each-senders : (m : Schedule) (k : ℕ) (ps : List Party) → (each_relocked m k ps).senders ≡ m.senders
-each-senders = each-stays (λ (m : Schedule). m.senders) (λ m g k. refl)
 
 pub each-parks : (m : Schedule) (k : ℕ) (ps : List Party) → (each_relocked m k ps).parks ≡ m.parks
 each-parks = each-stays (λ (m : Schedule). m.parks) (λ m g k. refl)
@@ -50,13 +48,17 @@ each-mutexes = each-stays (λ (m : Schedule). m.mutexes) (λ m g k. refl)
 pub each-receivers_long : (m : Schedule) (k : ℕ) (ps : List Party) → length (each_relocked m k ps).receivers ≡ length m.receivers
 each-receivers_long = each-stays (λ (m : Schedule). length m.receivers) long-relocked
 
+pub each-senders_long : (m : Schedule) (k : ℕ) (ps : List Party) → length (each_relocked m k ps).senders ≡ length m.senders
+each-senders_long = each-stays (λ (m : Schedule). length m.senders) long-relocked_senders
+
 -- a Cond is one still
 pub cond-relocked : (m : Schedule) (g k h : ℕ) → IsCondAt m h → IsCondAt (relocked m g k) h
 cond-relocked m g k h cond =
     let long : length (relocked m g k).receivers ≡ length m.receivers = long-relocked m g k in
+    let long_senders : length (relocked m g k).senders ≡ length m.senders = long-relocked_senders m g k in
     let declared : h < length m.receivers = cond.declared in
-    let mutex : mutex_at m h < length m.receivers = cond.mutex_declared in
-    record { declared = omega arith; mutex_declared = omega arith; apart = cond.apart }
+    let mutex : mutex_at m h < length m.senders = cond.mutex_declared in
+    record { declared = omega arith; mutex_declared = omega arith }
 
 -- ---- those in the lists are parked
 
@@ -106,8 +108,8 @@ parked-takes_place m later lists t q are waits =
 pub orderly-relocked : (m : Schedule) (g k : ℕ) → IsOrderly m → is_parked (status_of m g) ≡ true → IsOrderly (relocked m g k)
 orderly-relocked m g k orderly waits = record {
   queued = orderly.queued;
-  receivers = parked-takes_place m (is_later m g) (leaves m.receivers k g) (mutex_at m k) (plainly g) (parked-leaves m m.receivers k g orderly.receivers) waits;
-  senders = orderly.senders;
+  receivers = parked-leaves m m.receivers k g orderly.receivers;
+  senders = parked-takes_place m (is_later m g) m.senders (mutex_at m k) (plainly g) orderly.senders waits;
 }
 
 orderly-each : (m : Schedule) (k : ℕ) (ps : List Party) → IsOrderly m → ((p : Party) → 0 < often p ps → is_parked (status_of m p.g) ≡ true) → IsOrderly (each_relocked m k ps)
@@ -130,9 +132,7 @@ orderly-all m k orderly = orderly-each m k (parties_at m.receivers k) orderly (�
 -- ---- the list of a Cond after a relocking
 
 pub cond-list : (m : Schedule) (g k : ℕ) → IsCondAt m k → parties_at (relocked m g k).receivers k ≡ without_goroutine g (parties_at m.receivers k)
-cond-list m g k cond =
-    get_or-set_other (leaves m.receivers k g) (mutex_at m k) k _ [] (λ e. cond.apart (sym e))
-    ∙ get_or-set_same m.receivers k (without_goroutine g (parties_at m.receivers k)) [] cond.declared
+cond-list m g k cond = get_or-set_same m.receivers k (without_goroutine g (parties_at m.receivers k)) [] cond.declared
 
 all-contains : (P : Party → Type 0) (q : Party) (xs : List Party) → AllByRecursion P xs → Contains xs q → P q
 all-contains P q [] all h = absurd (omega (arith, h.1))
@@ -212,7 +212,7 @@ few-parties w list lawful plain =
 
 -- ---- a scheduler after a relocking
 
--- with one list of receivers exchanged
+-- with one list of receivers, or of senders, exchanged
 set-receivers : (m : Scheduler) (list : ℕ) (xs : List Party) → list < m.declared
     → schedule_of (record m { waiters = record m.waiters { lists = set m.waiters.lists list xs } }) ≡ record (schedule_of m) { receivers = set (schedule_of m).receivers list xs }
 set-receivers m list xs within =
@@ -225,35 +225,47 @@ set-receivers m list xs within =
     refl
     refl
 
+set-senders : (m : Scheduler) (c : ℕ) (xs : List Party)
+    → schedule_of (record m { waiters = record m.waiters { lists = set m.waiters.lists (m.declared + c) xs } }) ≡ record (schedule_of m) { senders = set (schedule_of m).senders c xs }
+set-senders m c xs =
+    schedule-is (schedule_of (record m { waiters = record m.waiters { lists = set m.waiters.lists (m.declared + c) xs } })) (record (schedule_of m) { senders = set (schedule_of m).senders c xs })
+    refl
+    refl
+    (take-set-le m.declared m.waiters.lists (m.declared + c) xs (omega arith))
+    (drop-set-add m.declared m.waiters.lists c xs)
+    refl
+    refl
+    refl
+
 -- who has left the list of the Cond
 left-is : (m : Scheduler) (g k : ℕ) → k < m.declared → schedule_of (record m { waiters = forgotten m.waiters k g }) ≡ record (schedule_of m) { receivers = leaves (schedule_of m).receivers k g }
 left-is m g k within =
     set-receivers m k (without_goroutine g (parties_in m.waiters.lists k)) within
     ∙ ap (λ ps. record (schedule_of m) { receivers = set (schedule_of m).receivers k (without_goroutine g ps) }) (sym (parties-receivers m.declared m.waiters.lists k within))
 
--- and has its place in that of the mutex
+-- and has its place among those that were signalled for the mutex
 relocked-is : (m : Scheduler) (w : Waiting) (g k : ℕ) → IsCondAt (schedule_of m) k
     → w ≡ (let v : Waiting = forgotten m.waiters k g in
-    record v { lists = set v.lists (mutex_at (schedule_of m) k) (in_place (is_later (schedule_of m) g) (plainly g) (parties_in v.lists (mutex_at (schedule_of m) k))) })
+    let list : ℕ = m.declared + mutex_at (schedule_of m) k in
+    record v { lists = set v.lists list (in_place (is_later (schedule_of m) g) (plainly g) (parties_in v.lists list)) })
     → schedule_of (record m { waiters = w }) ≡ relocked (schedule_of m) g k
 relocked-is m w g k cond now =
     let mutex : ℕ = mutex_at (schedule_of m) k in
     let here : k < m.declared = names-receivers m k cond.declared in
-    let there : mutex < m.declared = names-receivers m mutex cond.mutex_declared in
     let left : Scheduler = record m { waiters = forgotten m.waiters k g } in
     let later : Party → Bool = is_later (schedule_of m) g in
-    let xs : List Party = in_place later (plainly g) (parties_in left.waiters.lists mutex) in
+    let xs : List Party = in_place later (plainly g) (parties_in left.waiters.lists (m.declared + mutex)) in
     ap (λ (v : Waiting). schedule_of (record m { waiters = v })) now
-    ∙ (set-receivers left mutex xs there
-    ∙ (ap (λ ps. record (schedule_of left) { receivers = set (schedule_of left).receivers mutex (in_place later (plainly g) ps) }) (sym (parties-receivers m.declared left.waiters.lists mutex there))
-    ∙ ap (λ (s : Schedule). record s { receivers = takes_place later s.receivers mutex (plainly g) }) (left-is m g k here)))
+    ∙ (set-senders left mutex xs
+    ∙ (ap (λ ps. record (schedule_of left) { senders = set (schedule_of left).senders mutex (in_place later (plainly g) ps) }) (sym (parties-senders m.declared left.waiters.lists mutex))
+    ∙ ap (λ (s : Schedule). record s { senders = takes_place later s.senders mutex (plainly g) }) (left-is m g k here)))
 
-pub placed-is : (m : Scheduler) (v w : Waiting) (g k list : ℕ) (p : Party) (xs : List Party) → IsCondAt (schedule_of m) k → v ≡ forgotten m.waiters k g → list ≡ mutex_at (schedule_of m) k
-    → p ≡ plainly g → w ≡ record v { lists = set v.lists list xs } → in_place (is_later (schedule_of m) g) p (parties_in v.lists list) ≡ xs
-    → schedule_of (record m { waiters = w }) ≡ relocked (schedule_of m) g k
+pub placed-is : (m : Scheduler) (v w : Waiting) (g k list : ℕ) (p : Party) (xs : List Party) → IsCondAt (schedule_of m) k → v ≡ forgotten m.waiters k g
+    → list ≡ m.declared + mutex_at (schedule_of m) k → p ≡ plainly g → w ≡ record v { lists = set v.lists list xs }
+    → in_place (is_later (schedule_of m) g) p (parties_in v.lists list) ≡ xs → schedule_of (record m { waiters = w }) ≡ relocked (schedule_of m) g k
 placed-is m v w g k list p xs cond left mutex plain now place =
     let later : Party → Bool = is_later (schedule_of m) g in
-    let there : ℕ = mutex_at (schedule_of m) k in
+    let there : ℕ = m.declared + mutex_at (schedule_of m) k in
     relocked-is m w g k cond (now
     ∙ (ap (λ ys. record v { lists = set v.lists list ys }) (sym place)
     ∙ (ap (λ q. record v { lists = set v.lists list (in_place later q (parties_in v.lists list)) }) plain

@@ -1,5 +1,5 @@
 -- Who waits where after those that wait at a Cond are signalled, and which mutex a Cond has.
-use Rattle.std.proofs.Common.{◌≡◌, ◌≢◌, ℕ, zero, suc, ◌+◌, ◌<◌, Bool, true, false, List, [], ◌∷◌, length, map, set, slice_get, slice_index_or, Option, None, Some, get_or-set_same, get_or-set_other, length-set, refl, sym, ap, subst, ◌∙◌, inl, inr, arith}
+use Rattle.std.proofs.Common.{◌≡◌, ◌≢◌, ℕ, zero, suc, ◌+◌, ◌<◌, Bool, true, false, List, [], ◌∷◌, length, map, set, slice_get, slice_index_or, Option, None, Some, get_or-set_same, get_or-set_other, refl, sym, ap, subst, ◌∙◌, inl, inr, arith}
 use Rattle.std.proofs.lemmas.Bool.{cases_eq, cases_lt}
 use Rattle.std.proofs.lemmas.List.{set_past}
 use Rattle.std.specs.Option.{option_map, option_map_or}
@@ -12,11 +12,11 @@ use Rattle.gt_rules.specs.declared.change.Move.{Move}
 use Rattle.gt_rules.specs.declared.change.Start.{Start}
 use Rattle.gt_rules.specs.Change.{Change}
 use Rattle.gt_schedule.specs.Counts.{as_number, is_party, often}
-use Rattle.gt_schedule.specs.Schedule.{Schedule, plainly, status_of, is_parked, parties_at, without_goroutine, leaves, in_place, is_later, mutex_in, mutex_at, relocked, each_relocked, all_relocked, gone_on, turned, moved_by, signalled_by, begun_by, with_new, rescheduled, IsCondAt, ArePlain}
+use Rattle.gt_schedule.specs.Schedule.{Schedule, plainly, status_of, is_parked, parties_at, without_goroutine, in_place, is_later, mutex_in, mutex_at, relocked, each_relocked, all_relocked, gone_on, turned, moved_by, signalled_by, begun_by, with_new, rescheduled, IsCondAt, ArePlain}
 use Rattle.gt_schedule.proofs.Lists.{is_party-same, is_party-other, often-without_same, often-without_other}
 use Rattle.gt_schedule.proofs.Places.{often-place}
 use Rattle.gt_schedule.proofs.Parties.{OthersStay}
-use Rattle.gt_schedule.proofs.Relocked.{long-relocked, cond-relocked, cond-list, plain-rest, each-mutexes}
+use Rattle.gt_schedule.proofs.Relocked.{long-relocked, long-relocked_senders, cond-relocked, cond-list, plain-rest, each-mutexes}
 
 -- ---- one goroutine
 
@@ -35,21 +35,23 @@ often-set lists t u xs p same =
 
 relocked-receivers_other : (m : Schedule) (g k t : ℕ) (p : Party) → p.g ≢ g → often p (parties_at (relocked m g k).receivers t) ≡ often p (parties_at m.receivers t)
 relocked-receivers_other m g k t p other =
-    let left : List (List Party) = leaves m.receivers k g in
-    let there : List Party = parties_at left (mutex_at m k) in
+    often-set m.receivers k t (without_goroutine g (parties_at m.receivers k)) p (often-without_other p g (parties_at m.receivers k) other)
+
+relocked-senders_other : (m : Schedule) (g k t : ℕ) (p : Party) → p.g ≢ g → often p (parties_at (relocked m g k).senders t) ≡ often p (parties_at m.senders t)
+relocked-senders_other m g k t p other =
+    let there : List Party = parties_at m.senders (mutex_at m k) in
     let place : often p (in_place (is_later m g) (plainly g) there) ≡ often p there + as_number (is_party (plainly g) p) = often-place (is_later m g) (plainly g) p there in
     let none : as_number (is_party (plainly g) p) ≡ 0 = ap as_number (is_party-other (plainly g) p (λ e. other (sym e))) in
-    often-set left (mutex_at m k) t (in_place (is_later m g) (plainly g) there) p (omega arith)
-    ∙ often-set m.receivers k t (without_goroutine g (parties_at m.receivers k)) p (often-without_other p g (parties_at m.receivers k) other)
+    often-set m.senders (mutex_at m k) t (in_place (is_later m g) (plainly g) there) p (omega arith)
 
 pub others-relocked : (m : Schedule) (g k : ℕ) → OthersStay m (relocked m g k) g
 others-relocked m g k = record {
   statuses = λ h n. refl;
   run_queue = λ h n. refl;
   receivers_long = long-relocked m g k;
-  senders_long = refl;
+  senders_long = long-relocked_senders m g k;
   receivers = λ t p n. relocked-receivers_other m g k t p n;
-  senders = λ t p n. refl;
+  senders = λ t p n. relocked-senders_other m g k t p n;
 }
 
 -- it is gone from the Cond, stands once more at the mutex, and all other lists stay
@@ -57,19 +59,17 @@ pub relocked-cond : (m : Schedule) (g k : ℕ) (p : Party) → IsCondAt m k → 
 relocked-cond m g k p cond own = ap (often p) (cond-list m g k cond) ∙ often-without_same p g (parties_at m.receivers k) own
 
 pub relocked-mutex : (m : Schedule) (g k : ℕ) (p : Party) → IsCondAt m k
-    → often p (parties_at (relocked m g k).receivers (mutex_at m k)) ≡ often p (parties_at m.receivers (mutex_at m k)) + as_number (is_party (plainly g) p)
+    → often p (parties_at (relocked m g k).senders (mutex_at m k)) ≡ often p (parties_at m.senders (mutex_at m k)) + as_number (is_party (plainly g) p)
 relocked-mutex m g k p cond =
-    let left : List (List Party) = leaves m.receivers k g in
     let t : ℕ = mutex_at m k in
-    let long : length left ≡ length m.receivers = length-set m.receivers k (without_goroutine g (parties_at m.receivers k)) in
-    let within : t < length m.receivers = cond.mutex_declared in
-    let stays : parties_at left t ≡ parties_at m.receivers t = get_or-set_other m.receivers k t (without_goroutine g (parties_at m.receivers k)) [] cond.apart in
-    ap (often p) (get_or-set_same left t (in_place (is_later m g) (plainly g) (parties_at left t)) [] (omega arith))
-    ∙ (often-place (is_later m g) (plainly g) p (parties_at left t) ∙ ap (λ xs. often p xs + as_number (is_party (plainly g) p)) stays)
+    ap (often p) (get_or-set_same m.senders t (in_place (is_later m g) (plainly g) (parties_at m.senders t)) [] cond.mutex_declared)
+    ∙ often-place (is_later m g) (plainly g) p (parties_at m.senders t)
 
-pub relocked-elsewhere : (m : Schedule) (g k u : ℕ) → u ≢ k → u ≢ mutex_at m k → parties_at (relocked m g k).receivers u ≡ parties_at m.receivers u
-relocked-elsewhere m g k u other apart =
-    get_or-set_other (leaves m.receivers k g) (mutex_at m k) u _ [] apart ∙ get_or-set_other m.receivers k u (without_goroutine g (parties_at m.receivers k)) [] other
+pub relocked-elsewhere : (m : Schedule) (g k u : ℕ) → u ≢ k → parties_at (relocked m g k).receivers u ≡ parties_at m.receivers u
+relocked-elsewhere m g k u other = get_or-set_other m.receivers k u (without_goroutine g (parties_at m.receivers k)) [] other
+
+pub relocked-senders_elsewhere : (m : Schedule) (g k u : ℕ) → u ≢ mutex_at m k → parties_at (relocked m g k).senders u ≡ parties_at m.senders u
+relocked-senders_elsewhere m g k u other = get_or-set_other m.senders (mutex_at m k) u _ [] other
 
 -- ---- all that wait at a Cond
 
@@ -96,12 +96,12 @@ all-cond m k q cond = each-cond m k (parties_at m.receivers k) q cond (λ some. 
 
 -- each of them stands at the mutex as often more as it stood at the Cond
 each-mutex : (m : Schedule) (k : ℕ) (ps : List Party) (q : Party) → IsCondAt m k → ArePlain ps
-    → often q (parties_at (each_relocked m k ps).receivers (mutex_at m k)) ≡ often q (parties_at m.receivers (mutex_at m k)) + often q ps
+    → often q (parties_at (each_relocked m k ps).senders (mutex_at m k)) ≡ often q (parties_at m.senders (mutex_at m k)) + often q ps
 each-mutex m k [] q cond plain = omega arith
 each-mutex m k (p ∷ ps) q cond plain =
-    let rest : often q (parties_at (each_relocked (relocked m p.g k) k ps).receivers (mutex_at m k)) ≡ often q (parties_at (relocked m p.g k).receivers (mutex_at m k)) + often q ps =
+    let rest : often q (parties_at (each_relocked (relocked m p.g k) k ps).senders (mutex_at m k)) ≡ often q (parties_at (relocked m p.g k).senders (mutex_at m k)) + often q ps =
     each-mutex (relocked m p.g k) k ps q (cond-relocked m p.g k k cond) (plain-rest p ps plain) in
-    let step : often q (parties_at (relocked m p.g k).receivers (mutex_at m k)) ≡ often q (parties_at m.receivers (mutex_at m k)) + as_number (is_party (plainly p.g) q) =
+    let step : often q (parties_at (relocked m p.g k).senders (mutex_at m k)) ≡ often q (parties_at m.senders (mutex_at m k)) + as_number (is_party (plainly p.g) q) =
     relocked-mutex m p.g k q cond in
     let once : as_number (is_party p p) ≡ 1 = ap as_number (is_party-same p) in
     let own : p ≡ plainly p.g = ap (λ n. record p { case_no = n }) (plain p (omega arith)) in
@@ -109,15 +109,22 @@ each-mutex m k (p ∷ ps) q cond plain =
     omega arith
 
 pub all-mutex : (m : Schedule) (k : ℕ) (q : Party) → IsCondAt m k → ArePlain (parties_at m.receivers k)
-    → often q (parties_at (all_relocked m k).receivers (mutex_at m k)) ≡ often q (parties_at m.receivers (mutex_at m k)) + often q (parties_at m.receivers k)
+    → often q (parties_at (all_relocked m k).senders (mutex_at m k)) ≡ often q (parties_at m.senders (mutex_at m k)) + often q (parties_at m.receivers k)
 all-mutex m k q cond plain = each-mutex m k (parties_at m.receivers k) q cond plain
 
-each-elsewhere : (m : Schedule) (k u : ℕ) (ps : List Party) → u ≢ k → u ≢ mutex_at m k → parties_at (each_relocked m k ps).receivers u ≡ parties_at m.receivers u
-each-elsewhere m k u [] other apart = refl
-each-elsewhere m k u (p ∷ ps) other apart = each-elsewhere (relocked m p.g k) k u ps other apart ∙ relocked-elsewhere m p.g k u other apart
+each-elsewhere : (m : Schedule) (k u : ℕ) (ps : List Party) → u ≢ k → parties_at (each_relocked m k ps).receivers u ≡ parties_at m.receivers u
+each-elsewhere m k u [] other = refl
+each-elsewhere m k u (p ∷ ps) other = each-elsewhere (relocked m p.g k) k u ps other ∙ relocked-elsewhere m p.g k u other
 
-pub all-elsewhere : (m : Schedule) (k u : ℕ) → u ≢ k → u ≢ mutex_at m k → parties_at (all_relocked m k).receivers u ≡ parties_at m.receivers u
-all-elsewhere m k u other apart = each-elsewhere m k u (parties_at m.receivers k) other apart
+pub all-elsewhere : (m : Schedule) (k u : ℕ) → u ≢ k → parties_at (all_relocked m k).receivers u ≡ parties_at m.receivers u
+all-elsewhere m k u other = each-elsewhere m k u (parties_at m.receivers k) other
+
+each-senders_elsewhere : (m : Schedule) (k u : ℕ) (ps : List Party) → u ≢ mutex_at m k → parties_at (each_relocked m k ps).senders u ≡ parties_at m.senders u
+each-senders_elsewhere m k u [] other = refl
+each-senders_elsewhere m k u (p ∷ ps) other = each-senders_elsewhere (relocked m p.g k) k u ps other ∙ relocked-senders_elsewhere m p.g k u other
+
+pub all-senders_elsewhere : (m : Schedule) (k u : ℕ) → u ≢ mutex_at m k → parties_at (all_relocked m k).senders u ≡ parties_at m.senders u
+all-senders_elsewhere m k u other = each-senders_elsewhere m k u (parties_at m.receivers k) other
 
 -- ---- the mutexes stay, and are those of the script
 

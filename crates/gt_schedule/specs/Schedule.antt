@@ -1,5 +1,5 @@
 -- Who runs, who is to run and who waits.
-use Rattle.std.specs.Prelude.{ℕ, ◌+◌, ◌-◌, ◌^◌, ◌<◌, ◌==◌, ◌≡◌, ◌≢◌, cond, nat_lt, IsTrue, Bool, true, false, not, ◌||◌, min, length, replicate, map, filter, List, [], ◌∷◌, ◌++◌, drop, set, slice_index_or, count_by, sum_by}
+use Rattle.std.specs.Prelude.{ℕ, ◌+◌, ◌-◌, ◌^◌, ◌<◌, ◌==◌, ◌≡◌, cond, nat_lt, IsTrue, Bool, true, false, not, ◌||◌, min, length, replicate, map, filter, List, [], ◌∷◌, ◌++◌, drop, set, slice_index_or, count_by, sum_by}
 use Rattle.std.specs.List.{list_all}
 use Rattle.std.specs.declared.option.Option.{Option}
 use Rattle.std.specs.declared.option.Option.TheVariants.{None, Some}
@@ -24,7 +24,7 @@ pub record Schedule : Type 0 where
   pub statuses : List RunStatus  -- by goroutine number, from 1
   pub run_queue : List ℕ  -- who are to be taken, the longest waiting first
   pub receivers : List (List Party)  -- by declaration: the parties parked at a receive from it, the longest waiting first
-  pub senders : List (List Party)  -- by declaration: the parties parked at a send to it, the longest waiting first
+  pub senders : List (List Party)  -- by declaration: the parties parked at a send to it, the longest waiting first; of a mutex those that were signalled at a Cond of it
   pub parks : ℕ  -- how many times a goroutine was parked
   pub marks : List (List ℕ)  -- by goroutine number, from 1: the timers whose records count it among those that wait there, the earliest first
   pub mutexes : List ℕ  -- by declaration: the mutex of a Cond; 0 of what is none
@@ -249,9 +249,10 @@ takes_place later lists t p = set lists t (in_place later p (parties_at lists t)
 abbrev pub is_later : Schedule → ℕ → Party → Bool
 is_later m g q = nat_lt (since_of m g) (since_of m q.g)
 
--- a goroutine leaves those at a Cond, and takes its place among those that wait for the mutex, by when it was parked
+-- A goroutine leaves those at a Cond, and takes its place among those that were signalled for the mutex, by when it was parked. They stand where senders do, since nobody
+-- sends to a mutex: so those that came to lock it need not be passed over
 abbrev pub relocked : Schedule → ℕ → ℕ → Schedule
-relocked m g k = record m { receivers = takes_place (is_later m g) (leaves m.receivers k g) (mutex_at m k) (plainly g) }
+relocked m g k = record m { receivers = leaves m.receivers k g; senders = takes_place (is_later m g) m.senders (mutex_at m k) (plainly g) }
 
 -- so do the goroutines of parties, one after the other
 abbrev pub each_relocked : Schedule → ℕ → List Party → Schedule
@@ -315,11 +316,10 @@ ServedIn m c = ServedBy m c.mover × ServedBy (moved_by m c.mover) c.partner
 abbrev pub Served : Schedule → Entry → Type 0
 Served m e = ServedIn m (change_of e)
 
--- a Cond and its mutex are declared, and are two
+-- a Cond and its mutex are declared
 pub record IsCondAt (m : Schedule) (k : ℕ) : Type 0 where
   pub declared : k < length m.receivers
-  pub mutex_declared : mutex_at m k < length m.receivers
-  pub apart : mutex_at m k ≢ k
+  pub mutex_declared : mutex_at m k < length m.senders
 
 -- who waits at a Cond and is signalled stands there at its plain instruction
 abbrev pub StandsAt : Schedule → ℕ → ℕ → Type 0

@@ -46,7 +46,7 @@ impl Scheduler {
     }
 
     /// How many times a goroutine was parked before this one was; 0 of one that is not parked.
-    fn since_of(&self, g: u32) -> u64
+    pub fn since_of(&self, g: u32) -> u64
         ensures { result ≡ since_of (schedule_of self.now) g }
     {
         match self.status_of(g) {
@@ -77,7 +77,7 @@ impl Scheduler {
         foremost
     }
 
-    /// A goroutine leaves those at a Cond, and takes its place among those that wait for the mutex, by when it was parked.
+    /// A goroutine leaves those at a Cond, and takes its place among those that were signalled for the mutex, by when it was parked.
     pub fn relock(&mut self, g: u32, k: u32)
         requires kept { IsScheduler self.old }
         requires cond { IsCondAt (schedule_of self.old) k }
@@ -88,14 +88,14 @@ impl Scheduler {
     {
         self.waiters.lawful();
         self.waiters.forget(k, g);
-        let mutex = self.mutex_of(k);
-        match self.first_later(mutex, g) {
-            Some(other) => self.waiters.wait_before(mutex, plainly(g), other),
-            None => self.waiters.wait(mutex, plainly(g)),
+        let list = self.declared + self.mutex_of(k);
+        match self.first_later(list, g) {
+            Some(other) => self.waiters.wait_before(list, plainly(g), other),
+            None => self.waiters.wait(list, plainly(g)),
         }
     }
 
-    /// All that wait at a Cond come to wait for the mutex, who has waited longest first. The answer is how many they are.
+    /// All that wait at a Cond are signalled for the mutex, who has waited longest first. The answer is how many they are.
     pub fn relock_all(&mut self, k: u32) -> u32
         requires kept { IsScheduler self.old }
         requires cond { IsCondAt (schedule_of self.old) k }
