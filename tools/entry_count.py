@@ -34,7 +34,7 @@ def main():
         named = {}
         for line in path.read_text().splitlines():
             clause = CLAUSE.match(line)
-            if clause:
+            if clause and clause.group(1) != "let":
                 named.setdefault(clause.group(1), set()).update(re.findall(r"\bEntry\.(\w+)", clause.group(2)))
         found += [(path.relative_to(ROOT), name, len(ks & all_kinds)) for name, ks in named.items() if len(ks & all_kinds) >= most]
     print(f"{len(found)} definitions and lemmas have a clause for two thirds or more of the {len(all_kinds)} kinds of entry:")

@@ -16,14 +16,14 @@ use Rattle.gt_model.proofs.Changes.{all_numbered-change, length-change_numbered}
 use Rattle.gt_model.proofs.GoodCode.{all_at}
 use Rattle.gt_rules.specs.State.{State, goroutine_at, mode_of, until_of, is_suspended, suspended_count}
 use Rattle.gt_rules.specs.After.{in_mode, signalled}
-use Rattle.gt_facts.specs.Formed.{IsFormed, IsPlaced, IsPlacedIn}
+use Rattle.gt_facts.specs.Formed.{IsFormed, IsPlaced, IsPlacedIn, started_count, IsFormedHook}
 use Rattle.gt_facts.proofs.Lookups.{InMode, in-mode}
 use Rattle.gt_facts.proofs.Suspended.{Waiter, waiter}
 use Rattle.gt_machine.specs.declared.machine.Machine.{Machine}
-use Rattle.gt_machine.specs.Machine.{state_of, IsInside}
+use Rattle.gt_machine.specs.Machine.{state_of, IsInside, HasContexts}
 use Rattle.gt_schedule.specs.declared.scheduler.Scheduler.{Scheduler}
 use Rattle.gt_schedule.specs.Counts.{often}
-use Rattle.gt_schedule.specs.Schedule.{Schedule, plainly, parties_at, relocked, each_relocked, all_relocked, IsCondAt}
+use Rattle.gt_schedule.specs.Schedule.{Schedule, plainly, parties_at, relocked, each_relocked, all_relocked, IsCondAt, most_goroutines}
 use Rattle.gt_schedule.specs.Scheduler.{schedule_of, capacity, IsScheduler}
 use Rattle.gt_book.specs.declared.run.Run.{Run}
 use Rattle.gt_book.specs.View.{Fits}
@@ -51,7 +51,7 @@ use Rattle.gt_schedule.proofs.Lists.{is_party-same}
 use Rattle.gt_schedule.proofs.Relocked.{each-statuses}
 use Rattle.gt_schedule.proofs.Signalled.{all-cond}
 use Rattle.gt_book.specs.Run.{CanMake, Makes}
-use Rattle.gt_book.proofs.Books.{makes-applied}
+use Rattle.gt_book.proofs.Books.{makes-applied, starts-fit, waking-room}
 use Rattle.gt_book.proofs.Fitting.{orderly-fits}
 use Rattle.gt_book.proofs.Turning.{rightly-May, has-lists_in}
 
@@ -63,13 +63,14 @@ formed-relocked script s g k formed waits = record {
   world = record {
     goroutines = all_numbered-change (λ (r : Goroutine). r.world ≡ 0) s.goroutines g (in_mode (Mode.Relocking k)) formed.world.goroutines (λ r e. formed.world.goroutines g r e);
     timers = formed.world.timers;
+    contexts = formed.world.contexts;
   };
   one_clock = formed.one_clock;
   time = formed.time;
   placed = all_numbered-change (IsPlaced script) s.goroutines g (in_mode (Mode.Relocking k)) formed.placed placed;
   untils = all_numbered-change (λ (r : Goroutine). IfSome (until_of r.mode) (λ until. until ≤ greatest_time)) s.goroutines g (in_mode (Mode.Relocking k)) formed.untils (λ r e. tt);
   conds = conds-relocked script s g k formed.conds waits;
-  few = subst (λ n. n ≤ s.entries + 1) (sym (length-change_numbered s.goroutines g (in_mode (Mode.Relocking k)))) formed.few;
+  few = subst (λ n. n ≤ s.entries + 1 + started_count s) (sym (length-change_numbered s.goroutines g (in_mode (Mode.Relocking k)))) formed.few;
   timers = formed.timers;
   dues = formed.dues;
   periods = formed.periods;
@@ -77,6 +78,10 @@ formed-relocked script s g k formed waits = record {
   syncs = formed.syncs;
   counters = formed.counters;
   chans = formed.chans;
+  contexts = formed.contexts;
+  ctxs = formed.ctxs;
+  hooks = formed.hooks;
+  hooked = λ h registered. (let was : IsFormedHook script s h = formed.hooked h registered in record { named = was.named; made = was.made });
 }
   where
     placed : (r : Goroutine) → goroutine_at s g ≡ Some r → IsPlaced script (in_mode (Mode.Relocking k) r)
@@ -162,6 +167,8 @@ pub record Signalling (script : Script) (old now : Run) (k count : ℕ) : Type 0
   pub many : length now.machine.goroutines.items ≡ length old.machine.goroutines.items
   pub spare : now.machine.goroutines.spare ≡ old.machine.goroutines.spare
   pub channels : now.machine.channels ≡ old.machine.channels
+  pub contexts : now.machine.ctxs ≡ old.machine.ctxs
+  pub waking : now.waking ≡ old.waking
   pub places : capacity now.scheduler ≡ capacity old.scheduler
 
 few-suspended : (script : Script) (r : Run) (k : ℕ) → AreFit script r → suspended_count (state_of r.machine) k < 2 ^ 32
@@ -185,6 +192,8 @@ signalling-first script r k can = record {
   many = refl;
   spare = refl;
   channels = refl;
+  contexts = refl;
+  waking = refl;
   places = refl;
 }
 
@@ -235,7 +244,7 @@ module _ (script : Script) (old now : Run) (k count : ℕ) (so_far : Signalling 
         let before : length (parties_at (schedule_of now.scheduler).receivers k) ≡ length (p ∷ next.rest) = ap length next.parts in
         omega arith
 
-    fit-next : IsScheduler w → AreFit script (record { history = now.history; machine = m; scheduler = w })
+    fit-next : IsScheduler w → AreFit script (record { history = now.history; machine = m; scheduler = w; waking = now.waking })
     fit-next kept = record {
       formed = subst (IsFormed script) (sym state) (formed-relocked script (state_of now.machine) p.g k so_far.fit.formed next.its.waits);
       fits = subst (λ s. Fits script s (schedule_of w)) (sym state) (subst (Fits script (relocked_state (state_of now.machine) p.g k)) (sym schedule)
@@ -243,9 +252,9 @@ module _ (script : Script) (old now : Run) (k count : ℕ) (so_far : Signalling 
       kept = kept;
     }
 
-    pub signalling-more : length m.goroutines.items ≡ length now.machine.goroutines.items → m.goroutines.spare ≡ now.machine.goroutines.spare → m.channels ≡ now.machine.channels
-        → capacity w ≡ capacity now.scheduler → IsScheduler w → Signalling script old (record { history = now.history; machine = m; scheduler = w }) k (count + 1)
-    signalling-more many spare channels places kept = record {
+    pub signalling-more : length m.goroutines.items ≡ length now.machine.goroutines.items → m.goroutines.spare ≡ now.machine.goroutines.spare → m.channels ≡ now.machine.channels → m.ctxs ≡ now.machine.ctxs
+        → capacity w ≡ capacity now.scheduler → IsScheduler w → Signalling script old (record { history = now.history; machine = m; scheduler = w; waking = now.waking }) k (count + 1)
+    signalling-more many spare channels contexts places kept = record {
       good = so_far.good;
       cond = so_far.cond;
       fit = fit-next kept;
@@ -263,6 +272,8 @@ module _ (script : Script) (old now : Run) (k count : ℕ) (so_far : Signalling 
       many = many ∙ so_far.many;
       spare = spare ∙ so_far.spare;
       channels = channels ∙ so_far.channels;
+      contexts = contexts ∙ so_far.contexts;
+      waking = so_far.waking;
       places = places ∙ so_far.places;
     }
 
@@ -283,6 +294,8 @@ module _ (script : Script) (old now : Run) (k count : ℕ) (so_far : Signalling 
         many = so_far.many;
         spare = so_far.spare;
         channels = so_far.channels;
+        contexts = so_far.contexts;
+        waking = so_far.waking;
         places = so_far.places;
       }
 
@@ -395,11 +408,10 @@ module _ (script : Script) (limits : Limits) (old mid : Run) (g k n count : ℕ)
 
   pub broadcast-applies : CanApply mid.scheduler (Entry.Broadcast g k 0)
   broadcast-applies =
-      let room : old.machine.entries < limits.entries = can.running.room in
-      let few : length old.machine.goroutines.items ≤ old.machine.entries + 1 = can.kept.way.sound.formed.few in
+      let room : length old.machine.goroutines.items + 0 ≤ most_goroutines script limits = starts-fit script limits old (Entry.Broadcast g k n) can in
       let many : length mid.machine.goroutines.items ≡ length old.machine.goroutines.items = all.many in
       let as_many : length mid.scheduler.statuses.items ≡ length mid.machine.goroutines.items = all.fit.fits.as_many in
-      let before : capacity old.scheduler ≡ limits.entries + 1 = can.kept.rooms.schedule in
+      let before : capacity old.scheduler ≡ most_goroutines script limits = can.kept.rooms.schedule in
       let places : capacity mid.scheduler ≡ capacity old.scheduler = all.places in
       record {
         kept = all.fit.kept;
@@ -413,16 +425,18 @@ module _ (script : Script) (limits : Limits) (old mid : Run) (g k n count : ℕ)
   -- and the entry is made as from the beginning
   pub broadcast-applied : (new : Run) → n ≡ count → state_of new.machine ≡ after script (state_of mid.machine) (Entry.Broadcast g k 0)
       → length new.machine.goroutines.items + new.machine.goroutines.spare ≡ length mid.machine.goroutines.items + mid.machine.goroutines.spare
-      → HasChannels script new.machine → schedule_of new.scheduler ≡ scheduled (schedule_of mid.scheduler) (Entry.Broadcast g k 0)
+      → HasChannels script new.machine → HasContexts script new.machine → new.waking ≡ mid.waking → schedule_of new.scheduler ≡ scheduled (schedule_of mid.scheduler) (Entry.Broadcast g k 0)
       → capacity new.scheduler ≡ capacity mid.scheduler → IsScheduler new.scheduler
       → new.history.items ≡ mid.history.items ++ Entry.Broadcast g k count ∷ [] → new.history.spare + 1 ≡ mid.history.spare → Makes script limits old (Entry.Broadcast g k n) new
-  broadcast-applied new counted state goroutines channels schedule places kept items spare =
+  broadcast-applied new counted state goroutines channels contexts waking schedule places kept items spare =
       let cond : IsCondAt (schedule_of old.scheduler) k =
       cond-at script (state_of old.machine) (schedule_of old.scheduler) k can.kept.way.sound.good can.kept.way.sound.fits (can_make-signals script limits old g k n can).cond in
       makes-applied script limits old (Entry.Broadcast g k n) new can (record {
         state = state ∙ (ap (λ s. after script s (Entry.Broadcast g k 0)) all.state ∙ after-signalled script (state_of old.machine) g k n);
         goroutines = goroutines ∙ (ap (λ a. a + mid.machine.goroutines.spare) all.many ∙ ap (λ a. length old.machine.goroutines.items + a) all.spare);
         channels = channels;
+        contexts = contexts;
+        waking = waking-room script old new (waking ∙ all.waking) can.kept.rooms.waking;
         schedule = schedule ∙ (ap (λ m. scheduled m (Entry.Broadcast g k 0)) all.schedule ∙ scheduled-signalled (schedule_of old.scheduler) g k n cond hand);
         places = places ∙ all.places;
         kept = kept;

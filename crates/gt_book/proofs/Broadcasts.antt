@@ -17,9 +17,9 @@ use Rattle.gt_book.specs.View.{BookView, outcome_of}
 use Rattle.gt_book.specs.Book.{seen, IsKept}
 use Rattle.gt_book.specs.Run.{CanEnter}
 use Rattle.gt_book.proofs.Firm.{calm-standing}
-use Rattle.gt_book.proofs.Meeting.{plain-is, recv-is, send-is, choice-is}
+use Rattle.gt_book.proofs.Meeting.{plain-is, recv-is, send-is, choice-is, with-is, cancel-is}
 use Rattle.gt_book.proofs.Going.{IsStep, step-is, in_hand-goes}
-use Rattle.gt_book.proofs.Waking.{can_enter-seen}
+use Rattle.gt_book.proofs.Runs.{can_enter-seen}
 
 -- the step is of its instruction
 instr-broadcasts : (script : Script) (s : State) (m : Schedule) (g k : ℕ) (i : Instr) → step_of_instr script s m g i ≡ Step.Broadcasts k → i ≡ Instr.Broadcast k
@@ -37,6 +37,8 @@ instr-broadcasts script s m g k (Instr.Lock o) h =
     absurd (plain-is (λ step. step ≡ Step.Broadcasts k → ⊥) (λ e q. cc) (λ kind q. cc) (CaseKind.Recv o) (goes_by script s m (plainly g) (CaseKind.Recv o)) h)
 instr-broadcasts script s m g k (Instr.Wait w) h =
     absurd (plain-is (λ step. step ≡ Step.Broadcasts k → ⊥) (λ e q. cc) (λ kind q. cc) (CaseKind.Recv w) (goes_by script s m (plainly g) (CaseKind.Recv w)) h)
+instr-broadcasts script s m g k (Instr.With x) h = absurd (with-is (λ step. step ≡ Step.Broadcasts k → ⊥) (λ e q. cc) (λ x due q. cc) script s m g x h)
+instr-broadcasts script s m g k (Instr.Cancel x cause) h = absurd (cancel-is (λ step. step ≡ Step.Broadcasts k → ⊥) (λ e q. cc) (λ x q. cc) script s m g x cause h)
 instr-broadcasts script s m g k _ h = cc
 
 -- who makes it stands at it, without a misuse

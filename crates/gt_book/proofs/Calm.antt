@@ -42,6 +42,7 @@ use Rattle.gt_book.specs.Woken.{signalled_for, changed_object}
 use Rattle.gt_book.proofs.Fitting.{unchanged, Waiter}
 use Rattle.gt_book.proofs.Firm.{WasThere, waited, sleeps, suspends, relocks, AllWere, firm_of, firm_on, stood, firm-stood, stood-firm, firm-locked, stands-relocks, firm-fault, IsQuiet, firm-each, firm-waits, firm-made, quiet-firm, waits-polls, any-none, never-both, both-false, unless-true, no-reason, calm-standing, nowhere, calm-nowhere, calm_but-next, calm-next}
 use Rattle.gt_book.proofs.Stays.{alters, alters-one, alters-none, signals-none, signals-one, signals-all, altered-declared, stays-May, stays-wider, stays-same}
+use Rattle.gt_machine.specs.Machine.{is_cut}
 
 -- ---- who is parked after a move
 
@@ -237,10 +238,10 @@ signalled-entry script e o y is here = record {
 
 -- an entry that changes no object leaves nobody firmly ready
 pub calm-entered : (script : Script) (s : State) (m : Schedule) (e : Entry) → IsGood script → May script s e → Fits script s m → Served m e → changed_object script (change_of e) ≡ None
-    → IsCalm script s m → IsCalm script (after script s e) (scheduled m e)
-calm-entered script s m e good may fits served none calm =
+    → is_cut (change_of e).tree ≡ false → IsCalm script s m → IsCalm script (after script s e) (scheduled m e)
+calm-entered script s m e good may fits served none uncut calm =
     calm-next script s (after script s e) m (scheduled m e)
-    (stays-wider s (after script s e) (alters script (change_of e)) nowhere (λ o h. alters-none script e none o) (stays-May script s e good may))
+    (stays-wider s (after script s e) (alters script (change_of e)) nowhere (λ o h. alters-none script e none uncut o) (stays-May script s e good may))
     (were-changed script s m nowhere (change_of e) fits served (signalled-entry script e None nowhere none (λ d is. cc))) calm
 
 -- one that changes an object leaves none but there
@@ -253,17 +254,17 @@ calm-but script s m e c good formed may fits served is calm =
     (signalled-entry script e (Some c) (λ o. eqb o c) is (λ d same. let at : c ≡ d = cc in eq-eqb d c (sym at)))) (λ o h. refl) (calm-nowhere script s m calm)
     (λ d h. subst (λ d. d < length script.decls) (sym (eqb-true d c h)) (altered-declared script s e c good formed may is))
 
--- one that changes that object, or none, and signals nobody, leaves none but there
-pub calm_but-again : (script : Script) (s : State) (m : Schedule) (e : Entry) (c : ℕ) → IsGood script → May script s e → Fits script s m → Served m e
-    → ((o : ℕ) → eqb o c ≡ false → alters script (change_of e) o ≡ false) → (change_of e).partner ≡ None → (change_of e).broadcast ≡ None → IsCalmBut script s m (λ o. eqb o c)
-    → IsCalmBut script (after script s e) (scheduled m e) (λ o. eqb o c)
-calm_but-again script s m e c good may fits served here alone quiet but =
-    calm_but-next script s (after script s e) m (scheduled m e) (λ o. eqb o c) (λ o. eqb o c)
-    (stays-wider s (after script s e) (alters script (change_of e)) (λ o. eqb o c) here (stays-May script s e good may))
-    (were-changed script s m (λ o. eqb o c) (change_of e) fits served (record {
-      mover = none-signalled script (λ o. eqb o c) (signalled_for script (change_of e).mover) (signals-none script e);
-      partner = none-signalled script (λ o. eqb o c) (signalled_for script (change_of e).partner) (ap (signalled_for script) alone);
-      broadcast = subst (λ o. IfSome o (λ k. eqb (mutex_of script k) c ≡ true)) (sym quiet) tt;
+-- one that changes one of these objects, or none, and signals nobody, leaves none but there
+pub calm_but-again : (script : Script) (s : State) (m : Schedule) (e : Entry) (these : ℕ → Bool) → IsGood script → May script s e → Fits script s m → Served m e
+    → ((o : ℕ) → these o ≡ false → alters script (change_of e) o ≡ false) → (change_of e).partner ≡ None → (change_of e).broadcast ≡ None → IsCalmBut script s m these
+    → IsCalmBut script (after script s e) (scheduled m e) these
+calm_but-again script s m e these good may fits served here alone quiet but =
+    calm_but-next script s (after script s e) m (scheduled m e) these these
+    (stays-wider s (after script s e) (alters script (change_of e)) these here (stays-May script s e good may))
+    (were-changed script s m these (change_of e) fits served (record {
+      mover = none-signalled script these (signalled_for script (change_of e).mover) (signals-none script e);
+      partner = none-signalled script these (signalled_for script (change_of e).partner) (ap (signalled_for script) alone);
+      broadcast = subst (λ o. IfSome o (λ k. these (mutex_of script k) ≡ true)) (sym quiet) tt;
     })) (λ o h. h) but but.declared
 
 -- ---- changes of the schedule alone

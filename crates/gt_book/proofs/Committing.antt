@@ -8,8 +8,8 @@ use Rattle.gt_model.specs.declared.script.Instr.{Instr}
 use Rattle.gt_model.specs.declared.script.Case.{Case}
 use Rattle.gt_model.specs.declared.entry.Outcome.{Outcome}
 use Rattle.gt_rules.specs.State.{State, timer_at, stands_at, clock, clock_of, due_of, sleeps_until}
-use Rattle.gt_model.specs.Script.{is_timer, is_ticker, is_func, is_chan}
-use Rattle.gt_model.specs.Good.{gives_values}
+use Rattle.gt_model.specs.Script.{is_timer, is_ticker, is_func, is_chan, is_endable, is_ctx}
+use Rattle.gt_model.specs.Good.{gives_values, IsGood}
 use Rattle.gt_book.proofs.Wanting.{receives-kind, wants-receives}
 use Rattle.gt_model.specs.declared.state.Timer.{Timer}
 use Rattle.gt_rules.specs.Ready.{is_due}
@@ -25,23 +25,24 @@ use Rattle.gt_book.specs.declared.step.Step.{Step}
 use Rattle.gt_book.specs.declared.answers.Op.{Op}
 use Rattle.gt_book.specs.declared.answers.TimerOp.{TimerOp}
 use Rattle.gt_schedule.specs.Schedule.{Schedule, plainly, Served, status_of, is_in_hand, is_parked, parties_at}
-use Rattle.gt_book.specs.Steps.{come_timer, goes_by, step_of, step_or_panic, step_of_instr, set_instr, set_entry, is_receiving, is_late, is_gone, MayCommit, entry_of}
+use Rattle.gt_book.specs.Steps.{come_timer, goes_by, step_of, step_or_panic, step_of_instr, set_instr, set_entry, is_receiving, is_late, is_gone, MayCommit, entry_of, MayEnter}
 use Rattle.gt_book.specs.View.{BookView, IsLawful, outcome_of, is_at, wants, is_parked_at, first_case, case_of, receiver_of}
 use Rattle.gt_facts.specs.Formed.{IsPeriod}
 use Rattle.gt_facts.proofs.Periods.{no-zero}
 use Rattle.gt_facts.proofs.Within.{timer_within}
 use Rattle.gt_facts.proofs.Makers.{neither, calm-fault}
-use Rattle.gt_facts.proofs.Lookups.{Asleep, sleeper, offers-operation}
+use Rattle.gt_facts.proofs.Lookups.{Asleep, sleeper, offers-operation, names-Does}
 use Rattle.gt_facts.proofs.Formed.{world_of-zero}
 use Rattle.gt_book.proofs.Firm.{calm-standing}
 use Rattle.gt_book.proofs.Fitting.{first-waiting, asleep-parked}
-use Rattle.gt_book.proofs.Meeting.{at-receives, parked-operates, plain-is, recv-is, send-is, choice-is}
+use Rattle.gt_book.proofs.Meeting.{at-receives, parked-operates, plain-is, recv-is, send-is, choice-is, with-is, cancel-is}
 use Rattle.gt_book.proofs.Going.{IsStep, step-is, in_hand-goes, parked-goes}
 use Rattle.gt_book.proofs.Setting.{instr-set}
 use Rattle.gt_book.proofs.Options.{ChoiceIs, case_goes, case_polls, all_rest, all_wait, choice-so}
+use Rattle.gt_machine.specs.Machine.{is_cut}
 
 -- an operation that is not late for its goroutine is not gone while the run goes on
-not_gone : (b : BookView) (op : Op) → outcome_of b ≡ None → is_late b op ≡ false → is_gone b op ≡ false
+pub not_gone : (b : BookView) (op : Op) → outcome_of b ≡ None → is_late b op ≡ false → is_gone b op ≡ false
 not_gone b op running on_time = ap (λ (o : Option Outcome). is_some o || is_late b op) running ∙ on_time
 
 -- everybody has the program's clock
@@ -59,7 +60,7 @@ right-true true b h = h
 right-true false b h = cc
 
 timer-gives : (script : Script) (t : ℕ) → IsTrue (is_timer script t) → IsTrue (gives_values script t)
-timer-gives script t timer = ap (λ b. b || is_chan script t) timer
+timer-gives script t timer = ap (λ b. b || is_chan script t || is_endable script t) timer
 
 -- who is parked at a receive from a timer may receive its tick that has come
 pub may-receive : (b : BookView) (t at : ℕ) (next : Option ℕ) (p : Party) → IsLawful b → outcome_of b ≡ None → IsTrue (is_timer b.script t)
@@ -115,12 +116,12 @@ may-wake b g at lawful running time due =
 -- ---- what a goroutine asks for
 
 -- the instruction without a panic of a step that asks for a timer operation
-record Asks (script : Script) (s : State) (m : Schedule) (g : ℕ) (op : TimerOp) : Type 0 where
-  instr : Instr
-  does : Does script s g instr
-  is : step_of_instr script s m g instr ≡ Step.Needs op
+pub record Asks (script : Script) (s : State) (m : Schedule) (g : ℕ) (op : TimerOp) : Type 0 where
+  pub instr : Instr
+  pub does : Does script s g instr
+  pub is : step_of_instr script s m g instr ≡ Step.Needs op
 
-needs-asks : (script : Script) (s : State) (m : Schedule) (g : ℕ) (op : TimerOp) → step_of script s m g ≡ Some (Step.Needs op) → Asks script s m g op
+pub needs-asks : (script : Script) (s : State) (m : Schedule) (g : ℕ) (op : TimerOp) → step_of script s m g ≡ Some (Step.Needs op) → Asks script s m g op
 needs-asks script s m g op h =
     let step : IsStep script s m g (Step.Needs op) = step-is script s m g (Step.Needs op) h in
     elim (fault script s step.instr) as (λ o. fault script s step.instr ≡ o → step_or_panic script s m g step.instr o ≡ Step.Needs op → Asks script s m g op) [
@@ -148,6 +149,8 @@ instr-sleeps script s m g d (Instr.Sleep (suc e)) h =
     record { is = ap Instr.Sleep same; ends = λ now. subst (λ d. sleep_end now d ≡ Some (due_at now d)) same refl }
 instr-sleeps script s m g d (Instr.Lock k) h = absurd (plain-is (λ step. step ≡ Step.Needs (TimerOp.Sleep d) → ⊥) (λ e q. cc) (λ kind q. cc) (CaseKind.Recv k) (goes_by script s m (plainly g) (CaseKind.Recv k)) h)
 instr-sleeps script s m g d (Instr.Wait w) h = absurd (plain-is (λ step. step ≡ Step.Needs (TimerOp.Sleep d) → ⊥) (λ e q. cc) (λ kind q. cc) (CaseKind.Recv w) (goes_by script s m (plainly g) (CaseKind.Recv w)) h)
+instr-sleeps script s m g d (Instr.With x) h = absurd (with-is (λ step. step ≡ Step.Needs (TimerOp.Sleep d) → ⊥) (λ e q. cc) (λ x due q. cc) script s m g x h)
+instr-sleeps script s m g d (Instr.Cancel x cause) h = absurd (cancel-is (λ step. step ≡ Step.Needs (TimerOp.Sleep d) → ⊥) (λ e q. cc) (λ x q. cc) script s m g x cause h)
 instr-sleeps script s m g d _ h = cc
 
 pub may-sleep : (b : BookView) (g d until : ℕ) → IsLawful b → outcome_of b ≡ None → step_of b.script b.state b.schedule g ≡ Some (Step.Needs (TimerOp.Sleep d))
@@ -279,6 +282,8 @@ instr-polls script s m g t (Instr.Recv o) h = absurd (recv-is (λ step. step ≡
 instr-polls script s m g t (Instr.Send c v) h = absurd (send-is (λ step. step ≡ Step.Needs (TimerOp.Poll t) → ⊥) (λ e q. cc) (λ kind q. cc) script s m g c v h)
 instr-polls script s m g t (Instr.Lock k) h = absurd (plain-is (λ step. step ≡ Step.Needs (TimerOp.Poll t) → ⊥) (λ e q. cc) (λ kind q. cc) (CaseKind.Recv k) (goes_by script s m (plainly g) (CaseKind.Recv k)) h)
 instr-polls script s m g t (Instr.Wait w) h = absurd (plain-is (λ step. step ≡ Step.Needs (TimerOp.Poll t) → ⊥) (λ e q. cc) (λ kind q. cc) (CaseKind.Recv w) (goes_by script s m (plainly g) (CaseKind.Recv w)) h)
+instr-polls script s m g t (Instr.With x) h = absurd (with-is (λ step. step ≡ Step.Needs (TimerOp.Poll t) → ⊥) (λ e q. cc) (λ x due q. cc) script s m g x h)
+instr-polls script s m g t (Instr.Cancel x cause) h = absurd (cancel-is (λ step. step ≡ Step.Needs (TimerOp.Poll t) → ⊥) (λ e q. cc) (λ x q. cc) script s m g x cause h)
 instr-polls script s m g t _ h = cc
 
 -- who polls a timer may receive its tick that has come
@@ -302,11 +307,40 @@ may-poll b g t at next lawful running step in_hand timer set due leaves =
     (((receives, timer, set, come, left), (goes, tt), tt), not_gone b (Op.TRecv p t at next) running (ap not receiving))
 
 -- no operation is a broadcast
-pub op-alone : (s : State) (op : Op) → (change_of (entry_of s op)).broadcast ≡ None
-op-alone s (Op.Set g t true was due period) = refl
-op-alone s (Op.Set g t false was due period) = refl
-op-alone s (Op.Stop g t was) = refl
-op-alone s (Op.TRecv p t due next) = refl
-op-alone s (Op.Fire t) = refl
-op-alone s (Op.Sleep g until) = refl
-op-alone s (Op.Wake g) = refl
+pub op-alone : (script : Script) (s : State) (op : Op) → (change_of (entry_of script s op)).broadcast ≡ None
+op-alone script s (Op.Set g t true was due period) = refl
+op-alone script s (Op.Set g t false was due period) = refl
+op-alone script s (Op.Stop g t was) = refl
+op-alone script s (Op.TRecv p t due next) = refl
+op-alone script s (Op.Fire t) = refl
+op-alone script s (Op.Sleep g until) = refl
+op-alone script s (Op.Wake g) = refl
+op-alone script s (Op.Derive g x) = refl
+op-alone script s (Op.Expire x) = refl
+
+-- and by none but an expiry a context ends
+pub op-uncut : (b : BookView) (op : Op) → MayEnter b op → is_cut (change_of (entry_of b.script b.state op)).tree ≡ false
+op-uncut b (Op.Set g t true was due period) may = refl
+op-uncut b (Op.Set g t false was due period) may = refl
+op-uncut b (Op.Stop g t was) may = refl
+op-uncut b (Op.TRecv p t due next) may = refl
+op-uncut b (Op.Fire t) may = refl
+op-uncut b (Op.Sleep g until) may = refl
+op-uncut b (Op.Wake g) may = refl
+op-uncut b (Op.Derive g x) may = refl
+op-uncut b (Op.Expire x) may = absurd may
+
+-- who makes a context names one
+pub derives-ctx : (b : BookView) (g x : ℕ) → IsGood b.script → MayEnter b (Op.Derive g x) → IsTrue (is_ctx b.script x)
+derives-ctx b g x good may = names-Does b.script b.state g (Instr.With x) good may
+
+-- an operation that may come, and is no expiry
+pub may-enter : (b : BookView) (op : Op) → ((x : ℕ) → op ≡ Op.Expire x → ⊥) → MayCommit b op → MayEnter b op
+may-enter b (Op.Set g t anew was due period) other may = tt
+may-enter b (Op.Stop g t was) other may = tt
+may-enter b (Op.TRecv p t due next) other may = tt
+may-enter b (Op.Fire t) other may = tt
+may-enter b (Op.Sleep g until) other may = tt
+may-enter b (Op.Wake g) other may = tt
+may-enter b (Op.Derive g x) other may = may.0.0
+may-enter b (Op.Expire x) other may = absurd (other x refl)

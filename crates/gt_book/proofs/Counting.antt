@@ -1,15 +1,15 @@
 -- The counted times are those of the records, by number.
-use Rattle.std.proofs.Common.{◌≡◌, ◌⊎◌, ℕ, zero, suc, ◌+◌, ◌-◌, ◌<◌, ◌≤◌, nat_lt, List, [], ◌∷◌, ◌++◌, length, refl, sym, ap, subst, ◌∙◌, arith, slice_get, Option, None, Some, Bool, true, false, cond, min, inl, inr}
+use Rattle.std.proofs.Common.{◌≡◌, ◌⊎◌, ℕ, zero, suc, ◌+◌, ◌-◌, ◌<◌, ◌≤◌, nat_lt, List, [], ◌∷◌, ◌++◌, length, refl, sym, ap, subst, ◌∙◌, arith, slice_get, Option, None, Some, true, false, min, inl, inr}
 use Rattle.std.specs.List.{filter_map, cons_option, enumerate_from}
 use Rattle.std.proofs.lemmas.Bool.{ltb-true, lt-ltb, le-ltb}
 use Rattle.std.proofs.lemmas.Option.{slice_get_within}
 use Rattle.gt_model.specs.declared.script.Script.{Script}
-use Rattle.gt_model.specs.declared.state.Goroutine.{Goroutine}
 use Rattle.gt_model.specs.declared.state.Timer.{Timer}
 use Rattle.gt_model.specs.Tables.{flatten, at, least}
-use Rattle.gt_rules.specs.State.{State, goroutine_at, timer_at}
-use Rattle.gt_rules.specs.Counted.{sleep_of, counted_timer, counted}
-use Rattle.gt_book.specs.Least.{counted_of}
+use Rattle.gt_rules.specs.State.{State, goroutine_at, timer_at, context_at}
+use Rattle.gt_rules.specs.Counted.{sleep_of, counted_timer, deadline_in, counted}
+use Rattle.gt_model.specs.declared.context.Context.{Context}
+use Rattle.gt_book.specs.Least.{sleep_in, CountsBy, IsCountedBy}
 
 -- ---- the numbers of a list
 
@@ -109,21 +109,19 @@ enumerated-into n (x ∷ xs) (suc i) h =
 
 -- ---- the counted times and those of the records
 
--- the time of a record's number, by whether it is a declaration's
-abbrev time_by : Script → State → ℕ → Bool → Option ℕ
-time_by script s id declared =
-    cond declared (counted_timer script s 0 (id, timer_at s id)) (elim (goroutine_at s (id - length script.decls)) [ None ↦ None | Some r ↦ sleep_of 0 r ])
-
 abbrev sleeps : State → List ℕ
 sleeps s = filter_map (sleep_of 0) s.goroutines
 
 abbrev timers : Script → State → List ℕ
 timers script s = filter_map (counted_timer script s 0) (enumerate_from 0 s.timers)
 
-sleep-has : (s : State) (g t : ℕ) → (elim (goroutine_at s g) as (λ _. Option ℕ) [ None ↦ None | Some r ↦ sleep_of 0 r ]) ≡ Some t → Has t (sleeps s)
+abbrev deadlines : State → List ℕ
+deadlines s = filter_map (deadline_in 0) s.contexts
+
+sleep-has : (s : State) (g t : ℕ) → sleep_in (goroutine_at s g) ≡ Some t → Has t (sleeps s)
 sleep-has s zero t e = cc
 sleep-has s (suc i) t e =
-    elim (goroutine_at s (suc i)) as (λ o. goroutine_at s (suc i) ≡ o → (elim o as (λ _. Option ℕ) [ None ↦ None | Some r ↦ sleep_of 0 r ]) ≡ Some t → Has t (sleeps s)) [
+    elim (goroutine_at s (suc i)) as (λ o. goroutine_at s (suc i) ≡ o → sleep_in o ≡ Some t → Has t (sleeps s)) [
       | None ↦ λ q k. cc
       | Some r ↦ λ q k. given-into (sleep_of 0) s.goroutines i r t q k
     ] refl e
@@ -134,18 +132,36 @@ timer-has script s id t h e =
     given-into (counted_timer script s 0) (enumerate_from 0 s.timers) id (0 + id, timer_at s id) t (enumerated-into 0 s.timers id h)
     (ap (λ k. counted_timer script s 0 (k, timer_at s id)) zero_first ∙ e)
 
-counted-has : (script : Script) (s : State) (id t : ℕ) → length s.timers ≡ length script.decls → counted_of script s id ≡ Some t → Has t (counted script s 0)
+at-there : {X : Type 0} (xs : List (Option X)) (i : ℕ) → i < length xs → slice_get xs i ≡ Some (at xs i)
+at-there [] i h = absurd (omega arith)
+at-there (x ∷ xs) zero h = refl
+at-there (x ∷ xs) (suc i) h = at-there xs i (omega arith)
+
+deadline-has : (s : State) (id t : ℕ) → id < length s.contexts → deadline_in 0 (context_at s id) ≡ Some t → Has t (deadlines s)
+deadline-has s id t h e = given-into (deadline_in 0) s.contexts id (context_at s id) t (at-there s.contexts id h) e
+
+-- there is one timer and one context, or none, for each declaration
+pub record AsMany (script : Script) (s : State) : Type 0 where
+  pub timers : length s.timers ≡ length script.decls
+  pub contexts : length s.contexts ≡ length script.decls
+
+counted-has : (script : Script) (s : State) (id t : ℕ) → AsMany script s → IsCountedBy script s id t → Has t (counted script s 0)
 counted-has script s id t size e =
-    elim (nat_lt id (length script.decls)) as (λ b. nat_lt id (length script.decls) ≡ b → time_by script s id b ≡ Some t → Has t (counted script s 0)) [
+    elim (nat_lt id (length script.decls)) as (λ b. nat_lt id (length script.decls) ≡ b → CountsBy script s id t b → Has t (counted script s 0)) [
       | true ↦ λ q k.
           let below : id < length script.decls = ltb-true id (length script.decls) q in
-          has-right t (sleeps s) (timers script s) (timer-has script s id t (omega arith) k)
-      | false ↦ λ q k. has-left t (sleeps s) (timers script s) (sleep-has s (id - length script.decls) t k)
+          let as_many : length s.timers ≡ length script.decls = size.timers in
+          let as_many_contexts : length s.contexts ≡ length script.decls = size.contexts in
+          elim k [
+            | inl timer ↦ has-left t (sleeps s ++ timers script s) (deadlines s) (has-right t (sleeps s) (timers script s) (timer-has script s id t (omega arith) timer))
+            | inr own ↦ has-right t (sleeps s ++ timers script s) (deadlines s) (deadline-has s id t (omega arith) own)
+          ]
+      | false ↦ λ q k. has-left t (sleeps s ++ timers script s) (deadlines s) (has-left t (sleeps s) (timers script s) (sleep-has s (id - length script.decls) t k))
     ] refl e
 
 -- the number of a record with this time
 abbrev HasNumbered : Script → State → ℕ → Type 0
-HasNumbered script s t = (id : ℕ) × (counted_of script s id ≡ Some t)
+HasNumbered script s t = (id : ℕ) × IsCountedBy script s id t
 
 sleep-numbered : (script : Script) (s : State) (t : ℕ) → Has t (sleeps s) → HasNumbered script s t
 sleep-numbered script s t h =
@@ -155,8 +171,7 @@ sleep-numbered script s t h =
     let behind : nat_lt (n + suc g.place) n ≡ false = le-ltb (n + suc g.place) n (omega arith) in
     let there : goroutine_at s (n + suc g.place - n) ≡ Some g.item = ap (goroutine_at s) number ∙ g.there in (
       n + suc g.place,
-      ap (time_by script s (n + suc g.place)) behind
-          ∙ (ap (λ (o : Option Goroutine). elim o as (λ _. Option ℕ) [ None ↦ None | Some r ↦ sleep_of 0 r ]) there ∙ g.gives),
+      subst (CountsBy script s (n + suc g.place) t) (sym behind) (ap sleep_in there ∙ g.gives),
     )
 
 timer-numbered : (script : Script) (s : State) (t : ℕ) → length s.timers ≡ length script.decls → Has t (timers script s) → HasNumbered script s t
@@ -168,28 +183,36 @@ timer-numbered script s t size h =
     let number : g.place ≡ g.item.0 = omega arith in
     let below : nat_lt g.place (length script.decls) ≡ true = lt-ltb g.place (length script.decls) (omega arith) in (
       g.place,
-      ap (time_by script s g.place) below
-          ∙ (ap (λ k. counted_timer script s 0 (k, timer_at s g.place)) number
-          ∙ (ap (λ (o : Option Timer). counted_timer script s 0 (g.item.0, o)) (ap flatten found.1) ∙ g.gives)),
+      subst (CountsBy script s g.place t) (sym below)
+          (inl (ap (λ k. counted_timer script s 0 (k, timer_at s g.place)) number
+          ∙ (ap (λ (o : Option Timer). counted_timer script s 0 (g.item.0, o)) (ap flatten found.1) ∙ g.gives))),
     )
 
-has-counted : (script : Script) (s : State) (t : ℕ) → length s.timers ≡ length script.decls → Has t (counted script s 0) → HasNumbered script s t
+deadline-numbered : (script : Script) (s : State) (t : ℕ) → length s.contexts ≡ length script.decls → Has t (deadlines s) → HasNumbered script s t
+deadline-numbered script s t size h =
+    let g : Given (deadline_in 0) s.contexts t = given-from (deadline_in 0) s.contexts t h in
+    let inside : g.place < length s.contexts = slice_get_within s.contexts g.place g.item g.there in
+    let below : nat_lt g.place (length script.decls) ≡ true = lt-ltb g.place (length script.decls) (omega arith) in (
+      g.place,
+      subst (CountsBy script s g.place t) (sym below) (inr (ap (λ (o : Option Context). deadline_in 0 o) (ap flatten g.there) ∙ g.gives)),
+    )
+
+has-counted : (script : Script) (s : State) (t : ℕ) → AsMany script s → Has t (counted script s 0) → HasNumbered script s t
 has-counted script s t size h =
-    elim (has-either t (sleeps s) (timers script s) h) [
-      | inl k ↦ sleep-numbered script s t k
-      | inr k ↦ timer-numbered script s t size k
+    elim (has-either t (sleeps s ++ timers script s) (deadlines s) h) [
+      | inl k ↦ elim (has-either t (sleeps s) (timers script s) k) [
+        | inl sleep ↦ sleep-numbered script s t sleep
+        | inr timer ↦ timer-numbered script s t size.timers timer
+      ]
+      | inr own ↦ deadline-numbered script s t size.contexts own
     ]
 
 -- the least of the records' times is the least counted one
-pub least-counted : (script : Script) (s : State) (m id : ℕ) → length s.timers ≡ length script.decls → counted_of script s id ≡ Some m
-    → ((j t : ℕ) → counted_of script s j ≡ Some t → m ≤ t) → least (counted script s 0) ≡ Some m
+pub least-counted : (script : Script) (s : State) (m id : ℕ) → AsMany script s → IsCountedBy script s id m
+    → ((j t : ℕ) → IsCountedBy script s j t → m ≤ t) → least (counted script s 0) ≡ Some m
 least-counted script s m id size e low =
     least-has (counted script s 0) m (counted-has script s id m size e) (λ t h. let found = has-counted script s t size h in low found.0 t found.1)
 
 -- where no record has a time, none is counted
-pub none-counted : (script : Script) (s : State) → length s.timers ≡ length script.decls → ((j : ℕ) → counted_of script s j ≡ None) → counted script s 0 ≡ []
-none-counted script s size none =
-    no-number (counted script s 0) (λ t h.
-    let found = has-counted script s t size h in
-    let off : ◌≡◌ {A = Option ℕ} None (Some t) = sym (none found.0) ∙ found.1 in
-    cc)
+pub none-counted : (script : Script) (s : State) → AsMany script s → ((j t : ℕ) → IsCountedBy script s j t → ⊥) → counted script s 0 ≡ []
+none-counted script s size none = no-number (counted script s 0) (λ t h. let found = has-counted script s t size h in none found.0 t found.1)

@@ -10,14 +10,14 @@ use Rattle.gt_model.specs.declared.script.CaseKind.{CaseKind}
 use Rattle.gt_model.specs.Good.{IsGood}
 use Rattle.gt_model.specs.Script.{is_func}
 use Rattle.gt_model.specs.Tables.{least}
-use Rattle.gt_rules.specs.State.{State, stands_at, sleeps_until, due_of}
+use Rattle.gt_rules.specs.State.{State, stands_at, sleeps_until, due_of, context_at}
 use Rattle.gt_rules.specs.Operations.{receives_from, offers}
-use Rattle.gt_rules.specs.Counted.{counted, is_awaited}
+use Rattle.gt_rules.specs.Counted.{counted, is_awaited, deadline_in}
 use Rattle.gt_facts.specs.Formed.{IsFormed}
-use Rattle.gt_book.specs.Least.{counted_of}
+use Rattle.gt_book.specs.Least.{IsCountedBy}
 use Rattle.gt_book.specs.Found.{IsNotLater, IsOneOf, IsOneDue, IsOneOfDue, IsOneAt, IsShown, IsLeastBelow, IsLeastWith}
-use Rattle.gt_book.proofs.Counting.{least-counted, none-counted}
-use Rattle.gt_book.proofs.Waiting.{Counts, counts-timer, counts-sleep, counted-declared, counted-slept, Awaiting, awaited-stands, awaited-shown, stands-below, sleeps-below, sleep-shown, func-shown}
+use Rattle.gt_book.proofs.Counting.{AsMany, least-counted, none-counted}
+use Rattle.gt_book.proofs.Waiting.{Counts, counts-timer, counts-sleep, counted-declared, counted-slept, Awaiting, awaited-stands, awaited-shown, stands-below, sleeps-below, sleep-shown, func-shown, deadline-shown, func-no_deadline}
 
 -- ---- one more
 
@@ -32,7 +32,7 @@ below-next P n before here k less =
 
 -- an earlier time is shown where both are
 pub shown-one : (script : Script) (s : State) (found : Option (ℕ × ℕ)) (time : Option ℕ) (id : ℕ) (result : Option (ℕ × ℕ)) → IsOneOf found time id result → IsShown script s found
-    → ((w : ℕ) → time ≡ Some w → counted_of script s id ≡ Some w) → IsShown script s result
+    → ((w : ℕ) → time ≡ Some w → IsCountedBy script s id w) → IsShown script s result
 shown-one script s found time id result (inl is) shown new = subst (IsShown script s) (sym is) shown
 shown-one script s found None id result (inr none) shown new = absurd none
 shown-one script s found (Some w) id result (inr is) shown new = subst (IsShown script s) (sym is) (new w refl)
@@ -44,11 +44,6 @@ pub record WithSleep (script : Script) (s : State) (g : ℕ) (found with_sleep :
   pub not_later : IsNotLater with_sleep (sleeps_until s g)
   pub still : (other : Option ℕ) → IsNotLater found other → IsNotLater with_sleep other
 
-pub record WithTimer (script : Script) (s : State) (t : ℕ) (found result : Option (ℕ × ℕ)) : Type 0 where
-  pub one : IsOneOf found (due_of s t) t result
-  pub not_later : IsNotLater result (due_of s t)
-  pub still : (other : Option ℕ) → IsNotLater found other → IsNotLater result other
-
 -- an earlier time is that of the record under its number
 pub earlier-sleep : (script : Script) (s : State) (g : ℕ) (found : Option (ℕ × ℕ)) (time : Option ℕ) (id : ℕ) (result : Option (ℕ × ℕ)) → time ≡ sleeps_until s g
     → id ≡ length script.decls + g → IsLeastBelow script s g found → IsOneOf found time id result → IsNotLater result time
@@ -56,14 +51,6 @@ pub earlier-sleep : (script : Script) (s : State) (g : ℕ) (found : Option (ℕ
 earlier-sleep script s g found time id result is number before one not_later still = record {
   before = before;
   one = subst (λ (x : Option ℕ). IsOneOf found x (length script.decls + g) result) is (subst (λ n. IsOneOf found time n result) number one);
-  not_later = subst (IsNotLater result) is not_later;
-  still = still;
-}
-
-pub earlier-timer : (script : Script) (s : State) (t : ℕ) (found : Option (ℕ × ℕ)) (time : Option ℕ) (result : Option (ℕ × ℕ)) → time ≡ due_of s t
-    → IsOneOf found time t result → IsNotLater result time → ((other : Option ℕ) → IsNotLater found other → IsNotLater result other) → WithTimer script s t found result
-earlier-timer script s t found time result is one not_later still = record {
-  one = subst (λ (x : Option ℕ). IsOneOf found x t result) is one;
   not_later = subst (IsNotLater result) is not_later;
   still = still;
 }
@@ -85,7 +72,7 @@ with-none script s g found result formed w nowhere = record {
 
 -- what an instruction receives from shows what was found there
 one-shown : (script : Script) (s : State) (found : Option (ℕ × ℕ)) (kind : CaseKind) (result : Option (ℕ × ℕ))
-    → ((t w : ℕ) → receives_from t kind ≡ true → due_of s t ≡ Some w → counted_of script s t ≡ Some w) → IsShown script s found → IsOneDue s found kind result → IsShown script s result
+    → ((t w : ℕ) → receives_from t kind ≡ true → due_of s t ≡ Some w → IsCountedBy script s t w) → IsShown script s found → IsOneDue s found kind result → IsShown script s result
 one-shown script s found (CaseKind.Recv o) result shows shown one = shown-one script s found (due_of s o) o result one shown (λ w e. shows o w (eq-eqb o o refl) e)
 one-shown script s found (CaseKind.Send c v) result shows shown one = subst (IsShown script s) (sym one) shown
 
@@ -94,14 +81,14 @@ abbrev gets : ℕ → Case → Bool
 gets t c = receives_from t c.kind
 
 cases-shown : (script : Script) (s : State) (found : Option (ℕ × ℕ)) (cases : List Case) (result : Option (ℕ × ℕ))
-    → ((t w : ℕ) → list_any (gets t) cases ≡ true → due_of s t ≡ Some w → counted_of script s t ≡ Some w) → IsShown script s found → IsOneOfDue s found cases result → IsShown script s result
+    → ((t w : ℕ) → list_any (gets t) cases ≡ true → due_of s t ≡ Some w → IsCountedBy script s t w) → IsShown script s found → IsOneOfDue s found cases result → IsShown script s result
 cases-shown script s found [] result shows shown one = subst (IsShown script s) (sym one) shown
 cases-shown script s found (c ∷ cases) result shows shown one =
     cases-shown script s one.0 cases result (λ t w q. shows t w (or_right (gets t c) (list_any (gets t) cases) q))
     (one-shown script s found c.kind one.0 (λ t w q. shows t w (or_left (gets t c) (list_any (gets t) cases) q)) shown one.1) one.2
 
 instr-shown : (script : Script) (s : State) (found : Option (ℕ × ℕ)) (i : Instr) (result : Option (ℕ × ℕ))
-    → ((t w : ℕ) → offers (receives_from t) i ≡ true → due_of s t ≡ Some w → counted_of script s t ≡ Some w) → IsShown script s found → IsOneAt s found i result → IsShown script s result
+    → ((t w : ℕ) → offers (receives_from t) i ≡ true → due_of s t ≡ Some w → IsCountedBy script s t w) → IsShown script s found → IsOneAt s found i result → IsShown script s result
 instr-shown script s found (Instr.Recv o) result shows shown one = one-shown script s found (CaseKind.Recv o) result shows shown one
 instr-shown script s found (Instr.Lock m) result shows shown one = one-shown script s found (CaseKind.Recv m) result shows shown one
 instr-shown script s found (Instr.Wait w) result shows shown one = one-shown script s found (CaseKind.Recv w) result shows shown one
@@ -163,26 +150,49 @@ pub looked-all : (s : State) (found : Option (ℕ × ℕ)) (cases : List Case) (
     → IsNotLater least (due_of s t)
 looked-all s found cases least all t q = elim (all.looked t q) [ inl h ↦ h | inr h ↦ cc ]
 
--- a declaration was looked at
+-- a declaration was looked at: an AfterFunc timer is due, or a context has its deadline
+pub record WithTime (found : Option (ℕ × ℕ)) (time : Option ℕ) (t : ℕ) (result : Option (ℕ × ℕ)) : Type 0 where
+  pub one : IsOneOf found time t result
+  pub not_later : IsNotLater result time
+  pub still : (other : Option ℕ) → IsNotLater found other → IsNotLater result other
+
+pub with-time : (found : Option (ℕ × ℕ)) (time is : Option ℕ) (t : ℕ) (result : Option (ℕ × ℕ)) → time ≡ is → IsOneOf found time t result → IsNotLater result time
+    → ((other : Option ℕ) → IsNotLater found other → IsNotLater result other) → WithTime found is t result
+with-time found time is t result same one not_later still = record {
+  one = subst (λ (x : Option ℕ). IsOneOf found x t result) same one;
+  not_later = subst (IsNotLater result) same not_later;
+  still = still;
+}
+
+looked-below : (script : Script) (s : State) (found result : Option (ℕ × ℕ)) (time : Option ℕ) (t : ℕ) → WithTime found time t result → IsShown script s result
+    → IsLeastBelow script s (length s.goroutines + 1) found → IsLeastBelow script s (length s.goroutines + 1) result
+looked-below script s found result time t next shown before = record {
+  shown = shown;
+  sleeps = λ g less. next.still (sleeps_until s g) (before.sleeps g less);
+  timers = λ g k i less e q. next.still (due_of s k) (before.timers g k i less e q);
+}
+
 pub with-func : (script : Script) (s : State) (t : ℕ) (found result : Option (ℕ × ℕ)) → IsFormed script s → IsLeastWith script s t found → is_func script t ≡ true
-    → WithTimer script s t found result → IsLeastWith script s (t + 1) result
+    → WithTime found (due_of s t) t result → IsLeastWith script s (t + 1) result
 with-func script s t found result formed before named next = record {
-  goroutines = record {
-    shown = shown-one script s found (due_of s t) t result next.one before.goroutines.shown (λ at e. func-shown script s t at formed named e);
-    sleeps = λ g less. next.still (sleeps_until s g) (before.goroutines.sleeps g less);
-    timers = λ g k i less e q. next.still (due_of s k) (before.goroutines.timers g k i less e q);
-  };
+  goroutines = looked-below script s found result (due_of s t) t next
+      (shown-one script s found (due_of s t) t result next.one before.goroutines.shown (λ at e. func-shown script s t at formed named e)) before.goroutines;
   funcs = below-next (λ k. is_func script k ≡ true → IsNotLater result (due_of s k)) t (λ k less is. next.still (due_of s k) (before.funcs k less is)) (λ is. next.not_later);
+  deadlines = below-next (λ x. IsNotLater result (deadline_in 0 (context_at s x))) t (λ x less. next.still (deadline_in 0 (context_at s x)) (before.deadlines x less))
+      (subst (IsNotLater result) (sym (func-no_deadline script s t formed named)) tt);
 }
 
 both-ways : (b : Bool) → b ≡ true → b ≡ false → ⊥
 both-ways true e h = cc
 both-ways false e h = cc
 
-pub without-func : (script : Script) (s : State) (t : ℕ) (found : Option (ℕ × ℕ)) → IsLeastWith script s t found → is_func script t ≡ false → IsLeastWith script s (t + 1) found
-without-func script s t found before other = record {
-  goroutines = before.goroutines;
-  funcs = below-next (λ k. is_func script k ≡ true → IsNotLater found (due_of s k)) t before.funcs (λ is. absurd (both-ways (is_func script t) is other));
+pub with-deadline : (script : Script) (s : State) (t : ℕ) (found result : Option (ℕ × ℕ)) → IsFormed script s → IsLeastWith script s t found → is_func script t ≡ false
+    → WithTime found (deadline_in 0 (context_at s t)) t result → IsLeastWith script s (t + 1) result
+with-deadline script s t found result formed before other next = record {
+  goroutines = looked-below script s found result (deadline_in 0 (context_at s t)) t next
+      (shown-one script s found (deadline_in 0 (context_at s t)) t result next.one before.goroutines.shown (λ at e. deadline-shown script s t at formed e)) before.goroutines;
+  funcs = below-next (λ k. is_func script k ≡ true → IsNotLater result (due_of s k)) t (λ k less is. next.still (due_of s k) (before.funcs k less is)) (λ is. absurd (both-ways (is_func script t) is other));
+  deadlines = below-next (λ x. IsNotLater result (deadline_in 0 (context_at s x))) t (λ x less. next.still (deadline_in 0 (context_at s x)) (before.deadlines x less)) next.not_later;
 }
 
 -- ---- before any
@@ -195,21 +205,24 @@ least-of_none script s = record {
 }
 
 pub least-of_goroutines : (script : Script) (s : State) (found : Option (ℕ × ℕ)) → IsLeastBelow script s (length s.goroutines + 1) found → IsLeastWith script s 0 found
-least-of_goroutines script s found below = record { goroutines = below; funcs = λ t less is. absurd (omega arith) }
+least-of_goroutines script s found below = record { goroutines = below; funcs = λ t less is. absurd (omega arith); deadlines = λ x less. absurd (omega arith) }
 
 -- ---- all
 
 -- no record's time is before what was found
-covers : (script : Script) (s : State) (found : Option (ℕ × ℕ)) → IsLeastWith script s (length script.decls) found → (j t : ℕ) → counted_of script s j ≡ Some t → IsNotLater found (Some t)
+covers : (script : Script) (s : State) (found : Option (ℕ × ℕ)) → IsLeastWith script s (length script.decls) found → (j t : ℕ) → IsCountedBy script s j t → IsNotLater found (Some t)
 covers script s found all j t e =
     elim (nat_lt j (length script.decls)) as (λ b. nat_lt j (length script.decls) ≡ b → IsNotLater found (Some t)) [
       | true ↦ λ q.
           let within : j < length script.decls = ltb-true j (length script.decls) q in
-          declared script s found all j t within (counts-timer script s j t (sym (counted-declared script s j within) ∙ e))
+          elim (counted-declared script s j t within e) [
+            | inl timer ↦ declared script s found all j t within (counts-timer script s j t timer)
+            | inr own ↦ subst (IsNotLater found) own (all.deadlines j within)
+          ]
       | false ↦ λ q.
           let behind : length script.decls ≤ j = ltb-false j (length script.decls) q in
           let g : ℕ = j - length script.decls in
-          let until : sleeps_until s g ≡ Some t = counts-sleep s g t (sym (counted-slept script s j behind) ∙ e) in
+          let until : sleeps_until s g ≡ Some t = counts-sleep s g t (counted-slept script s j t behind e) in
           subst (IsNotLater found) until (all.goroutines.sleeps g (sleeps-below s g t until))
     ] refl
   where
@@ -223,18 +236,17 @@ covers script s found all j t e =
               subst (IsNotLater found) c.due (all.goroutines.timers at.number j at.instr (stands-below script s at.number at.instr at.stands) at.stands at.passes)
         ]
 
+as-many : (script : Script) (s : State) → IsFormed script s → AsMany script s
+as-many script s formed = record { timers = formed.timers; contexts = formed.contexts }
+
 pub found-least : (script : Script) (s : State) (found : Option (ℕ × ℕ)) → IsFormed script s → IsLeastWith script s (length script.decls) found
     → IfSome found (λ x. least (counted script s 0) ≡ Some x.0)
 found-least script s None formed all = tt
-found-least script s (Some x) formed all = least-counted script s x.0 x.1 formed.timers all.goroutines.shown (λ j t e. covers script s (Some x) all j t e)
+found-least script s (Some x) formed all = least-counted script s x.0 x.1 (as-many script s formed) all.goroutines.shown (λ j t e. covers script s (Some x) all j t e)
 
 pub found-none : (script : Script) (s : State) (found : Option (ℕ × ℕ)) → IsFormed script s → IsLeastWith script s (length script.decls) found
     → IsNone found ↔ (counted script s 0 ≡ [])
-found-none script s None formed all = (λ _. none-counted script s formed.timers (λ j. no-time (counted_of script s j) (λ t e. covers script s None all j t e)), λ _. refl)
-  where
-    no-time : (o : Option ℕ) → ((t : ℕ) → o ≡ Some t → ⊥) → o ≡ None
-    no-time None h = refl
-    no-time (Some t) h = absurd (h t refl)
+found-none script s None formed all = (λ _. none-counted script s (as-many script s formed) (λ j t e. covers script s None all j t e), λ _. refl)
 found-none script s (Some x) formed all = (
   λ none. cc,
   λ empty.

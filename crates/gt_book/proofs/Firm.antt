@@ -11,7 +11,7 @@ use Rattle.gt_model.specs.declared.entry.Reason.{Reason}
 use Rattle.gt_model.specs.declared.state.Goroutine.{Goroutine}
 use Rattle.gt_model.specs.declared.state.Mode.{Mode}
 use Rattle.gt_model.specs.Script.{instr_at, what_at, is_chan, capacity_of, mutex_of}
-use Rattle.gt_rules.specs.State.{State, Channel, goroutine_at, mode_of, timer_at, channel_at, is_locked, counter_of, item_count, is_closed, is_made, stands, stands_at}
+use Rattle.gt_rules.specs.State.{State, Channel, goroutine_at, mode_of, timer_at, channel_at, is_locked, counter_of, item_count, is_closed, is_made, stands, stands_at, context_at, has_ended}
 use Rattle.gt_rules.specs.Operations.{operation, offers, polls, receives_from, sends_to}
 use Rattle.gt_rules.specs.Panics.{fault, fault_at, fault_case, case_fault, choice_fault, when, or_else, open_fault, panic_at}
 use Rattle.gt_rules.specs.Ready.{is_firm, is_firm_in, is_ready_at, is_ready_instr, is_ready_case, is_ready_alone, is_ready_recv, has_partner, partner_waits, no_timer}
@@ -134,7 +134,7 @@ pub firm-fault : (script : Script) (s : State) (counts : ℕ → Bool) (g : ℕ)
 firm-fault script s counts g None h = refl
 firm-fault script s counts g (Some i) h = (or-false (is_some (fault script s i)) (is_ready_instr script s no_timer counts g i) h).0
 
--- ---- what stays: what was made stays made, what was closed stays closed, and channels, locks and counters stay as they are but those that `may` change
+-- ---- what stays: what was made stays made, what was closed stays closed, and channels, locks, counters and ends of contexts stay as they are but those that `may` change
 
 pub record Stays (s next : State) (may : ℕ → Bool) : Type 0 where
   pub timers : (t : ℕ) → is_some (timer_at s t) ≡ true → is_some (timer_at next t) ≡ true
@@ -143,6 +143,8 @@ pub record Stays (s next : State) (may : ℕ → Bool) : Type 0 where
   pub same : (c : ℕ) → may c ≡ false → channel_at next c ≡ channel_at s c
   pub locks : (o : ℕ) → may o ≡ false → is_locked next o ≡ is_locked s o
   pub counters : (o : ℕ) → may o ≡ false → counter_of next o ≡ counter_of s o
+  pub contexts : (x : ℕ) → is_some (context_at s x) ≡ true → is_some (context_at next x) ≡ true
+  pub ends : (x : ℕ) → may x ≡ false → has_ended next x ≡ has_ended s x
 
 -- who is parked now was parked before, as it is, or sleeps, or waits at a Cond; or was signalled, and waits for one of the objects that `may` change
 pub data WasThere (script : Script) (s : State) (m : Schedule) (may : ℕ → Bool) (g : ℕ) : Option Goroutine → Type 0 where
@@ -170,7 +172,9 @@ made-either false b true d f g h = refl
 made-either false b false d f g h = g h
 
 pub made-stays : (s next : State) (may : ℕ → Bool) (o : ℕ) → Stays s next may → is_made s o ≡ true → is_made next o ≡ true
-made-stays s next may o stays h = made-either (is_some (timer_at s o)) (is_some (channel_at s o)) (is_some (timer_at next o)) (is_some (channel_at next o)) (stays.timers o) (stays.made o) h
+made-stays s next may o stays h =
+    made-either (is_some (timer_at s o) || is_some (channel_at s o)) (is_some (context_at s o)) (is_some (timer_at next o) || is_some (channel_at next o)) (is_some (context_at next o))
+    (made-either (is_some (timer_at s o)) (is_some (channel_at s o)) (is_some (timer_at next o)) (is_some (channel_at next o)) (stays.timers o) (stays.made o)) (stays.contexts o) h
 
 -- the parts of the use of an open channel
 pub record IsOpenChannel (s : State) (c : ℕ) : Type 0 where
@@ -444,6 +448,7 @@ pub record IsSame (s next : State) (o : ℕ) : Type 0 where
   pub channel : channel_at next o ≡ channel_at s o
   pub lock : is_locked next o ≡ is_locked s o
   pub counter : counter_of next o ≡ counter_of s o
+  pub end : has_ended next o ≡ has_ended s o
 
 recv-same : (s next : State) (o : ℕ) (w : Option What) → IsSame s next o → is_ready_recv next no_timer o w ≡ is_ready_recv s no_timer o w
 recv-same s next o None same = refl
@@ -454,6 +459,9 @@ recv-same s next o (Some (What.Chan cap)) same = ap (λ (ch : Option Channel). n
 recv-same s next o (Some What.Mutex) same = ap not same.lock
 recv-same s next o (Some What.Wg) same = ap (λ n. n == 0) same.counter
 recv-same s next o (Some (What.Cond mutex)) same = refl
+recv-same s next o (Some (What.Ctx parent form)) same = same.end
+recv-same s next o (Some (What.Hook ctx func)) same = refl
+recv-same s next o (Some What.Error) same = refl
 recv-same s next o (Some What.Function) same = refl
 
 send-same : (s next : State) (c cap : ℕ) → channel_at next c ≡ channel_at s c → (is_closed next c || nat_lt (item_count next c) cap) ≡ (is_closed s c || nat_lt (item_count s c) cap)
@@ -495,6 +503,7 @@ calm_but-next script s next m n x y stays were wider calm declared = record {
         channel = stays.same (object_of kind) apart;
         lock = stays.locks (object_of kind) apart;
         counter = stays.counters (object_of kind) apart;
+        end = stays.ends (object_of kind) apart;
       }) ∙ calm.others g k kind w.waits w.at (wider (object_of kind) apart);
   relocks = λ g k waits mode apart. locked g k (goroutine_at next g) (were g waits) refl mode apart;
   declared = declared;

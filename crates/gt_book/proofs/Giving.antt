@@ -17,7 +17,7 @@ use Rattle.gt_book.specs.View.{Fits, Agrees, wants}
 use Rattle.gt_book.specs.Book.{IsKept}
 use Rattle.gt_book.specs.Calm.{IsCalm}
 use Rattle.gt_book.proofs.Calm.{calm-scheduled}
-use Rattle.gt_book.proofs.Going.{with_scheduler, kept-scheduled}
+use Rattle.gt_book.proofs.Scheduled.{with_scheduler, kept-scheduled}
 
 as_many-back : (xs : List RunStatus) → length (map back_in_queue xs) ≡ length xs
 as_many-back [] = refl

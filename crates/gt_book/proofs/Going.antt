@@ -1,5 +1,5 @@
--- A book whose schedule changes, and one that ends, keep what a book keeps; what a goroutine in hand does may come.
-use Rattle.std.proofs.Common.{◌≡◌, ◌≢◌, ℕ, ◌+◌, ◌<◌, nat_lt, cond, List, [], ◌∷◌, refl, sym, ap, subst, ◌∙◌, arith, Option, None, Some, IfSome, IfNone, length, is_some, IsSome, slice_get, Bool, true, false, not, ◌&&◌, ◌||◌, IsTrue, zero, suc, MatchOption, inl, inr, option_map}
+-- What a goroutine in hand does may come.
+use Rattle.std.proofs.Common.{◌≡◌, ◌≢◌, ℕ, ◌+◌, ◌<◌, nat_lt, cond, List, [], ◌∷◌, refl, sym, ap, subst, ◌∙◌, arith, Option, None, Some, IfSome, length, is_some, IsSome, slice_get, Bool, true, false, not, ◌&&◌, ◌||◌, IsTrue, zero, suc, MatchOption, inl, inr, option_map}
 use Rattle.std.proofs.lemmas.Bool.{ltb-true, eqb-true}
 use Rattle.gt_model.specs.declared.script.Script.{Script}
 use Rattle.gt_model.specs.declared.script.Instr.{Instr}
@@ -8,133 +8,45 @@ use Rattle.gt_model.specs.declared.script.What.{What}
 use Rattle.gt_model.specs.declared.script.CaseKind.{CaseKind}
 use Rattle.gt_model.specs.declared.script.Case.{Case}
 use Rattle.gt_model.specs.declared.entry.Entry.{Entry}
-use Rattle.gt_model.specs.declared.entry.Outcome.{Outcome}
 use Rattle.gt_model.specs.declared.entry.Party.{Party}
 use Rattle.gt_model.specs.declared.entry.Reason.{Reason}
 use Rattle.gt_model.specs.declared.state.Goroutine.{Goroutine}
 use Rattle.gt_model.specs.declared.state.Mode.{Mode}
-use Rattle.gt_rules.specs.State.{State, timer_at, channel_at, stands, stands_at, clock_of, until_of, sleeps_until, items_of, item_count, is_open, is_closed, is_locked, counter_of, is_done}
-use Rattle.gt_model.specs.Script.{instr_at, code_of, what_at, is_timer, is_chan, is_mutex, is_wg, capacity_of, names_timer, names_chan, names_mutex, names_wg}
-use Rattle.gt_model.proofs.Declared.{declared_within}
+use Rattle.gt_rules.specs.State.{State, timer_at, channel_at, stands, stands_at, clock_of, until_of, sleeps_until, items_of, item_count, is_open, is_closed, is_locked, counter_of, is_done, context_at, has_ended, world_of, end_at, hook_at, next_number}
+use Rattle.gt_model.specs.Script.{instr_at, code_of, what_at, is_timer, is_chan, is_mutex, is_wg, capacity_of, names_timer, names_chan, names_mutex, names_wg, is_ctx, is_endable, names_ctx, can_end, named_form}
+use Rattle.gt_model.proofs.Declared.{declared_within, endable_ctx}
 use Rattle.gt_model.proofs.Items.{numbered-change_other}
 use Rattle.gt_rules.specs.Panics.{fault, fault_case, when, panic_at}
 use Rattle.gt_rules.specs.Legal.{May, MayPanic, Signals, ChoosesClosed, Does, Operates, operation_at, is_polling}
-use Rattle.gt_rules.specs.Finish.{IsIdle}
-use Rattle.gt_rules.specs.Counted.{counted}
 use Rattle.gt_model.specs.Good.{IsGood, NamesRightly}
 use Rattle.gt_rules.specs.Places.{silent}
 use Rattle.gt_facts.specs.Formed.{IsFormed, IsPlacedIn}
-use Rattle.gt_facts.proofs.Formed.{formed-finish}
 use Rattle.gt_facts.proofs.Lookups.{names-Does, names-operation, does-Operates, locks-Operates, waits-Operates}
 use Rattle.gt_book.specs.declared.book.Book.TheInside.{Inside}
-use Rattle.gt_schedule.specs.declared.scheduler.Scheduler.{Scheduler}
 use Rattle.gt_schedule.specs.declared.status.RunStatus.{RunStatus}
 use Rattle.gt_book.specs.declared.step.Step.{Step}
-use Rattle.gt_machine.specs.Machine.{state_of}
-use Rattle.gt_schedule.specs.Schedule.{Schedule, plainly, at_case, status_of, is_in_hand, is_parked, parties_at, taken, gone_on, moved_by, MayMove, ServedBy, Served}
-use Rattle.gt_schedule.specs.Scheduler.{schedule_of, capacity, IsScheduler}
-use Rattle.gt_schedule.proofs.Moving.{first-queued}
+use Rattle.gt_machine.specs.Machine.{state_of, is_cut}
+use Rattle.gt_schedule.specs.Schedule.{Schedule, plainly, at_case, status_of, is_in_hand, is_parked, parties_at, gone_on, moved_by, MayMove, ServedBy, Served}
+use Rattle.gt_schedule.specs.Scheduler.{schedule_of}
 use Rattle.gt_rules.specs.Change.{Change, change_of}
 use Rattle.gt_rules.specs.declared.change.Move.{Move}
-use Rattle.gt_book.specs.Steps.{step_of, step_or_panic, step_of_instr, plain_step, goes_by, goes_alone, meets, or_next, receives_alone, takes_alone, sends_alone, meets_sender, meets_receiver, partner_in, value_of}
-use Rattle.gt_book.specs.View.{BookView, IsLawful, Fits, NoneFirm, Agrees, is_waiting, with_entries, with_schedule, outcome_of}
+use Rattle.gt_book.specs.Steps.{step_of, step_or_panic, step_of_instr, plain_step, goes_by, goes_alone, meets, or_next, receives_alone, takes_alone, sends_alone, meets_sender, meets_receiver, partner_in, value_of, live_deadline, cancels}
+use Rattle.gt_book.specs.View.{BookView, IsLawful, Fits, Agrees, is_waiting}
 use Rattle.gt_book.specs.Book.{seen, IsKept}
 use Rattle.gt_book.specs.Calm.{IsCalm}
-use Rattle.gt_book.proofs.Calm.{CanPark, calm-taken}
-use Rattle.gt_book.proofs.Entering.{running-none, sound-more, sound-lawful, lawful-sound}
-use Rattle.gt_book.specs.declared.run.Run.{Run}
-use Rattle.gt_book.proofs.Books.{Finished, seen-finished, finished-rooms}
-use Rattle.gt_book.proofs.Fitting.{Known, known, fits-taken, fits-changed, rightly-finish}
-use Rattle.gt_book.proofs.Firm.{never-both, calm-standing, panic-standing}
+use Rattle.gt_book.proofs.Calm.{CanPark}
+use Rattle.gt_book.proofs.Fitting.{Known, known}
+use Rattle.gt_book.proofs.Firm.{never-both, calm-standing, panic-standing, unless-true, or-false}
 use Rattle.gt_book.proofs.Choosing.{sends-made}
 use Rattle.gt_book.proofs.Options.{ChoiceIs, case_goes, case_polls, all_rest, all_wait, choice-so, none-rests, or-is, sends-none}
 use Rattle.gt_rules.specs.Operations.{operation}
-use Rattle.gt_book.proofs.Meeting.{plain-is, recv-is, send-is, choice-is, stands-awake, operates-awake, Met, sender-met, receiver-met, parked-other, suspended-parked, signals-rightly, open-is, met-open, timer-alone, timer-unready}
-
--- ---- another schedule
-
-lawful-scheduled : (v : BookView) (m : Schedule) → IsLawful v → Fits v.script v.state m → (outcome_of v ≡ None → NoneFirm (with_schedule v m)) → IsLawful (with_schedule v m)
-lawful-scheduled v m lawful fits calm = record {
-  good = lawful.good;
-  limits = lawful.limits;
-  legal = lawful.legal;
-  reached = lawful.reached;
-  goes = lawful.goes;
-  formed = lawful.formed;
-  fits = fits;
-  calm = calm;
-}
-
-abbrev pub with_scheduler : Inside → Scheduler → Inside
-with_scheduler b m = record { script = b.script; limits = b.limits; run = record { history = b.run.history; machine = b.run.machine; scheduler = m } }
-
-pub kept-scheduled : (b : Inside) (m : Scheduler) (schedule : Schedule) → IsKept b → schedule_of m ≡ schedule → Fits b.script (state_of b.run.machine) schedule
-    → (outcome_of (seen b) ≡ None → IsCalm b.script (state_of b.run.machine) schedule) → capacity m ≡ capacity b.run.scheduler → IsScheduler m → IsKept (with_scheduler b m)
-kept-scheduled b m schedule kept is fits calm places scheduler = record {
-  lawful = lawful-scheduled (seen b) (schedule_of m) kept.lawful (subst (Fits b.script (state_of b.run.machine)) (sym is) fits)
-      (λ running. subst (IsCalm b.script (state_of b.run.machine)) (sym is) (calm running));
-  rooms = record {
-    history = kept.rooms.history;
-    goroutines = kept.rooms.goroutines;
-    channels = kept.rooms.channels;
-    schedule = places ∙ kept.rooms.schedule;
-    scheduler = scheduler;
-    entries = kept.rooms.entries;
-  };
-}
-
--- marks are nobody's status, and stand in no list
-pub kept-marked : (b : Inside) (m : Scheduler) (marks : List (List ℕ)) → IsKept b → schedule_of m ≡ record (schedule_of b.run.scheduler) { marks = marks }
-    → capacity m ≡ capacity b.run.scheduler → IsScheduler m → IsKept (with_scheduler b m)
-kept-marked b m marks kept is places scheduler =
-    let fits : Fits b.script (state_of b.run.machine) (schedule_of b.run.scheduler) = kept.lawful.fits in
-    kept-scheduled b m (record (schedule_of b.run.scheduler) { marks = marks }) kept is
-    (record {
-      as_many = fits.as_many;
-      mutexes = fits.mutexes;
-      receivers = fits.receivers;
-      senders = fits.senders;
-      agree = fits.agree;
-      queued = fits.queued;
-      waiting = fits.waiting;
-      sending = fits.sending;
-    })
-    (λ running g waits. kept.lawful.calm running g waits) places scheduler
-
--- a goroutine was taken, or none was
-pub kept-taken : (b : Inside) (m : Scheduler) (result : Option ℕ) → IsKept b → result ≡ slice_get (schedule_of b.run.scheduler).run_queue 0
-    → IfNone result (m ≡ b.run.scheduler) → IfSome result (λ g. schedule_of m ≡ taken (schedule_of b.run.scheduler) g)
-    → capacity m ≡ capacity b.run.scheduler → IsScheduler m → IsKept (with_scheduler b m)
-kept-taken b m None kept first unchanged schedule places scheduler = subst (λ (m : Scheduler). IsKept (with_scheduler b m)) (sym unchanged) kept
-kept-taken b m (Some g) kept first unchanged schedule places scheduler =
-    kept-scheduled b m (taken (schedule_of b.run.scheduler) g) kept schedule
-    (fits-taken b.script (state_of b.run.machine) (schedule_of b.run.scheduler) g kept.lawful.fits (sym first))
-    (λ running. calm-taken b.script (state_of b.run.machine) (schedule_of b.run.scheduler) g (first-queued (schedule_of b.run.scheduler) g kept.lawful.fits.queued (sym first)) (kept.lawful.calm running))
-    places scheduler
-
--- ---- the end in a deadlock
-
-pub lawful-deadlock : (v : BookView) → IsLawful v → outcome_of v ≡ None → IsIdle v.script v.state → counted v.script v.state 0 ≡ []
-    → IsLawful (with_entries v (Entry.Finish Outcome.Deadlock ∷ []))
-lawful-deadlock v lawful none idle uncounted =
-    lawful-sound (with_entries v (Entry.Finish Outcome.Deadlock ∷ []))
-    (sound-more v (Entry.Finish Outcome.Deadlock) (sound-lawful v lawful) (running-none v lawful none, idle, uncounted)
-    (formed-finish v.script v.state Outcome.Deadlock lawful.formed)
-    (fits-changed v.script v.state v.schedule (change_of (Entry.Finish Outcome.Deadlock)) (rightly-finish v.script v.state Outcome.Deadlock lawful.good lawful.formed) lawful.fits (tt, tt)))
-    tt (λ none. cc)
-
-abbrev pub ended : Inside → Run → Inside
-ended b run = record { script = b.script; limits = b.limits; run = run }
-
-pub seen-deadlock : (b : Inside) (run : Run) → Finished b.script Outcome.Deadlock b.run run → seen (ended b run) ≡ with_entries (seen b) (Entry.Finish Outcome.Deadlock ∷ [])
-seen-deadlock b run ends = seen-finished b.script b.limits Outcome.Deadlock b.run run ends
-
-pub kept-deadlock : (b : Inside) (run : Run) → IsKept b → outcome_of (seen b) ≡ None → IsIdle b.script (state_of b.run.machine) → counted b.script (state_of b.run.machine) 0 ≡ []
-    → Finished b.script Outcome.Deadlock b.run run → IsKept (ended b run)
-kept-deadlock b run kept none idle uncounted ends = record {
-  lawful = subst IsLawful (sym (seen-deadlock b run ends)) (lawful-deadlock (seen b) kept.lawful none idle uncounted);
-  rooms = finished-rooms b.script b.limits Outcome.Deadlock b.run run kept.rooms none ends;
-}
+use Rattle.gt_book.proofs.Meeting.{plain-is, recv-is, send-is, choice-is, stands-awake, operates-awake, Met, sender-met, receiver-met, parked-other, suspended-parked, signals-rightly, open-is, met-open, timer-alone, timer-unready, with-is, cancel-is}
+use Rattle.gt_rules.specs.Contexts.{made_context, starting, hook_is_due, is_waiting_hook}
+use Rattle.gt_model.specs.declared.context.Context.{Context}
+use Rattle.gt_model.specs.declared.context.End.{End}
+use Rattle.gt_model.specs.declared.context.ErrVal.{ErrVal}
+use Rattle.gt_model.specs.declared.context.CauseVal.{CauseVal}
+use Rattle.gt_book.specs.declared.answers.TimerOp.{TimerOp}
 
 -- ---- what a goroutine in hand does
 
@@ -183,6 +95,8 @@ never-nowhere script s m g p (Instr.Recv o) None acts h = recv-is (λ step. step
 never-nowhere script s m g p (Instr.Send c v) None acts h = send-is (λ step. step ≡ Step.Nowhere → ⊥) (λ e k. cc) (λ kind k. cc) script s m g c v h
 never-nowhere script s m g p (Instr.Lock k) None acts h = plain-is (λ step. step ≡ Step.Nowhere → ⊥) (λ e q. cc) (λ kind q. cc) (CaseKind.Recv k) (goes_by script s m (plainly g) (CaseKind.Recv k)) h
 never-nowhere script s m g p (Instr.Wait w) None acts h = plain-is (λ step. step ≡ Step.Nowhere → ⊥) (λ e q. cc) (λ kind q. cc) (CaseKind.Recv w) (goes_by script s m (plainly g) (CaseKind.Recv w)) h
+never-nowhere script s m g p (Instr.With x) None acts h = with-is (λ step. step ≡ Step.Nowhere → ⊥) (λ e q. cc) (λ x due q. cc) script s m g x h
+never-nowhere script s m g p (Instr.Cancel x cause) None acts h = cancel-is (λ step. step ≡ Step.Nowhere → ⊥) (λ e q. cc) (λ x q. cc) script s m g x cause h
 never-nowhere script s m g p i None acts h = cc
 
 pub in_hand-acts : (v : BookView) (g : ℕ) → IsLawful v → status_of v.schedule g ≡ Some RunStatus.InHand → step_of v.script v.state v.schedule g ≡ Some Step.Nowhere → ⊥
@@ -220,13 +134,14 @@ abbrev pub IsAwake : Move → Type 0
 IsAwake (Move.FallsAsleep until) = ⊥
 IsAwake _ = Unit {0}
 
--- a change that sets no timer, moves no clock, lets nobody sleep and signals no more than one
+-- a change that sets no timer, moves no clock, lets nobody sleep, signals no more than one and ends no context
 pub record IsCall (c : Change) : Type 0 where
   pub mover : IfSome c.mover (λ (x : ℕ × Move). IsAwake x.1)
   pub partner : IfSome c.partner (λ (x : ℕ × Move). IsAwake x.1)
   pub timer : c.timer ≡ None
   pub clock : c.clock ≡ None
   pub alone : c.broadcast ≡ None
+  pub uncut : is_cut c.tree ≡ false
 
 -- such an entry
 abbrev IsCalled : Step → Type 0
@@ -238,8 +153,8 @@ AreCalled None = Unit {0}
 AreCalled (Some e) = IsCall (change_of e)
 
 called-receives : (p : Party) (c : ℕ) (items : List ℕ) (closed : Bool) → AreCalled (receives_alone p c items closed)
-called-receives p c (v ∷ items) closed = record { mover = tt; partner = tt; timer = refl; clock = refl; alone = refl }
-called-receives p c [] true = record { mover = tt; partner = tt; timer = refl; clock = refl; alone = refl }
+called-receives p c (v ∷ items) closed = record { mover = tt; partner = tt; timer = refl; clock = refl; alone = refl; uncut = refl }
+called-receives p c [] true = record { mover = tt; partner = tt; timer = refl; clock = refl; alone = refl; uncut = refl }
 called-receives p c [] false = tt
 
 called-takes : (s : State) (p : Party) (o : ℕ) (w : Option What) → AreCalled (takes_alone s p o w)
@@ -248,26 +163,31 @@ called-takes s p o (Some What.Mutex) = by (is_locked s o)
   where
     by : (b : Bool) → AreCalled (cond b None (Some (Entry.Lock p.g o)))
     by true = tt
-    by false = record { mover = tt; partner = tt; timer = refl; clock = refl; alone = refl }
+    by false = record { mover = tt; partner = tt; timer = refl; clock = refl; alone = refl; uncut = refl }
 called-takes s p o (Some What.Wg) = by (is_done s o)
   where
     by : (b : Bool) → AreCalled (cond b (Some (Entry.WgWait p.g o)) None)
-    by true = record { mover = tt; partner = tt; timer = refl; clock = refl; alone = refl }
+    by true = record { mover = tt; partner = tt; timer = refl; clock = refl; alone = refl; uncut = refl }
+    by false = tt
+called-takes s p o (Some (What.Ctx parent form)) = by (has_ended s o)
+  where
+    by : (b : Bool) → AreCalled (cond b (Some (Entry.CtxDone p o)) None)
+    by true = record { mover = tt; partner = tt; timer = refl; clock = refl; alone = refl; uncut = refl }
     by false = tt
 called-takes s p o (Some _) = tt
 
 called-sends : (p : Party) (c v : ℕ) (closed room : Bool) → AreCalled (sends_alone p c v closed room)
-called-sends p c v true room = record { mover = tt; partner = tt; timer = refl; clock = refl; alone = refl }
-called-sends p c v false true = record { mover = tt; partner = tt; timer = refl; clock = refl; alone = refl }
+called-sends p c v true room = record { mover = tt; partner = tt; timer = refl; clock = refl; alone = refl; uncut = refl }
+called-sends p c v false true = record { mover = tt; partner = tt; timer = refl; clock = refl; alone = refl; uncut = refl }
 called-sends p c v false false = tt
 
 called-sender : (script : Script) (s : State) (p : Party) (c : ℕ) (o : Option Party) → AreCalled (meets_sender script s p c o)
 called-sender script s p c None = tt
-called-sender script s p c (Some q) = record { mover = tt; partner = tt; timer = refl; clock = refl; alone = refl }
+called-sender script s p c (Some q) = record { mover = tt; partner = tt; timer = refl; clock = refl; alone = refl; uncut = refl }
 
 called-receiver : (p : Party) (c v : ℕ) (o : Option Party) → AreCalled (meets_receiver p c v o)
 called-receiver p c v None = tt
-called-receiver p c v (Some q) = record { mover = tt; partner = tt; timer = refl; clock = refl; alone = refl }
+called-receiver p c v (Some q) = record { mover = tt; partner = tt; timer = refl; clock = refl; alone = refl; uncut = refl }
 
 called-where : (b : Bool) (o other : Option Entry) → AreCalled o → AreCalled other → AreCalled (cond b o other)
 called-where true o other h k = h
@@ -295,19 +215,19 @@ called-plain kind (Some e) h = h
 called-choice : (script : Script) (s : State) (m : Schedule) (g : ℕ) (cases : List Case) (default_to : Option ℕ) (step : Step) → ChoiceIs script s m g cases default_to step → IsCalled step
 called-choice script s m g cases default_to step (case_goes n kind e has by) = subst AreCalled by (called-by script s m (at_case g n) kind)
 called-choice script s m g cases default_to step (case_polls n kind t has come) = tt
-called-choice script s m g cases default_to step (all_rest to e none) = record { mover = tt; partner = tt; timer = refl; clock = refl; alone = refl }
+called-choice script s m g cases default_to step (all_rest to e none) = record { mover = tt; partner = tt; timer = refl; clock = refl; alone = refl; uncut = refl }
 called-choice script s m g cases default_to step (all_wait e none) = tt
 
 called : (script : Script) (s : State) (m : Schedule) (g : ℕ) (i : Instr) → IsCalled (step_of_instr script s m g i)
-called script s m g (Instr.Say n) = record { mover = tt; partner = tt; timer = refl; clock = refl; alone = refl }
-called script s m g Instr.Now = record { mover = tt; partner = tt; timer = refl; clock = refl; alone = refl }
-called script s m g (Instr.Sleep zero) = record { mover = tt; partner = tt; timer = refl; clock = refl; alone = refl }
+called script s m g (Instr.Say n) = record { mover = tt; partner = tt; timer = refl; clock = refl; alone = refl; uncut = refl }
+called script s m g Instr.Now = record { mover = tt; partner = tt; timer = refl; clock = refl; alone = refl; uncut = refl }
+called script s m g (Instr.Sleep zero) = record { mover = tt; partner = tt; timer = refl; clock = refl; alone = refl; uncut = refl }
 called script s m g (Instr.Sleep (suc d)) = tt
-called script s m g (Instr.Go f) = record { mover = tt; partner = tt; timer = refl; clock = refl; alone = refl }
-called script s m g (Instr.Make c) = record { mover = tt; partner = tt; timer = refl; clock = refl; alone = refl }
-called script s m g (Instr.Close c) = record { mover = tt; partner = tt; timer = refl; clock = refl; alone = refl }
-called script s m g Instr.Finish = record { mover = tt; partner = tt; timer = refl; clock = refl; alone = refl }
-called script s m g (Instr.Recv o) = received (is_chan script o)
+called script s m g (Instr.Go f) = record { mover = tt; partner = tt; timer = refl; clock = refl; alone = refl; uncut = refl }
+called script s m g (Instr.Make c) = record { mover = tt; partner = tt; timer = refl; clock = refl; alone = refl; uncut = refl }
+called script s m g (Instr.Close c) = record { mover = tt; partner = tt; timer = refl; clock = refl; alone = refl; uncut = refl }
+called script s m g Instr.Finish = record { mover = tt; partner = tt; timer = refl; clock = refl; alone = refl; uncut = refl }
+called script s m g (Instr.Recv o) = received (is_chan script o || is_ctx script o)
   where
     received : (b : Bool) → IsCalled (cond b (plain_step (CaseKind.Recv o) (goes_by script s m (plainly g) (CaseKind.Recv o))) (Step.Waits o))
     received true = called-plain (CaseKind.Recv o) (goes_by script s m (plainly g) (CaseKind.Recv o)) (called-by script s m (plainly g) (CaseKind.Recv o))
@@ -316,15 +236,30 @@ called script s m g (Instr.Send c v) = called-plain (CaseKind.Send c v) (goes_by
 called script s m g (Instr.Select cases default_to) = called-choice script s m g cases default_to _ (choice-so script s m g cases default_to)
 called script s m g (Instr.Lock k) = called-plain (CaseKind.Recv k) (goes_by script s m (plainly g) (CaseKind.Recv k)) (called-by script s m (plainly g) (CaseKind.Recv k))
 called script s m g (Instr.Wait w) = called-plain (CaseKind.Recv w) (goes_by script s m (plainly g) (CaseKind.Recv w)) (called-by script s m (plainly g) (CaseKind.Recv w))
-called script s m g (Instr.Unlock k) = record { mover = tt; partner = tt; timer = refl; clock = refl; alone = refl }
-called script s m g (Instr.CWait k) = record { mover = tt; partner = tt; timer = refl; clock = refl; alone = refl }
+called script s m g (Instr.Unlock k) = record { mover = tt; partner = tt; timer = refl; clock = refl; alone = refl; uncut = refl }
+called script s m g (Instr.CWait k) = record { mover = tt; partner = tt; timer = refl; clock = refl; alone = refl; uncut = refl }
 called script s m g (Instr.Signal k) = by (option_map (λ (p : Party). p.g) (slice_get (parties_at m.receivers k) 0))
   where
     by : (woken : Option ℕ) → IsCall (change_of (Entry.Signal g k woken))
-    by None = record { mover = tt; partner = tt; timer = refl; clock = refl; alone = refl }
-    by (Some h) = record { mover = tt; partner = tt; timer = refl; clock = refl; alone = refl }
+    by None = record { mover = tt; partner = tt; timer = refl; clock = refl; alone = refl; uncut = refl }
+    by (Some h) = record { mover = tt; partner = tt; timer = refl; clock = refl; alone = refl; uncut = refl }
 called script s m g (Instr.Broadcast k) = tt
-called script s m g (Instr.Add w n) = record { mover = tt; partner = tt; timer = refl; clock = refl; alone = refl }
+called script s m g (Instr.Add w n) = record { mover = tt; partner = tt; timer = refl; clock = refl; alone = refl; uncut = refl }
+called script s m g (Instr.With x) = by (live_deadline (made_context script s (world_of s g) x))
+  where
+    by : (o : Option ℕ)
+        → IsCalled (elim o as (λ o. Step) [ None ↦ Step.Makes (Entry.CtxMake g x (is_some (made_context script s (world_of s g) x).end)) | Some due ↦ Step.Needs (TimerOp.Deadline x due) ])
+    by None = record { mover = tt; partner = tt; timer = refl; clock = refl; alone = refl; uncut = refl }
+    by (Some due) = tt
+called script s m g (Instr.Cancel x cause) = by (has_ended s x)
+  where
+    by : (b : Bool) → IsCalled (cancels g x b)
+    by true = record { mover = tt; partner = tt; timer = refl; clock = refl; alone = refl; uncut = refl }
+    by false = tt
+called script s m g (Instr.ErrOf x) = record { mover = tt; partner = tt; timer = refl; clock = refl; alone = refl; uncut = refl }
+called script s m g (Instr.CauseOf x) = record { mover = tt; partner = tt; timer = refl; clock = refl; alone = refl; uncut = refl }
+called script s m g (Instr.After h) = record { mover = tt; partner = tt; timer = refl; clock = refl; alone = refl; uncut = refl }
+called script s m g (Instr.Unhook h) = record { mover = tt; partner = tt; timer = refl; clock = refl; alone = refl; uncut = refl }
 called script s m g (Instr.Jump to) = tt
 called script s m g (Instr.New t d) = tt
 called script s m g (Instr.Stop t) = tt
@@ -343,7 +278,7 @@ makes-call script s m g e h =
   where
     each : (i : Instr) (o : Option Reason) → IsCalled (step_or_panic script s m g i o)
     each i None = called script s m g i
-    each i (Some reason) = record { mover = tt; partner = tt; timer = refl; clock = refl; alone = refl }
+    each i (Some reason) = record { mover = tt; partner = tt; timer = refl; clock = refl; alone = refl; uncut = refl }
 
 -- ---- what the entry of a step is
 
@@ -382,7 +317,7 @@ module _ (script : Script) (s : State) (m : Schedule) (g : ℕ) (good : IsGood s
       subst (MakesSo script s m g) is (alone (Entry.Recv (at_case g n) c None) (Move.GoesOn n) (gets, chan, (kept, shut)) refl refl refl)
   makes-receives n c [] false e kept shut chan gets h = cc
 
-  -- a mutex that nobody has is locked, and a wait for a WaitGroup ends whose counter is 0
+  -- a mutex that nobody has is locked, a wait for a WaitGroup ends whose counter is 0, and one for a context that has ended
   makes-takes : (n o : ℕ) (w : Option What) (e : Entry) → what_at script o ≡ w → Operates script s (at_case g n) (CaseKind.Recv o) → takes_alone s (at_case g n) o w ≡ Some e
       → MakesSo script s m g e
   makes-takes n o (Some What.Mutex) e is gets h =
@@ -399,6 +334,14 @@ module _ (script : Script) (s : State) (m : Schedule) (g : ℕ) (good : IsGood s
         | true ↦ λ q k.
             let same : Entry.WgWait g o ≡ e = cc in
             subst (MakesSo script s m g) same (alone (Entry.WgWait g o) (Move.GoesOn 0) (waits, wg, eqb-true (counter_of s o) 0 q) refl refl refl)
+        | false ↦ λ q k. cc
+      ] refl h
+  makes-takes n o (Some (What.Ctx parent form)) e is gets h =
+      let ctx : IsTrue (is_ctx script o) = ap names_ctx is in
+      elim (has_ended s o) as (λ b. has_ended s o ≡ b → cond b (Some (Entry.CtxDone (at_case g n) o)) None ≡ Some e → MakesSo script s m g e) [
+        | true ↦ λ q k.
+            let same : Entry.CtxDone (at_case g n) o ≡ e = cc in
+            subst (MakesSo script s m g) same (alone (Entry.CtxDone (at_case g n) o) (Move.GoesOn n) (gets, ctx, q) refl refl refl)
         | false ↦ λ q k. cc
       ] refl h
   makes-takes n o _ e is gets h = cc
@@ -510,7 +453,7 @@ module _ (script : Script) (s : State) (m : Schedule) (g : ℕ) (good : IsGood s
       let is : Entry.Go g (length s.goroutines + 1) f ≡ e = cc in
       subst (MakesSo script s m g) is (alone (Entry.Go g (length s.goroutines + 1) f) (Move.GoesOn 0) (does, refl) refl refl refl)
   makes-instr (Instr.Recv o) e does none h =
-      elim (is_chan script o) as (λ b. cond b (plain_step (CaseKind.Recv o) (goes_by script s m (plainly g) (CaseKind.Recv o))) (Step.Waits o) ≡ Step.Makes e → MakesSo script s m g e) [
+      elim (is_chan script o || is_ctx script o) as (λ b. cond b (plain_step (CaseKind.Recv o) (goes_by script s m (plainly g) (CaseKind.Recv o))) (Step.Waits o) ≡ Step.Makes e → MakesSo script s m g e) [
         | true ↦ λ k.
             makes-by 0 (CaseKind.Recv o) (Instr.Recv o) e refl does none (makes-plain (CaseKind.Recv o) (goes_by script s m (plainly g) (CaseKind.Recv o)) e k)
         | false ↦ λ k. cc
@@ -539,6 +482,35 @@ module _ (script : Script) (s : State) (m : Schedule) (g : ℕ) (good : IsGood s
       makes-by 0 (CaseKind.Recv w) (Instr.Wait w) e refl does none (makes-plain (CaseKind.Recv w) (goes_by script s m (plainly g) (CaseKind.Recv w)) e h)
   makes-instr Instr.Finish e does none h =
       let is : Entry.End g ≡ e = cc in subst (MakesSo script s m g) is (alone (Entry.End g) Move.Ends does refl refl refl)
+  makes-instr (Instr.With x) e does none h =
+      let r : Context = made_context script s (world_of s g) x in
+      elim (live_deadline r)
+      as (λ o. (elim o as (λ o. Step) [ None ↦ Step.Makes (Entry.CtxMake g x (is_some r.end)) | Some due ↦ Step.Needs (TimerOp.Deadline x due) ]) ≡ Step.Makes e → MakesSo script s m g e) [
+        | None ↦ λ k.
+            let is : Entry.CtxMake g x (is_some r.end) ≡ e = cc in
+            subst (MakesSo script s m g) is (alone (Entry.CtxMake g x (is_some r.end)) (Move.GoesOn 0) (does, refl) refl refl refl)
+        | Some due ↦ λ k. cc
+      ] h
+  makes-instr (Instr.Cancel x cause) e does none h =
+      elim (has_ended s x) as (λ b. has_ended s x ≡ b → cancels g x b ≡ Step.Makes e → MakesSo script s m g e) [
+        | true ↦ λ q k.
+            let is : Entry.Cancel g x false 0 ≡ e = cc in
+            subst (MakesSo script s m g) is (alone (Entry.Cancel g x false 0) (Move.GoesOn 0)
+            (cause, does, ap not (sym q), ap (λ b. cond b 0 (length (starting script s x))) (sym q)) refl refl refl)
+        | false ↦ λ q k. cc
+      ] refl h
+  makes-instr (Instr.ErrOf x) e does none h =
+      let err : Option ErrVal = option_map (λ (end : End). end.err) (end_at s x) in
+      let is : Entry.CtxErr g x err ≡ e = cc in subst (MakesSo script s m g) is (alone (Entry.CtxErr g x err) (Move.GoesOn 0) (does, refl) refl refl refl)
+  makes-instr (Instr.CauseOf x) e does none h =
+      let cause : Option CauseVal = option_map (λ (end : End). end.cause) (end_at s x) in
+      let is : Entry.Cause g x cause ≡ e = cc in subst (MakesSo script s m g) is (alone (Entry.Cause g x cause) (Move.GoesOn 0) (does, refl) refl refl refl)
+  makes-instr (Instr.After k) e does none h =
+      let child : Option ℕ = cond (hook_is_due script s k) (Some (next_number s)) None in
+      let is : Entry.CtxAfter g k child ≡ e = cc in subst (MakesSo script s m g) is (alone (Entry.CtxAfter g k child) (Move.GoesOn 0) (does, refl) refl refl refl)
+  makes-instr (Instr.Unhook k) e does none h =
+      let stopped : Bool = is_waiting_hook (hook_at s k) in
+      let is : Entry.CtxStop g k stopped ≡ e = cc in subst (MakesSo script s m g) is (alone (Entry.CtxStop g k stopped) (Move.GoesOn 0) (does, refl) refl refl refl)
   makes-instr (Instr.New t d) e does none h = cc
   makes-instr (Instr.Stop t) e does none h = cc
   makes-instr (Instr.Reset t d) e does none h = cc
@@ -641,6 +613,7 @@ pub record WaitsRightly (script : Script) (s : State) (g t : ℕ) : Type 0 where
   pub stands : stands_at script s g ≡ Some (Instr.Recv t)
   pub timer : is_timer script t ≡ true
   pub plain : is_chan script t ≡ false
+  pub other : is_ctx script t ≡ false
   pub faultless : fault script s (Instr.Recv t) ≡ None
   pub made : is_some (timer_at s t) ≡ true
   pub within : t < length script.decls
@@ -648,15 +621,15 @@ pub record WaitsRightly (script : Script) (s : State) (g t : ℕ) : Type 0 where
 -- the instruction of a step that waits
 record AtTimer (script : Script) (t : ℕ) (i : Instr) : Type 0 where
   is : i ≡ Instr.Recv t
-  plain : is_chan script t ≡ false
+  plain : (is_chan script t || is_ctx script t) ≡ false
 
 instr-waits : (script : Script) (s : State) (m : Schedule) (g t : ℕ) (i : Instr) → step_of_instr script s m g i ≡ Step.Waits t → AtTimer script t i
 instr-waits script s m g t (Instr.Recv o) h =
-    elim (is_chan script o) as (λ b. is_chan script o ≡ b
+    elim (is_chan script o || is_ctx script o) as (λ b. (is_chan script o || is_ctx script o) ≡ b
     → cond b (plain_step (CaseKind.Recv o) (goes_by script s m (plainly g) (CaseKind.Recv o))) (Step.Waits o) ≡ Step.Waits t → AtTimer script t (Instr.Recv o)) [
       | true ↦ λ chan k.
           absurd (plain-is (λ step. step ≡ Step.Waits t → ⊥) (λ e q. cc) (λ kind q. cc) (CaseKind.Recv o) (goes_by script s m (plainly g) (CaseKind.Recv o)) k)
-      | false ↦ λ chan k. let same : o ≡ t = cc in record { is = ap Instr.Recv same; plain = ap (is_chan script) (sym same) ∙ chan }
+      | false ↦ λ chan k. let same : o ≡ t = cc in record { is = ap Instr.Recv same; plain = ap (λ o. is_chan script o || is_ctx script o) (sym same) ∙ chan }
     ] refl h
 instr-waits script s m g t (Instr.Send c v) h = absurd (send-is (λ step. step ≡ Step.Waits t → ⊥) (λ e q. cc) (λ kind q. cc) script s m g c v h)
 instr-waits script s m g t (Instr.Select cases default_to) h =
@@ -665,29 +638,39 @@ instr-waits script s m g t (Instr.Sleep zero) h = cc
 instr-waits script s m g t (Instr.Sleep (suc d)) h = cc
 instr-waits script s m g t (Instr.Lock k) h = absurd (plain-is (λ step. step ≡ Step.Waits t → ⊥) (λ e q. cc) (λ kind q. cc) (CaseKind.Recv k) (goes_by script s m (plainly g) (CaseKind.Recv k)) h)
 instr-waits script s m g t (Instr.Wait w) h = absurd (plain-is (λ step. step ≡ Step.Waits t → ⊥) (λ e q. cc) (λ kind q. cc) (CaseKind.Recv w) (goes_by script s m (plainly g) (CaseKind.Recv w)) h)
+instr-waits script s m g t (Instr.With x) h = absurd (with-is (λ step. step ≡ Step.Waits t → ⊥) (λ e q. cc) (λ x due q. cc) script s m g x h)
+instr-waits script s m g t (Instr.Cancel x cause) h = absurd (cancel-is (λ step. step ≡ Step.Waits t → ⊥) (λ e q. cc) (λ x q. cc) script s m g x cause h)
 instr-waits script s m g t _ h = cc
 
--- what was made and is no channel is a timer
-made-timer : (script : Script) (s : State) (t : ℕ) → IsFormed script s → is_chan script t ≡ false → fault script s (Instr.Recv t) ≡ None → is_some (timer_at s t) ≡ true
-made-timer script s t formed plain none =
-    elim (channel_at s t) as (λ o. channel_at s t ≡ o → when (not (is_some (timer_at s t) || is_some o)) Reason.Unmade ≡ None → is_some (timer_at s t) ≡ true) [
-      | None ↦ λ q k. first (is_some (timer_at s t)) k
+-- what was made and is neither a channel nor a context is a timer
+made-timer : (script : Script) (s : State) (t : ℕ) → IsFormed script s → is_chan script t ≡ false → is_ctx script t ≡ false → fault script s (Instr.Recv t) ≡ None
+    → is_some (timer_at s t) ≡ true
+made-timer script s t formed plain other none =
+    elim (channel_at s t) as (λ o. channel_at s t ≡ o → when (not (is_some (timer_at s t) || is_some o || is_some (context_at s t))) Reason.Unmade ≡ None → is_some (timer_at s t) ≡ true) [
+      | None ↦ λ q k. elim (context_at s t) as (λ o. context_at s t ≡ o → when (not (is_some (timer_at s t) || false || is_some o)) Reason.Unmade ≡ None → is_some (timer_at s t) ≡ true) [
+        | None ↦ λ p j. first (is_some (timer_at s t)) j
+        | Some r ↦ λ p j. absurd (never-both (is_ctx script t) (formed.ctxs t r p).named other)
+      ] refl k
       | Some r ↦ λ q k. absurd (never-both (is_chan script t) (formed.chans t r q).named plain)
     ] refl none
   where
-    first : (b : Bool) → when (not (b || false)) Reason.Unmade ≡ None → b ≡ true
+    first : (b : Bool) → when (not (b || false || false)) Reason.Unmade ≡ None → b ≡ true
     first true h = refl
     first false h = cc
 
--- what gives values and is no channel is a timer
-plain-timer : (timer chan : Bool) → IsTrue (timer || chan) → chan ≡ false → timer ≡ true
-plain-timer true chan gives plain = refl
-plain-timer false true gives plain = cc
-plain-timer false false gives plain = cc
+-- what gives values and is neither a channel nor a context is a timer
+plain-timer : (timer chan endable : Bool) → IsTrue (timer || chan || endable) → chan ≡ false → endable ≡ false → timer ≡ true
+plain-timer true chan endable gives plain other = refl
+plain-timer false true endable gives plain other = cc
+plain-timer false false true gives plain other = cc
+plain-timer false false false gives plain other = cc
+
+not-endable : (script : Script) (t : ℕ) → is_ctx script t ≡ false → is_endable script t ≡ false
+not-endable script t other = unless-true (is_endable script t) (λ is. never-both (is_ctx script t) (endable_ctx script t is) other)
 
 -- what is received from is declared
 pub recv-declared : (script : Script) (t : ℕ) → NamesRightly script (Instr.Recv t) → t < length script.decls
-recv-declared script t names = declared_within script t (λ o. names_timer o || names_chan o) refl names
+recv-declared script t names = declared_within script t (λ o. names_timer o || names_chan o || can_end (named_form o)) refl names
 
 pub waits-rightly : (script : Script) (s : State) (m : Schedule) (g t : ℕ) → IsGood script → IsFormed script s → step_of script s m g ≡ Some (Step.Waits t) → WaitsRightly script s g t
 waits-rightly script s m g t good formed h =
@@ -699,12 +682,14 @@ waits-rightly script s m g t good formed h =
           let faultless : fault script s (Instr.Recv t) ≡ None = ap (fault script s) (sym at.is) ∙ q in
           let does : Does script s g (Instr.Recv t) = record { stands = stands; calm = calm-standing script s g (Instr.Recv t) stands faultless } in
           let names : NamesRightly script (Instr.Recv t) = names-Does script s g (Instr.Recv t) good does in
+          let apart = or-false (is_chan script t) (is_ctx script t) at.plain in
           record {
             stands = stands;
-            timer = plain-timer (is_timer script t) (is_chan script t) names at.plain;
-            plain = at.plain;
+            timer = plain-timer (is_timer script t) (is_chan script t) (is_endable script t) names apart.0 (not-endable script t apart.1);
+            plain = apart.0;
+            other = apart.1;
             faultless = faultless;
-            made = made-timer script s t formed at.plain faultless;
+            made = made-timer script s t formed apart.0 apart.1 faultless;
             within = recv-declared script t names;
           }
       | Some reason ↦ λ q k. cc

@@ -12,7 +12,7 @@ use Rattle.gt_model.specs.Tables.{numbered, change_numbered}
 use Rattle.gt_model.proofs.Changes.{length-change_numbered}
 use Rattle.gt_model.proofs.Items.{numbered-change_same, numbered-change_other}
 use Rattle.gt_model.specs.Good.{NamesRightly}
-use Rattle.gt_model.specs.Script.{names_timer, names_chan, names_mutex, names_wg}
+use Rattle.gt_model.specs.Script.{names_timer, names_chan, names_mutex, names_wg, can_end, named_form}
 use Rattle.gt_model.proofs.Declared.{declared_within, chan_declared}
 use Rattle.gt_rules.specs.State.{State, goroutine_at, stands, stands_at}
 use Rattle.gt_rules.specs.Operations.{operation, receives_from, sends_to}
@@ -360,7 +360,7 @@ pub record Chooser (script : Script) (s : State) (m : Schedule) (g : ℕ) (cases
 
 -- the object of an operation is declared
 pub object-declared : (script : Script) (kind : CaseKind) → NamesObject script kind → object_of kind < length script.decls
-object-declared script (CaseKind.Recv o) names = declared_within script o (λ what. (names_timer what || names_chan what) || (names_mutex what || names_wg what)) refl names
+object-declared script (CaseKind.Recv o) names = declared_within script o (λ what. (names_timer what || names_chan what || can_end (named_form what)) || (names_mutex what || names_wg what)) refl names
 object-declared script (CaseKind.Send c v) names = chan_declared script c names
 
 pub declared-cases : (script : Script) (cases : List Case) (default_to : Option ℕ) → NamesRightly script (Instr.Select cases default_to)

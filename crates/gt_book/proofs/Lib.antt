@@ -13,7 +13,11 @@ pub mod Wanting
 pub mod Meeting
 pub mod Woken
 pub mod Waking
+pub mod Runs
+pub mod Noting
+pub mod NotedRuns
 pub mod Broadcasting
+pub mod Scheduled
 pub mod Going
 pub mod Resting
 pub mod Giving
@@ -22,9 +26,13 @@ pub mod Waiting
 pub mod Finding
 pub mod Passing
 pub mod Committing
+pub mod Deadlines
 pub mod Idling
 pub mod Setting
 pub mod Parking
 pub mod Choosing
 pub mod Options
 pub mod Broadcasts
+pub mod Cutting
+pub mod Ending
+pub mod Endings

@@ -11,8 +11,8 @@ use Rattle.gt_model.specs.declared.entry.Entry.{Entry}
 use Rattle.gt_model.specs.declared.entry.Party.{Party}
 use Rattle.gt_model.specs.declared.state.Goroutine.{Goroutine}
 use Rattle.gt_model.specs.declared.state.Mode.{Mode}
-use Rattle.gt_model.specs.Script.{is_timer, is_chan, is_cond, names_timer, capacity_of}
-use Rattle.gt_rules.specs.State.{State, Channel, channel_at, mode_of, stands_at, clock_of, until_of, sleeps_until, suspended_count, item_count, is_open, is_closed}
+use Rattle.gt_model.specs.Script.{is_timer, is_chan, is_cond, names_timer, capacity_of, is_ctx, is_endable}
+use Rattle.gt_rules.specs.State.{State, Channel, channel_at, mode_of, stands_at, clock_of, until_of, sleeps_until, suspended_count, item_count, is_open, is_closed, world_of, has_ended}
 use Rattle.gt_rules.specs.Operations.{operation, offers, polls, receives_from, sends_to}
 use Rattle.gt_rules.specs.Legal.{Operates, Signals, operation_at, is_polling}
 use Rattle.gt_rules.specs.Panics.{fault}
@@ -23,7 +23,7 @@ use Rattle.gt_schedule.specs.declared.status.RunStatus.{RunStatus}
 use Rattle.gt_schedule.specs.Schedule.{Schedule, plainly, at_case, status_of, is_parked, parties_at}
 use Rattle.gt_book.specs.declared.step.Step.{Step}
 use Rattle.gt_book.specs.declared.answers.TimerOp.{TimerOp}
-use Rattle.gt_book.specs.Steps.{partner_in, value_of, plain_step, goes_by, case_step, come_timer, first_step, no_case, step_of_instr}
+use Rattle.gt_book.specs.Steps.{partner_in, value_of, plain_step, goes_by, case_step, come_timer, first_step, no_case, step_of_instr, makes_context, live_deadline, cancels}
 use Rattle.gt_book.specs.View.{Agrees, is_waiting, is_firm_at, is_at, wants, is_parked_at, Fits}
 use Rattle.gt_book.specs.Calm.{IsCalm}
 use Rattle.gt_book.proofs.Fitting.{has_status, first-waiting, first-sending, none-waiting, none-sending}
@@ -35,6 +35,8 @@ use Rattle.gt_facts.specs.Formed.{IsFormed}
 use Rattle.gt_facts.proofs.Suspended.{Waiter, waiter}
 use Rattle.gt_book.proofs.Choosing.{unready-waits, unready-operation, sends-made}
 use Rattle.gt_book.proofs.Firm.{IsOpenChannel, or-false, no-reason, calm-standing, unless-true, never-both}
+use Rattle.gt_rules.specs.Contexts.{made_context}
+use Rattle.gt_model.specs.declared.context.Context.{Context}
 
 -- ---- a step at a channel makes an entry or parks; one at a timer waits
 
@@ -45,7 +47,7 @@ plain-is P makes parks kind None = parks kind
 
 pub recv-is : (P : Step → Type 0) → ((e : Entry) → P (Step.Makes e)) → ((kind : CaseKind) → P (Step.Parks kind)) → ((t : ℕ) → P (Step.Waits t))
     → (script : Script) (s : State) (m : Schedule) (g o : ℕ) → P (step_of_instr script s m g (Instr.Recv o))
-recv-is P makes parks waits script s m g o = by (is_chan script o)
+recv-is P makes parks waits script s m g o = by (is_chan script o || is_ctx script o)
   where
     by : (b : Bool) → P (cond b (plain_step (CaseKind.Recv o) (goes_by script s m (plainly g) (CaseKind.Recv o))) (Step.Waits o))
     by true = plain-is P makes parks (CaseKind.Recv o) (goes_by script s m (plainly g) (CaseKind.Recv o))
@@ -54,6 +56,27 @@ recv-is P makes parks waits script s m g o = by (is_chan script o)
 pub send-is : (P : Step → Type 0) → ((e : Entry) → P (Step.Makes e)) → ((kind : CaseKind) → P (Step.Parks kind))
     → (script : Script) (s : State) (m : Schedule) (g c v : ℕ) → P (step_of_instr script s m g (Instr.Send c v))
 send-is P makes parks script s m g c v = plain-is P makes parks (CaseKind.Send c v) (goes_by script s m (plainly g) (CaseKind.Send c v))
+
+-- a context is made, or needs its record
+pub made-is : (P : Step → Type 0) → ((e : Entry) → P (Step.Makes e)) → ((x due : ℕ) → P (Step.Needs (TimerOp.Deadline x due))) → (g x : ℕ) (r : Context) → P (makes_context g x r)
+made-is P makes needs g x r = by (live_deadline r)
+  where
+    by : (o : Option ℕ) → P (elim o as (λ o. Step) [ None ↦ Step.Makes (Entry.CtxMake g x (is_some r.end)) | Some due ↦ Step.Needs (TimerOp.Deadline x due) ])
+    by None = makes (Entry.CtxMake g x (is_some r.end))
+    by (Some due) = needs x due
+
+pub with-is : (P : Step → Type 0) → ((e : Entry) → P (Step.Makes e)) → ((x due : ℕ) → P (Step.Needs (TimerOp.Deadline x due)))
+    → (script : Script) (s : State) (m : Schedule) (g x : ℕ) → P (step_of_instr script s m g (Instr.With x))
+with-is P makes needs script s m g x = made-is P makes needs g x (made_context script s (world_of s g) x)
+
+-- a context is canceled, or has ended before
+pub cancel-is : (P : Step → Type 0) → ((e : Entry) → P (Step.Makes e)) → ((x : ℕ) → P (Step.Cancels x))
+    → (script : Script) (s : State) (m : Schedule) (g x : ℕ) (cause : Option ℕ) → P (step_of_instr script s m g (Instr.Cancel x cause))
+cancel-is P makes ends script s m g x cause = by (has_ended s x)
+  where
+    by : (b : Bool) → P (cancels g x b)
+    by true = makes (Entry.Cancel g x false 0)
+    by false = ends x
 
 -- a choice makes an entry, polls a timer, or waits
 pub choice-is : (P : Step → Type 0) → ((e : Entry) → P (Step.Makes e)) → ((t : ℕ) → P (Step.Needs (TimerOp.Poll t))) → ((timed : Bool) → P (Step.Chooses timed))
@@ -195,11 +218,12 @@ sender-met script s m q c good formed fits calm chan e =
 
 -- a channel gives values
 chan-gives : (script : Script) (c : ℕ) → IsTrue (is_chan script c) → IsTrue (gives_values script c)
-chan-gives script c chan = either (is_timer script c) (is_chan script c) chan
+chan-gives script c chan = either (is_timer script c) (is_chan script c) (is_endable script c) chan
   where
-    either : (a b : Bool) → b ≡ true → (a || b) ≡ true
-    either true b h = refl
-    either false b h = h
+    either : (a b d : Bool) → b ≡ true → (a || b || d) ≡ true
+    either true b d h = refl
+    either false true d h = refl
+    either false false d h = cc
 
 pub receiver-met : (script : Script) (s : State) (m : Schedule) (q : Party) (c : ℕ) → IsGood script → IsFormed script s → Fits script s m → IsCalm script s m → IsTrue (is_chan script c)
     → partner_in script m.receivers c ≡ Some q → Met script s m q c (CaseKind.Recv c)

@@ -12,7 +12,7 @@ use Rattle.gt_model.specs.declared.entry.Entry.{Entry}
 use Rattle.gt_model.specs.declared.entry.Party.{Party}
 use Rattle.gt_model.specs.Good.{awaits_timer}
 use Rattle.gt_model.specs.Script.{what_at, is_chan, is_timer, names_chan, names_timer, capacity_of}
-use Rattle.gt_rules.specs.State.{State, clock_of, due_of, world_of, items_of, item_count, is_closed, is_locked, is_done}
+use Rattle.gt_rules.specs.State.{State, clock_of, due_of, world_of, items_of, item_count, is_closed, is_locked, is_done, has_ended}
 use Rattle.gt_rules.specs.Operations.{operation}
 use Rattle.gt_rules.specs.Ready.{is_due, is_ready_recv, is_ready_alone, has_partner, has_come, no_timer}
 use Rattle.gt_schedule.specs.Schedule.{Schedule, at_case, object_of}
@@ -70,6 +70,9 @@ recv-not s p timed o (Some (What.Chan cap)) none come =
 recv-not s p timed o (Some What.Mutex) none come = not-cond_none (is_locked s o) (Entry.Lock p.g o) none
 recv-not s p timed o (Some What.Wg) none come = cond-none (is_done s o) (Entry.WgWait p.g o) none
 recv-not s p timed o (Some (What.Cond mutex)) none come = refl
+recv-not s p timed o (Some (What.Ctx parent form)) none come = cond-none (has_ended s o) (Entry.CtxDone p o) none
+recv-not s p timed o (Some (What.Hook ctx func)) none come = refl
+recv-not s p timed o (Some What.Error) none come = refl
 recv-not s p timed o (Some What.Function) none come = refl
 
 pub unready-alone : (script : Script) (s : State) (p : Party) (timed : ℕ → Bool) (kind : CaseKind) → goes_alone script s p kind ≡ None → NotCome script timed kind

@@ -20,7 +20,8 @@ use Rattle.gt_book.specs.View.{BookView, outcome_of}
 use Rattle.gt_book.specs.Book.{seen, IsKept}
 use Rattle.gt_book.proofs.Calm.{CanPark, calm-parked_at, calm-parked_cases}
 use Rattle.gt_book.proofs.Fitting.{fits-parked_at, fits-parked_cases}
-use Rattle.gt_book.proofs.Going.{makes-may, makes-served, waits-parks, with_scheduler, kept-scheduled}
+use Rattle.gt_book.proofs.Going.{makes-may, makes-served, waits-parks}
+use Rattle.gt_book.proofs.Scheduled.{with_scheduler, kept-scheduled}
 use Rattle.gt_book.proofs.Resting.{CanChoose, parks-rightly, chooses-rightly, operates-declared}
 
 -- ---- it makes its entry

@@ -11,7 +11,7 @@ use Rattle.gt_model.specs.declared.state.Goroutine.{Goroutine}
 use Rattle.gt_model.specs.declared.state.Mode.{Mode}
 use Rattle.gt_model.specs.Tables.{change_numbered}
 use Rattle.gt_model.specs.Good.{IsGood, NamesRightly}
-use Rattle.gt_model.specs.Script.{instr_at, what_at, mutex_of, is_cond, names_timer, names_chan, names_mutex, names_wg, names_cond}
+use Rattle.gt_model.specs.Script.{instr_at, what_at, mutex_of, is_cond, names_timer, names_chan, names_mutex, names_wg, names_cond, can_end, named_form}
 use Rattle.gt_model.proofs.Declared.{cond_declared, mutex_declared}
 use Rattle.gt_model.proofs.Changes.{length-change_numbered}
 use Rattle.gt_model.proofs.Items.{numbered-change_same, numbered-change_other, HasNumber}
@@ -195,7 +195,7 @@ fits-relocked script s m g k good conds fits waits =
 -- ---- who stands in the list of a Cond
 
 -- nobody operates at a Cond, and it is no mutex
-no-object : (w : Option What) → IsTrue ((names_timer w || names_chan w) || (names_mutex w || names_wg w)) → IsTrue (names_cond w) → ⊥
+no-object : (w : Option What) → IsTrue ((names_timer w || names_chan w || can_end (named_form w)) || (names_mutex w || names_wg w)) → IsTrue (names_cond w) → ⊥
 no-object (Some (What.Cond mutex)) h cond = cc
 no-object _ h cond = cc
 

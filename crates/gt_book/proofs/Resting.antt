@@ -1,5 +1,5 @@
 -- What a step of a goroutine in hand has met that waits at a channel, a mutex or a WaitGroup, or at a choice: nobody lets it go on, and its object is ready by no other cause.
-use Rattle.std.proofs.Common.{◌≡◌, ℕ, ◌+◌, ◌<◌, cond, List, [], ◌∷◌, refl, ap, subst, ◌∙◌, Option, None, Some, length, is_some, Bool, true, false, IsTrue, zero, suc}
+use Rattle.std.proofs.Common.{◌≡◌, ℕ, ◌+◌, ◌<◌, cond, List, [], ◌∷◌, refl, ap, subst, ◌∙◌, Option, None, Some, length, is_some, Bool, true, false, IsTrue, zero, suc, ◌||◌}
 use Rattle.std.specs.List.{AllByRecursion, list_any}
 use Rattle.std.proofs.lemmas.List.Elements.{recursion_from_All}
 use Rattle.gt_model.specs.declared.script.Script.{Script}
@@ -8,7 +8,7 @@ use Rattle.gt_model.specs.declared.script.CaseKind.{CaseKind}
 use Rattle.gt_model.specs.declared.script.Case.{Case}
 use Rattle.gt_model.specs.declared.entry.Entry.{Entry}
 use Rattle.gt_rules.specs.State.{State, stands, stands_at, clock_of}
-use Rattle.gt_model.specs.Script.{is_chan}
+use Rattle.gt_model.specs.Script.{is_chan, is_ctx}
 use Rattle.gt_model.proofs.Declared.{chan_declared, mutex_declared, wg_declared}
 use Rattle.gt_rules.specs.Panics.{fault}
 use Rattle.gt_model.specs.Good.{IsGood, IsGoodChoice, NamesRightly, OperatesRightly}
@@ -23,7 +23,7 @@ use Rattle.gt_book.proofs.Firm.{both-false, calm-standing}
 use Rattle.gt_book.proofs.Options.{ChoiceIs, NoneGoes, case_goes, case_polls, all_rest, all_wait, choice-so, or-none, unready-alone, never-come, meets-nobody}
 use Rattle.gt_rules.specs.Operations.{operation}
 use Rattle.gt_rules.specs.Ready.{no_timer, is_ready_alone, is_ready_case}
-use Rattle.gt_book.proofs.Meeting.{plain-is, recv-is, send-is, choice-is}
+use Rattle.gt_book.proofs.Meeting.{plain-is, recv-is, send-is, choice-is, with-is, cancel-is}
 use Rattle.gt_book.proofs.Going.{IsStep, step-is, recv-declared}
 
 -- ---- who waits at a channel, a mutex or a WaitGroup
@@ -49,7 +49,7 @@ module _ (script : Script) (s : State) (m : Schedule) (g : ℕ) (good : IsGood s
   parks-instr : (i : Instr) (kind : CaseKind) → stands_at script s g ≡ Some i → fault script s i ≡ None → step_of_instr script s m g i ≡ Step.Parks kind → CanPark script s m g kind
   parks-instr (Instr.Recv o) kind stands none h =
       let names : NamesRightly script (Instr.Recv o) = names-Does script s g (Instr.Recv o) good (record { stands = stands; calm = calm-standing script s g (Instr.Recv o) stands none }) in
-      elim (is_chan script o)
+      elim (is_chan script o || is_ctx script o)
       as (λ b. cond b (plain_step (CaseKind.Recv o) (goes_by script s m (plainly g) (CaseKind.Recv o))) (Step.Waits o) ≡ Step.Parks kind → CanPark script s m g kind) [
         | true ↦ λ k. parks-by (CaseKind.Recv o) kind (Instr.Recv o) refl stands none (recv-declared script o names) k
         | false ↦ λ k. cc
@@ -67,6 +67,8 @@ module _ (script : Script) (s : State) (m : Schedule) (g : ℕ) (good : IsGood s
       parks-by (CaseKind.Recv w) kind (Instr.Wait w) refl stands none (wg_declared script w names) h
   parks-instr (Instr.Sleep zero) kind stands none h = cc
   parks-instr (Instr.Sleep (suc d)) kind stands none h = cc
+  parks-instr (Instr.With x) kind stands none h = absurd (with-is (λ step. step ≡ Step.Parks kind → ⊥) (λ e q. cc) (λ x due q. cc) script s m g x h)
+  parks-instr (Instr.Cancel x cause) kind stands none h = absurd (cancel-is (λ step. step ≡ Step.Parks kind → ⊥) (λ e q. cc) (λ x q. cc) script s m g x cause h)
   parks-instr i kind stands none h = cc
 
 pub parks-rightly : (script : Script) (s : State) (m : Schedule) (g : ℕ) (kind : CaseKind) → IsGood script → Fits script s m → status_of m g ≡ Some RunStatus.InHand
@@ -138,6 +140,8 @@ module _ (script : Script) (s : State) (m : Schedule) (g : ℕ) (good : IsGood s
   chooses-instr (Instr.Wait w) timed stands none h = absurd (plain-is (λ step. step ≡ Step.Chooses timed → ⊥) (λ e q. cc) (λ kind q. cc) (CaseKind.Recv w) (goes_by script s m (plainly g) (CaseKind.Recv w)) h)
   chooses-instr (Instr.Sleep zero) timed stands none h = cc
   chooses-instr (Instr.Sleep (suc d)) timed stands none h = cc
+  chooses-instr (Instr.With x) timed stands none h = absurd (with-is (λ step. step ≡ Step.Chooses timed → ⊥) (λ e q. cc) (λ x due q. cc) script s m g x h)
+  chooses-instr (Instr.Cancel x cause) timed stands none h = absurd (cancel-is (λ step. step ≡ Step.Chooses timed → ⊥) (λ e q. cc) (λ x q. cc) script s m g x cause h)
   chooses-instr i timed stands none h = cc
 
 pub chooses-rightly : (script : Script) (s : State) (m : Schedule) (g : ℕ) → IsGood script → Fits script s m → IsTrue (chooses (step_of script s m g)) → CanChoose script s m g
@@ -162,4 +166,5 @@ chooses-rightly script s m g good fits h =
     by (Step.Parks kind) e k = cc
     by (Step.Needs op) e k = cc
     by (Step.Broadcasts c) e k = cc
+    by (Step.Cancels x) e k = cc
     by Step.Nowhere e k = cc

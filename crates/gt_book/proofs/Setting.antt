@@ -12,7 +12,7 @@ use Rattle.gt_rules.specs.Panics.{fault}
 use Rattle.gt_schedule.specs.declared.status.Ticket.{Ticket}
 use Rattle.gt_schedule.specs.Schedule.{Schedule, plainly, parked_at, parked_cases, ticket_of}
 use Rattle.gt_book.specs.Steps.{Does, Steps, cases_of, goes_by, set_instr, step_of, step_of_instr, step_or_panic}
-use Rattle.gt_book.proofs.Meeting.{plain-is, recv-is, send-is, choice-is}
+use Rattle.gt_book.proofs.Meeting.{plain-is, recv-is, send-is, choice-is, with-is, cancel-is}
 use Rattle.gt_book.proofs.Going.{IsStep, step-is}
 use Rattle.gt_book.specs.View.{BookView, outcome_of, with_schedule}
 
@@ -28,6 +28,7 @@ is_enrolled (TimerOp.Set t d anew) = false
 is_enrolled (TimerOp.Stop t) = false
 is_enrolled (TimerOp.Sleep d) = false
 is_enrolled (TimerOp.Poll t) = false
+is_enrolled (TimerOp.Deadline x due) = false
 
 true-false : (b : Bool) → b ≡ true → b ≡ false → ⊥
 true-false true e h = cc
@@ -40,6 +41,7 @@ pub record NeedsOnly (old : BookView) (g : ℕ) (op : TimerOp) (new : BookView) 
 
 does-timer : (old : BookView) (g : ℕ) (step : Step) (new : BookView) (op : TimerOp) → step_of old.script old.state old.schedule g ≡ Some step → is_enrolled op ≡ false → Does old g step new (Did.Timer op) → NeedsOnly old g op new
 does-timer old g (Step.Makes e) new op is other h = absurd (entered-no_timer (outcome_of new) op h.1)
+does-timer old g (Step.Cancels x) new op is other h = absurd (entered-no_timer (outcome_of new) op h.1)
 does-timer old g (Step.Broadcasts k) new op is other h = absurd (entered-no_timer (outcome_of new) op h.1)
 does-timer old g (Step.Waits t) new op is other h =
     let answer : Did.Timer op ≡ Did.Timer (TimerOp.Enrolled (ticket_of old.schedule g)) = h.1 in
@@ -95,6 +97,8 @@ none-enrolled script s m g (Instr.Select cases default_to) =
     choice-is (λ step. needs_enrolled step ≡ false) (λ e. refl) (λ t. refl) (λ timed. refl) script s m g cases default_to
 none-enrolled script s m g (Instr.Lock k) = plain-is (λ step. needs_enrolled step ≡ false) (λ e. refl) (λ kind. refl) (CaseKind.Recv k) (goes_by script s m (plainly g) (CaseKind.Recv k))
 none-enrolled script s m g (Instr.Wait w) = plain-is (λ step. needs_enrolled step ≡ false) (λ e. refl) (λ kind. refl) (CaseKind.Recv w) (goes_by script s m (plainly g) (CaseKind.Recv w))
+none-enrolled script s m g (Instr.With x) = with-is (λ step. needs_enrolled step ≡ false) (λ e. refl) (λ x due. refl) script s m g x
+none-enrolled script s m g (Instr.Cancel x cause) = cancel-is (λ step. needs_enrolled step ≡ false) (λ e. refl) (λ x. refl) script s m g x cause
 none-enrolled script s m g _ = refl
 
 asks-not_enrolled : (script : Script) (s : State) (m : Schedule) (g : ℕ) (i : Instr) (op : TimerOp) → step_of_instr script s m g i ≡ Step.Needs op → is_enrolled op ≡ false
@@ -114,6 +118,8 @@ same-instr script s m g (Instr.Select cases default_to) =
     choice-is (λ step. asked_by (Instr.Select cases default_to) step ≡ Instr.Select cases default_to) (λ e. refl) (λ t. refl) (λ timed. refl) script s m g cases default_to
 same-instr script s m g (Instr.Lock k) = plain-is (λ step. asked_by (Instr.Lock k) step ≡ Instr.Lock k) (λ e. refl) (λ kind. refl) (CaseKind.Recv k) (goes_by script s m (plainly g) (CaseKind.Recv k))
 same-instr script s m g (Instr.Wait w) = plain-is (λ step. asked_by (Instr.Wait w) step ≡ Instr.Wait w) (λ e. refl) (λ kind. refl) (CaseKind.Recv w) (goes_by script s m (plainly g) (CaseKind.Recv w))
+same-instr script s m g (Instr.With x) = with-is (λ step. asked_by (Instr.With x) step ≡ Instr.With x) (λ e. refl) (λ x due. refl) script s m g x
+same-instr script s m g (Instr.Cancel x cause) = cancel-is (λ step. asked_by (Instr.Cancel x cause) step ≡ Instr.Cancel x cause) (λ e. refl) (λ x. refl) script s m g x cause
 same-instr script s m g _ = refl
 
 pub instr-set : (script : Script) (s : State) (m : Schedule) (g t d : ℕ) (anew : Bool) (i : Instr) → step_of_instr script s m g i ≡ Step.Needs (TimerOp.Set t d anew) → i ≡ set_instr t d anew
@@ -130,6 +136,7 @@ needs-not_enrolled old g op h =
 does-enrolled : (old : BookView) (g : ℕ) (step : Step) (new : BookView) (ticket : Ticket) → step_of old.script old.state old.schedule g ≡ Some step
     → Does old g step new (Did.Timer (TimerOp.Enrolled ticket)) → ParksUnder old g ticket new
 does-enrolled old g (Step.Makes e) new ticket is h = absurd (entered-no_timer (outcome_of new) (TimerOp.Enrolled ticket) h.1)
+does-enrolled old g (Step.Cancels x) new ticket is h = absurd (entered-no_timer (outcome_of new) (TimerOp.Enrolled ticket) h.1)
 does-enrolled old g (Step.Broadcasts k) new ticket is h = absurd (entered-no_timer (outcome_of new) (TimerOp.Enrolled ticket) h.1)
 does-enrolled old g (Step.Waits t) new ticket is h =
     let answer : Did.Timer (TimerOp.Enrolled ticket) ≡ Did.Timer (TimerOp.Enrolled (ticket_of old.schedule g)) = h.1 in

@@ -1,5 +1,5 @@
--- What was made stays made when an entry comes, what was closed stays closed, and the channels, locks and counters that it does not change stay as they are.
-use Rattle.std.proofs.Common.{◌≡◌, ◌≢◌, ℕ, zero, suc, ◌<◌, List, [], ◌∷◌, ◌++◌, length, drop, set, slice_index_or, eqb, refl, sym, ap, subst, ◌∙◌, Option, None, Some, Bool, true, false, ◌||◌, is_some, IfSome, IsTrue}
+-- What was made stays made when an entry comes, what was closed stays closed, and the channels, locks, counters and ends of contexts that it does not change stay as they are.
+use Rattle.std.proofs.Common.{◌≡◌, ◌≢◌, ℕ, zero, suc, ◌<◌, List, [], ◌∷◌, ◌++◌, length, drop, set, slice_index_or, eqb, refl, sym, ap, subst, ◌∙◌, Option, None, Some, Bool, true, false, cond, option_map, ◌||◌, is_some, IfSome, IsTrue}
 use Rattle.std.proofs.lemmas.Bool.{eqb-false}
 use Rattle.gt_model.specs.declared.script.Script.{Script}
 use Rattle.gt_model.specs.declared.script.Instr.{Instr}
@@ -10,9 +10,9 @@ use Rattle.gt_model.specs.Good.{IsGood}
 use Rattle.gt_model.specs.declared.state.SyncState.{SyncState}
 use Rattle.gt_model.specs.Script.{is_cond, mutex_of}
 use Rattle.gt_model.specs.Tables.{at, change}
-use Rattle.gt_model.proofs.Declared.{chan_declared, mutex_declared, wg_declared}
-use Rattle.gt_rules.specs.State.{State, Channel, channel_at, sync_at, is_closed, unused, world_of}
-use Rattle.gt_rules.specs.After.{after, set_due, set_again, with_retimed, with_traded, with_stepped, with_items, with_lock, owned, shut, stepped, traded, number_of}
+use Rattle.gt_model.proofs.Declared.{chan_declared, mutex_declared, wg_declared, ctx_declared}
+use Rattle.gt_rules.specs.State.{State, Channel, channel_at, sync_at, is_closed, unused, world_of, context_at, has_ended}
+use Rattle.gt_rules.specs.After.{after, set_due, set_again, with_retimed, with_traded, with_stepped, with_items, with_lock, owned, shut, stepped, traded, number_of, with_grown}
 use Rattle.gt_rules.specs.Change.{Change, change_of}
 use Rattle.gt_rules.specs.Legal.{May}
 use Rattle.gt_rules.specs.declared.change.Move.{Move}
@@ -25,6 +25,12 @@ use Rattle.gt_facts.proofs.Within.{mutex_of-is, relocking-cond}
 use Rattle.gt_facts.specs.Formed.{IsFormed}
 use Rattle.gt_book.specs.Woken.{stepped_object, signalled_for, changed_object}
 use Rattle.gt_book.proofs.Firm.{Stays, never-both, shut_in, or-false, both-false}
+use Rattle.gt_rules.specs.Contexts.{is_reached, ended_by}
+use Rattle.gt_rules.specs.declared.change.TreeStep.{TreeStep}
+use Rattle.gt_model.specs.declared.context.Context.{Context}
+use Rattle.gt_model.specs.declared.context.End.{End}
+use Rattle.gt_facts.proofs.Contexts.{at-cut}
+use Rattle.gt_machine.specs.Machine.{is_cut}
 
 -- ---- one item of a list changes
 
@@ -98,12 +104,27 @@ abbrev pub is_step : Script → Option (ℕ × SyncStep) → ℕ → Bool
 is_step script None o = false
 is_step script (Some x) o = eqb o (stepped_object script x.0 x.1)
 
--- whether a change is of a channel, or of a mutex or a WaitGroup
-abbrev pub alters : Script → Change → ℕ → Bool
-alters script c o = is_of c.channel o || is_step script c.sync o
+-- whether a context may end by a change: one that is made may have ended at once, and an end reaches others
+abbrev pub is_grown : Option (ℕ × TreeStep) → ℕ → Bool
+is_grown None o = false
+is_grown (Some x) o = elim x.1 [
+  | TreeStep.Derived ↦ eqb o x.0
+  | TreeStep.Canceled ↦ true
+  | TreeStep.Expired ↦ true
+  | TreeStep.Registered ↦ false
+  | TreeStep.Unhooked ↦ false
+]
 
-apart-first : (o c d : ℕ) → Some c ≡ Some d → eqb o d ≡ false → (eqb o c || false) ≡ false
-apart-first o c d is apart = let same : c ≡ d = cc in both-false (eqb o c) false (subst (λ d. eqb o d ≡ false) (sym same) apart) refl
+-- whether a change is of a channel, of a mutex or a WaitGroup, or of the end of a context
+abbrev pub alters : Script → Change → ℕ → Bool
+alters script c o = is_of c.channel o || is_step script c.sync o || is_grown c.tree o
+
+apart-first : (o c d : ℕ) → Some c ≡ Some d → eqb o d ≡ false → ((eqb o c || false) || false) ≡ false
+apart-first o c d is apart =
+    let same : c ≡ d = cc in both-false (eqb o c || false) false (both-false (eqb o c) false (subst (λ d. eqb o d ≡ false) (sym same) apart) refl) refl
+
+apart-step : (o c d : ℕ) → Some c ≡ Some d → eqb o d ≡ false → (eqb o c || false) ≡ false
+apart-step o c d is apart = let same : c ≡ d = cc in both-false (eqb o c) false (subst (λ d. eqb o d ≡ false) (sym same) apart) refl
 
 apart-second : (o c d : ℕ) → Some c ≡ Some d → eqb o d ≡ false → eqb o c ≡ false
 apart-second o c d is apart = let same : c ≡ d = cc in subst (λ d. eqb o d ≡ false) (sym same) apart
@@ -115,25 +136,33 @@ alters-one script (Entry.Send p c v) d is o apart = apart-first o c d is apart
 alters-one script (Entry.Recv p c None) d is o apart = refl
 alters-one script (Entry.Recv p c (Some v)) d is o apart = apart-first o c d is apart
 alters-one script (Entry.Close g c) d is o apart = apart-first o c d is apart
-alters-one script (Entry.Lock g m) d is o apart = apart-second o m d is apart
-alters-one script (Entry.Unlock g m) d is o apart = apart-second o m d is apart
-alters-one script (Entry.CondWait g k) d is o apart = apart-second o (mutex_of script k) d is apart
-alters-one script (Entry.CondWake g k) d is o apart = apart-second o (mutex_of script k) d is apart
-alters-one script (Entry.Add g w n) d is o apart = apart-second o w d is apart
+alters-one script (Entry.Lock g m) d is o apart = apart-step o m d is apart
+alters-one script (Entry.Unlock g m) d is o apart = apart-step o m d is apart
+alters-one script (Entry.CondWait g k) d is o apart = apart-step o (mutex_of script k) d is apart
+alters-one script (Entry.CondWake g k) d is o apart = apart-step o (mutex_of script k) d is apart
+alters-one script (Entry.Add g w n) d is o apart = apart-step o w d is apart
+alters-one script (Entry.CtxMake g x ended) d is o apart = apart-second o x d is apart
+alters-one script (Entry.Cancel g x true starts) d is o apart = cc
+alters-one script (Entry.Cancel g x false starts) d is o apart = cc
+alters-one script (Entry.Expire x starts) d is o apart = cc
 alters-one script _ d is o apart = refl
 
-pub alters-none : (script : Script) (e : Entry) → changed_object script (change_of e) ≡ None → (o : ℕ) → alters script (change_of e) o ≡ false
-alters-none script (Entry.Make g c) none o = cc
-alters-none script (Entry.Send p c v) none o = cc
-alters-none script (Entry.Recv p c None) none o = refl
-alters-none script (Entry.Recv p c (Some v)) none o = cc
-alters-none script (Entry.Close g c) none o = cc
-alters-none script (Entry.Lock g m) none o = cc
-alters-none script (Entry.Unlock g m) none o = cc
-alters-none script (Entry.CondWait g k) none o = cc
-alters-none script (Entry.CondWake g k) none o = cc
-alters-none script (Entry.Add g w n) none o = cc
-alters-none script _ none o = refl
+pub alters-none : (script : Script) (e : Entry) → changed_object script (change_of e) ≡ None → is_cut (change_of e).tree ≡ false → (o : ℕ) → alters script (change_of e) o ≡ false
+alters-none script (Entry.Make g c) none uncut o = cc
+alters-none script (Entry.Send p c v) none uncut o = cc
+alters-none script (Entry.Recv p c None) none uncut o = refl
+alters-none script (Entry.Recv p c (Some v)) none uncut o = cc
+alters-none script (Entry.Close g c) none uncut o = cc
+alters-none script (Entry.Lock g m) none uncut o = cc
+alters-none script (Entry.Unlock g m) none uncut o = cc
+alters-none script (Entry.CondWait g k) none uncut o = cc
+alters-none script (Entry.CondWake g k) none uncut o = cc
+alters-none script (Entry.Add g w n) none uncut o = cc
+alters-none script (Entry.CtxMake g x ended) none uncut o = cc
+alters-none script (Entry.Cancel g x true starts) none uncut o = cc
+alters-none script (Entry.Cancel g x false starts) none uncut o = refl
+alters-none script (Entry.Expire x starts) none uncut o = cc
+alters-none script _ none uncut o = refl
 
 -- and who is signalled waits for it
 pub signals-none : (script : Script) (e : Entry) → signalled_for script (change_of e).mover ≡ None
@@ -172,6 +201,9 @@ altered-declared script s (Entry.CondWake g k) d good formed may is = cond-decla
 altered-declared script s (Entry.Signal g k None) d good formed may is = cc
 altered-declared script s (Entry.Signal g k (Some h)) d good formed may is = cond-declared script k d good (names-Does script s g (Instr.Signal k) good may.0) is
 altered-declared script s (Entry.Broadcast g k count) d good formed may is = cond-declared script k d good (names-Does script s g (Instr.Broadcast k) good may.0) is
+altered-declared script s (Entry.CtxMake g x ended) d good formed may is = here-declared script x d (ctx_declared script x (names-Does script s g (Instr.With x) good may.0)) is
+altered-declared script s (Entry.Cancel g x true starts) d good formed may is = cc
+altered-declared script s (Entry.Cancel g x false starts) d good formed may is = cc
 altered-declared script s (Entry.Add g w n) d good formed may is = here-declared script w d (wg_declared script w (names-Does script s g (Instr.Add w n) good may).0) is
 altered-declared script s _ d good formed may is = cc
 
@@ -240,6 +272,41 @@ same-stepped P script s mover None u keeps h = refl
 same-stepped P script s mover (Some x) u keeps h =
     same-step P script (world_of s (number_of mover)) s.syncs x.0 u x.1 keeps (eqb-false u (stepped_object script x.0 x.1) h)
 
+-- ---- contexts
+
+abbrev pub ended_in : Option Context → Bool
+ended_in o = is_some (elim o as (λ o. Option End) [ None ↦ None | Some r ↦ r.end ])
+
+cut-made : (b : Bool) (end : End) (o : Option Context) → is_some o ≡ true → is_some (cond b (option_map (ended_by end) o) o) ≡ true
+cut-made b end None h = cc
+cut-made true end (Some r) h = refl
+cut-made false end (Some r) h = refl
+
+made-grown : (script : Script) (s : State) (mover : Option (ℕ × Move)) (c : Option (ℕ × TreeStep)) (u : ℕ) → is_some (context_at s u) ≡ true
+    → is_some (at (with_grown script s mover c) u) ≡ true
+made-grown script s mover None u h = h
+made-grown script s mover (Some (x, TreeStep.Derived)) u h = at-set s.contexts x u _ h
+made-grown script s mover (Some (x, TreeStep.Canceled)) u h = ap is_some (at-cut script s x _ u) ∙ cut-made (is_reached script s x u) _ (context_at s u) h
+made-grown script s mover (Some (x, TreeStep.Expired)) u h = ap is_some (at-cut script s x _ u) ∙ cut-made (is_reached script s x u) _ (context_at s u) h
+made-grown script s mover (Some (x, TreeStep.Registered)) u h = h
+made-grown script s mover (Some (x, TreeStep.Unhooked)) u h = h
+
+set-other : {X : Type 0} (xs : List (Option X)) (t u : ℕ) (o : Option X) → u ≢ t → at (set xs t o) u ≡ at xs u
+set-other [] t u o n = refl
+set-other (y ∷ xs) zero zero o n = absurd (n refl)
+set-other (y ∷ xs) zero (suc u) o n = refl
+set-other (y ∷ xs) (suc t) zero o n = refl
+set-other (y ∷ xs) (suc t) (suc u) o n = set-other xs t u o (λ e. n (ap suc e))
+
+same-grown : (script : Script) (s : State) (mover : Option (ℕ × Move)) (c : Option (ℕ × TreeStep)) (u : ℕ) → is_grown c u ≡ false
+    → ended_in (at (with_grown script s mover c) u) ≡ has_ended s u
+same-grown script s mover None u h = refl
+same-grown script s mover (Some (x, TreeStep.Derived)) u h = ap ended_in (set-other s.contexts x u _ (eqb-false u x h))
+same-grown script s mover (Some (x, TreeStep.Canceled)) u h = cc
+same-grown script s mover (Some (x, TreeStep.Expired)) u h = cc
+same-grown script s mover (Some (x, TreeStep.Registered)) u h = refl
+same-grown script s mover (Some (x, TreeStep.Unhooked)) u h = refl
+
 -- ---- every entry
 
 pub stays-May : (script : Script) (s : State) (e : Entry) → IsGood script → May script s e → Stays s (after script s e) (alters script (change_of e))
@@ -250,10 +317,16 @@ stays-May script s e good may = record {
   same = λ u h. same-traded s (change_of e).mover (change_of e).channel u (apart script e u h).0;
   locks = λ u h. same-stepped (λ (y : SyncState). y.locked) script s (change_of e).mover (change_of e).sync u (λ v y. refl) (apart script e u h).1;
   counters = λ u h. same-stepped (λ (y : SyncState). y.counter) script s (change_of e).mover (change_of e).sync u (λ v y. refl) (apart script e u h).1;
+  contexts = made-grown script s (change_of e).mover (change_of e).tree;
+  ends = λ u h. same-grown script s (change_of e).mover (change_of e).tree u (apart script e u h).2;
 }
   where
-    apart : (script : Script) (e : Entry) (u : ℕ) → alters script (change_of e) u ≡ false → (is_of (change_of e).channel u ≡ false) × (is_step script (change_of e).sync u ≡ false)
-    apart script e u h = or-false (is_of (change_of e).channel u) (is_step script (change_of e).sync u) h
+    apart : (script : Script) (e : Entry) (u : ℕ) → alters script (change_of e) u ≡ false
+        → (is_of (change_of e).channel u ≡ false) × (is_step script (change_of e).sync u ≡ false) × (is_grown (change_of e).tree u ≡ false)
+    apart script e u h =
+        let parts = or-false (is_of (change_of e).channel u || is_step script (change_of e).sync u) (is_grown (change_of e).tree u) h in
+        let both = or-false (is_of (change_of e).channel u) (is_step script (change_of e).sync u) parts.0 in
+        (both.0, both.1, parts.1)
 
 pub stays-wider : (s next : State) (x y : ℕ → Bool) → ((o : ℕ) → y o ≡ false → x o ≡ false) → Stays s next x → Stays s next y
 stays-wider s next x y wider stays = record {
@@ -263,7 +336,9 @@ stays-wider s next x y wider stays = record {
   same = λ c h. stays.same c (wider c h);
   locks = λ o h. stays.locks o (wider o h);
   counters = λ o h. stays.counters o (wider o h);
+  contexts = stays.contexts;
+  ends = λ o h. stays.ends o (wider o h);
 }
 
 pub stays-same : (s : State) (y : ℕ → Bool) → Stays s s y
-stays-same s y = record { timers = λ t h. h; made = λ c h. h; closed = λ c h. h; same = λ c h. refl; locks = λ o h. refl; counters = λ o h. refl }
+stays-same s y = record { timers = λ t h. h; made = λ c h. h; closed = λ c h. h; same = λ c h. refl; locks = λ o h. refl; counters = λ o h. refl; contexts = λ x h. h; ends = λ x h. refl }

@@ -183,6 +183,8 @@ fits-begins script s next m r fits is agrees =
 started-at : (script : Script) (s : State) (x : Start) → Agrees (started_by script s x).mode RunStatus.Queued
 started-at script s (Start.ByGoroutine g f) = tt
 started-at script s (Start.ByTimer t) = tt
+started-at script s (Start.ByHook h) = tt
+started-at script s (Start.ByEnd x i) = tt
 
 fits-begun : (script : Script) (s : State) (gs : List Goroutine) (m : Schedule) (starts : List Start) → Fits script (with_goroutines s gs) m
     → Fits script (with_goroutines s (with_starts script s gs starts)) (begun_by m starts)

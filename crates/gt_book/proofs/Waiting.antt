@@ -1,5 +1,5 @@
 -- Where the time of a record comes from: from the sleep of a goroutine, from a timer at whose receive one stands, or from an AfterFunc timer.
-use Rattle.std.proofs.Common.{◌≡◌, ℕ, zero, suc, ◌+◌, ◌-◌, ◌<◌, ◌≤◌, ◌==◌, cond, List, [], ◌∷◌, length, slice_get, refl, sym, ap, ◌∙◌, arith, Option, None, Some, Bool, true, false, ◌&&◌, ◌||◌, eq-eqb}
+use Rattle.std.proofs.Common.{◌≡◌, ℕ, zero, suc, ◌+◌, ◌-◌, ◌<◌, ◌≤◌, ◌==◌, cond, List, [], ◌∷◌, length, slice_get, refl, sym, ap, subst, ◌∙◌, arith, Option, None, Some, Bool, true, false, IsTrue, inl, inr, ◌&&◌, ◌||◌, eq-eqb}
 use Rattle.std.specs.Option.{option_map}
 use Rattle.std.specs.List.{list_any}
 use Rattle.std.proofs.lemmas.Bool.{lt-ltb, le-ltb}
@@ -13,13 +13,15 @@ use Rattle.gt_model.specs.declared.state.Goroutine.{Goroutine}
 use Rattle.gt_model.specs.declared.state.Timer.{Timer}
 use Rattle.gt_model.specs.Good.{IsGood}
 use Rattle.gt_model.specs.Tables.{numbered}
-use Rattle.gt_model.specs.Script.{what_at, is_func, names_func, names_timer, names_chan, names_mutex, names_wg}
-use Rattle.gt_rules.specs.State.{State, goroutine_at, timer_at, stands, stands_at, until_of, sleeps_until, due_of}
+use Rattle.gt_model.specs.Script.{what_at, is_func, names_func, names_timer, names_chan, names_mutex, names_wg, names_ctx, can_end, named_form}
+use Rattle.gt_rules.specs.State.{State, goroutine_at, timer_at, context_at, stands, stands_at, until_of, sleeps_until, due_of}
 use Rattle.gt_rules.specs.Operations.{receives_from, offers}
-use Rattle.gt_rules.specs.Counted.{sleep_of, awaits, is_awaited, counted_timer}
+use Rattle.gt_rules.specs.Counted.{awaits, is_awaited, counted_timer, deadline_in}
 use Rattle.gt_facts.specs.Formed.{IsFormed}
 use Rattle.gt_facts.proofs.Lookups.{any-numbered, ReceivesFrom, receives-recv, names-instr_at, names-operation, Standing, standing}
-use Rattle.gt_book.specs.Least.{counted_of}
+use Rattle.gt_book.specs.Least.{sleep_in, CountsBy, IsCountedBy}
+use Rattle.gt_model.specs.declared.context.Context.{Context}
+use Rattle.gt_model.proofs.Declared.{ctx_declared}
 
 -- ---- both sides of a test
 
@@ -97,14 +99,22 @@ named-within script id P none e =
     both true e h = cc
     both false e h = cc
 
-pub counted-declared : (script : Script) (s : State) (id : ℕ) → id < length script.decls → counted_of script s id ≡ counted_timer script s 0 (id, timer_at s id)
-counted-declared script s id h =
-    ap (λ b. cond b (counted_timer script s 0 (id, timer_at s id)) (elim (goroutine_at s (id - length script.decls)) as (λ _. Option ℕ) [ None ↦ None | Some r ↦ sleep_of 0 r ])) (lt-ltb id (length script.decls) h)
+-- the record of a declaration shows when a timer is due that counts, and the deadline of a context
+pub timer-counted : (script : Script) (s : State) (id w : ℕ) → id < length script.decls → counted_timer script s 0 (id, timer_at s id) ≡ Some w → IsCountedBy script s id w
+timer-counted script s id w h e = subst (CountsBy script s id w) (sym (lt-ltb id (length script.decls) h)) (inl e)
 
-pub counted-slept : (script : Script) (s : State) (id : ℕ) → length script.decls ≤ id
-    → counted_of script s id ≡ (elim (goroutine_at s (id - length script.decls)) as (λ _. Option ℕ) [ None ↦ None | Some r ↦ sleep_of 0 r ])
-counted-slept script s id h =
-    ap (λ b. cond b (counted_timer script s 0 (id, timer_at s id)) (elim (goroutine_at s (id - length script.decls)) as (λ _. Option ℕ) [ None ↦ None | Some r ↦ sleep_of 0 r ])) (le-ltb id (length script.decls) h)
+pub deadline-counted : (script : Script) (s : State) (id w : ℕ) → id < length script.decls → deadline_in 0 (context_at s id) ≡ Some w → IsCountedBy script s id w
+deadline-counted script s id w h e = subst (CountsBy script s id w) (sym (lt-ltb id (length script.decls) h)) (inr e)
+
+pub sleep-counted : (script : Script) (s : State) (id w : ℕ) → length script.decls ≤ id → sleep_in (goroutine_at s (id - length script.decls)) ≡ Some w → IsCountedBy script s id w
+sleep-counted script s id w h e = subst (CountsBy script s id w) (sym (le-ltb id (length script.decls) h)) e
+
+-- and the other way round
+pub counted-declared : (script : Script) (s : State) (id w : ℕ) → id < length script.decls → IsCountedBy script s id w → CountsBy script s id w true
+counted-declared script s id w h e = subst (CountsBy script s id w) (lt-ltb id (length script.decls) h) e
+
+pub counted-slept : (script : Script) (s : State) (id w : ℕ) → length script.decls ≤ id → IsCountedBy script s id w → CountsBy script s id w false
+counted-slept script s id w h e = subst (CountsBy script s id w) (le-ltb id (length script.decls) h) e
 
 -- a timer that counts is due then
 pub timer-counts : (script : Script) (s : State) (id w : ℕ) → IsFormed script s → (is_func script id || is_awaited script s 0 id) ≡ true → due_of s id ≡ Some w
@@ -139,17 +149,17 @@ counts-timer script s id w e =
     cond-some true o h = h
     cond-some false o h = cc
 
-pub sleep-counts : (script : Script) (s : State) (g w : ℕ) → IsFormed script s → sleeps_until s g ≡ Some w → (elim (goroutine_at s g) as (λ _. Option ℕ) [ None ↦ None | Some r ↦ sleep_of 0 r ]) ≡ Some w
+pub sleep-counts : (script : Script) (s : State) (g w : ℕ) → IsFormed script s → sleeps_until s g ≡ Some w → sleep_in (goroutine_at s g) ≡ Some w
 sleep-counts script s g w formed e =
     elim (goroutine_at s g) as (λ o. goroutine_at s g ≡ o → (elim (option_map (λ (r : Goroutine). r.mode) o) as (λ _. Option ℕ) [ None ↦ None | Some mode ↦ until_of mode ]) ≡ Some w
-    → (elim o as (λ _. Option ℕ) [ None ↦ None | Some r ↦ sleep_of 0 r ]) ≡ Some w) [
+    → sleep_in o ≡ Some w) [
       | None ↦ λ q k. cc
       | Some r ↦ λ q k. rw (eq-eqb r.world 0 (formed.world.goroutines g r q)) k
     ] refl e
 
-pub counts-sleep : (s : State) (g w : ℕ) → (elim (goroutine_at s g) as (λ _. Option ℕ) [ None ↦ None | Some r ↦ sleep_of 0 r ]) ≡ Some w → sleeps_until s g ≡ Some w
+pub counts-sleep : (s : State) (g w : ℕ) → sleep_in (goroutine_at s g) ≡ Some w → sleeps_until s g ≡ Some w
 counts-sleep s g w e =
-    elim (goroutine_at s g) as (λ o. (elim o as (λ _. Option ℕ) [ None ↦ None | Some r ↦ sleep_of 0 r ]) ≡ Some w
+    elim (goroutine_at s g) as (λ o. sleep_in o ≡ Some w
     → (elim (option_map (λ (r : Goroutine). r.mode) o) as (λ _. Option ℕ) [ None ↦ None | Some mode ↦ until_of mode ]) ≡ Some w) [
       | None ↦ λ k. cc
       | Some r ↦ λ k. in_world (r.world == 0) (until_of r.mode) k
@@ -178,24 +188,46 @@ sleeps-below s g w e =
 -- ---- the records of what goroutines wait for
 
 -- the record behind the declarations shows the end of a sleep
-pub sleep-shown : (script : Script) (s : State) (g w : ℕ) → IsFormed script s → sleeps_until s g ≡ Some w → counted_of script s (length script.decls + g) ≡ Some w
+pub sleep-shown : (script : Script) (s : State) (g w : ℕ) → IsFormed script s → sleeps_until s g ≡ Some w → IsCountedBy script s (length script.decls + g) w
 sleep-shown script s g w formed e =
     let is : (length script.decls + g) - length script.decls ≡ g = omega arith in
-    counted-slept script s (length script.decls + g) (omega arith)
-    ∙ (ap (λ n. elim (goroutine_at s n) as (λ _. Option ℕ) [ None ↦ None | Some r ↦ sleep_of 0 r ]) is ∙ sleep-counts script s g w formed e)
+    sleep-counted script s (length script.decls + g) w (omega arith) (ap (λ n. sleep_in (goroutine_at s n)) is ∙ sleep-counts script s g w formed e)
 
 -- that of a declaration shows when it is due, where one stands at an instruction that receives from it
 pub awaited-shown : (script : Script) (s : State) (g t w : ℕ) (i : Instr) → IsGood script → IsFormed script s → stands_at script s g ≡ Some i → offers (receives_from t) i ≡ true
-    → due_of s t ≡ Some w → counted_of script s t ≡ Some w
+    → due_of s t ≡ Some w → IsCountedBy script s t w
 awaited-shown script s g t w i good formed e passes due =
     let st : Standing script s g i = standing script s g i e in
     let at : ReceivesFrom i t = receives-recv i t passes in
-    let named : ((names_timer (what_at script t) || names_chan (what_at script t)) || (names_mutex (what_at script t) || names_wg (what_at script t))) ≡ true =
+    let named : ((names_timer (what_at script t) || names_chan (what_at script t) || can_end (named_form (what_at script t))) || (names_mutex (what_at script t) || names_wg (what_at script t))) ≡ true =
     names-operation script i at.case_no (CaseKind.Recv t) at.has (names-instr_at script st.who.place i good st.on) in
-    counted-declared script s t (named-within script t (λ what. (names_timer what || names_chan what) || (names_mutex what || names_wg what)) refl named)
-    ∙ timer-counts script s t w formed (or-second (is_func script t) _ (stands-awaited script s g t i formed e passes)) due
+    timer-counted script s t w
+    (named-within script t (λ what. (names_timer what || names_chan what || can_end (named_form what)) || (names_mutex what || names_wg what)) refl named)
+    (timer-counts script s t w formed (or-second (is_func script t) _ (stands-awaited script s g t i formed e passes)) due)
 
 -- and where it is an AfterFunc timer
-pub func-shown : (script : Script) (s : State) (t w : ℕ) → IsFormed script s → is_func script t ≡ true → due_of s t ≡ Some w → counted_of script s t ≡ Some w
+pub func-shown : (script : Script) (s : State) (t w : ℕ) → IsFormed script s → is_func script t ≡ true → due_of s t ≡ Some w → IsCountedBy script s t w
 func-shown script s t w formed named due =
-    counted-declared script s t (named-within script t names_func refl named) ∙ timer-counts script s t w formed (or-first (is_func script t) _ named) due
+    timer-counted script s t w (named-within script t names_func refl named) (timer-counts script s t w formed (or-first (is_func script t) _ named) due)
+
+-- or a context
+deadline-made : (o : Option Context) (w : ℕ) → deadline_in 0 o ≡ Some w → (r : Context) × (o ≡ Some r)
+deadline-made None w e = cc
+deadline-made (Some r) w e = (r, refl)
+
+pub deadline-shown : (script : Script) (s : State) (x w : ℕ) → IsFormed script s → deadline_in 0 (context_at s x) ≡ Some w → IsCountedBy script s x w
+deadline-shown script s x w formed e =
+    let made = deadline-made (context_at s x) w e in
+    deadline-counted script s x w (ctx_declared script x (formed.ctxs x made.0 made.1).named) e
+
+-- an AfterFunc timer is none
+func-no_ctx : (w : Option What) → names_func w ≡ true → IsTrue (names_ctx w) → ⊥
+func-no_ctx (Some (What.AfterFunc func)) h k = cc
+func-no_ctx _ h k = cc
+
+pub func-no_deadline : (script : Script) (s : State) (t : ℕ) → IsFormed script s → is_func script t ≡ true → deadline_in 0 (context_at s t) ≡ None
+func-no_deadline script s t formed named =
+    elim (context_at s t) as (λ o. context_at s t ≡ o → deadline_in 0 o ≡ None) [
+      | None ↦ λ q. refl
+      | Some r ↦ λ q. absurd (func-no_ctx (what_at script t) named (formed.ctxs t r q).named)
+    ] refl

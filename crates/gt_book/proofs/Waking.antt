@@ -1,5 +1,5 @@
 -- Who goes on at an object, of those that wait there: each entry may come and is of one that is firmly ready; where there is none, nobody parked is.
-use Rattle.std.proofs.Common.{◌≡◌, ℕ, zero, suc, cond, ◌+◌, ◌-◌, ◌<◌, List, [], ◌∷◌, ◌++◌, length, slice_get, nat_lt, eqb, refl, sym, ap, subst, ◌∙◌, arith, Option, None, Some, Bool, true, false, not, ◌||◌, is_some, is_none, IsTrue, ◌⊎◌, inl, inr}
+use Rattle.std.proofs.Common.{◌≡◌, ℕ, zero, suc, cond, ◌+◌, ◌<◌, List, [], ◌∷◌, length, slice_get, nat_lt, eqb, refl, sym, ap, subst, ◌∙◌, arith, Option, None, Some, Bool, true, false, not, ◌||◌, is_some, is_none, IsTrue, ◌⊎◌, inl, inr}
 use Rattle.std.specs.Prelude.{MatchOption}
 use Rattle.std.proofs.lemmas.Bool.{eqb-true, eq-eqb, ltb-true, and_parts, and_from}
 use Rattle.gt_model.specs.declared.script.Script.{Script}
@@ -9,46 +9,33 @@ use Rattle.gt_model.specs.declared.script.CaseKind.{CaseKind}
 use Rattle.gt_model.specs.declared.script.Case.{Case}
 use Rattle.gt_model.specs.declared.entry.Entry.{Entry}
 use Rattle.gt_model.specs.declared.entry.Party.{Party}
-use Rattle.gt_model.specs.declared.entry.Limits.{Limits}
-use Rattle.gt_model.specs.declared.entry.Outcome.{Outcome}
 use Rattle.gt_model.specs.declared.entry.Reason.{Reason}
 use Rattle.gt_model.specs.Good.{IsGood}
-use Rattle.gt_model.specs.Script.{what_at, names_chan, names_mutex, names_wg, capacity_of, instr_at, is_chan, is_mutex, is_cond, mutex_of}
-use Rattle.gt_rules.specs.State.{State, Channel, goroutine_at, channel_at, items_of, item_count, is_closed, is_locked, is_done, counter_of, stands_at, mode_of}
+use Rattle.gt_model.specs.Script.{what_at, names_chan, names_mutex, names_wg, capacity_of, instr_at, is_chan, is_mutex, is_cond, mutex_of, names_ctx}
+use Rattle.gt_rules.specs.State.{State, Channel, goroutine_at, channel_at, items_of, item_count, is_closed, is_locked, is_done, counter_of, stands_at, mode_of, has_ended}
 use Rattle.gt_rules.specs.Operations.{operation, receives_from, sends_to}
 use Rattle.gt_rules.specs.Panics.{fault, case_fault, when, or_else, open_fault, panic_at}
 use Rattle.gt_rules.specs.Ready.{is_ready_alone, is_ready_recv, no_timer}
 use Rattle.gt_rules.specs.Legal.{May, MayPanic, ChoosesClosed, Gives, Operates, operation_at}
-use Rattle.gt_rules.specs.Finish.{IsRunning}
-use Rattle.gt_rules.specs.History.{AllLegal, state_after}
-use Rattle.gt_rules.specs.After.{after}
 use Rattle.gt_rules.specs.Change.{change_of}
 use Rattle.gt_facts.proofs.Lookups.{AtOperation, at_operation, IsCase, is-case, locks-Operates, waits-Operates, mode_there}
-use Rattle.gt_facts.proofs.Makers.{gives-ready, free-ready, done-ready}
-use Rattle.gt_machine.specs.Machine.{state_of}
-use Rattle.gt_machine.specs.Outcomes.{due_outcome}
+use Rattle.gt_facts.proofs.Makers.{gives-ready, free-ready, done-ready, ended-ready}
+use Rattle.gt_machine.specs.Machine.{is_cut}
 use Rattle.gt_schedule.specs.Counts.{as_number, often}
-use Rattle.gt_schedule.specs.Schedule.{Schedule, at_case, object_of, parties_at, status_of, is_in_hand, is_parked, scheduled, Served, plainly}
-use Rattle.gt_schedule.specs.Scheduler.{schedule_of}
+use Rattle.gt_schedule.specs.Schedule.{Schedule, at_case, object_of, parties_at, status_of, is_in_hand, is_parked, Served, plainly}
 use Rattle.gt_model.specs.declared.state.Goroutine.{Goroutine}
 use Rattle.gt_model.specs.declared.state.Mode.{Mode}
 use Rattle.gt_facts.specs.Formed.{IsFormed}
 use Rattle.gt_facts.proofs.Within.{mutex_of-is, suspended-cond, relocking-cond}
-use Rattle.gt_book.specs.declared.run.Run.{Run}
 use Rattle.gt_book.specs.Steps.{or_next, goes_alone, receives_alone, sends_alone, takes_alone}
-use Rattle.gt_book.specs.Woken.{first_alone, alone_of, woken_by, is_longer, first_woken, next_woken, changed_object, woken_in}
-use Rattle.gt_book.specs.Calm.{IsCalm, IsCalmBut, unmade}
-use Rattle.gt_book.specs.declared.book.Book.TheInside.{Inside}
-use Rattle.gt_book.specs.Book.{seen, IsKept}
-use Rattle.gt_book.specs.Run.{seen_of, CanMake, Makes, CanWake, Wakes, CanEnter, Entered, Ends}
-use Rattle.gt_book.specs.View.{BookView, Fits, AreWoken, Enters, is_waiting, is_parked_at, is_firm_at, with_entries, finish_due, outcome_of, wanted_at, wants}
-use Rattle.gt_book.proofs.Firm.{operation_of, firm_on, firm-stood, firm-quiet, choice-sound, made-sound, case-there, never-both, both-false, panic-standing, calm-standing, open-no_fault, calm_but-calm, stood, firm-locked}
+use Rattle.gt_book.specs.Woken.{first_alone, alone_of, woken_by, is_longer, first_woken, next_woken, woken_in}
+use Rattle.gt_book.specs.Calm.{IsCalmBut, unmade}
+use Rattle.gt_book.specs.View.{Fits, AreWoken, is_waiting, is_parked_at, is_firm_at, wanted_at, wants}
+use Rattle.gt_book.proofs.Firm.{operation_of, firm_on, firm-stood, firm-quiet, choice-sound, made-sound, case-there, never-both, both-false, panic-standing, calm-standing, open-no_fault, stood, firm-locked, unless-true}
 use Rattle.gt_book.proofs.Wanting.{Wanting, operates, suspends, relocks, wanting, operates-wanted, operates-named, relocking-wanted}
 use Rattle.gt_book.proofs.Woken.{cond-unready, woken_as, woken-stands, woken-relocks, locked-none}
 use Rattle.gt_book.proofs.Fitting.{first-waiting, first-sending}
 use Rattle.gt_book.proofs.Stays.{alters}
-use Rattle.gt_book.proofs.Calm.{calm-but, calm-entered, calm_but-again}
-use Rattle.gt_book.proofs.Entering.{IsCounted, counted-May, legal-May, running-none, way-lawful, way-running, with_entries-more, no-entries, all_legal-more, woken-more}
 
 -- ---- who stands at an operation of a channel
 
@@ -120,14 +107,15 @@ chan-mutex : (w : Option What) → IsTrue (names_chan w) → IsTrue (names_mutex
 chan-mutex (Some What.Mutex) chan mutex = cc
 chan-mutex _ chan mutex = cc
 
--- an entry of one that waits at object c, and is firmly ready there
-pub record IsWoken (script : Script) (s : State) (m : Schedule) (c : ℕ) (e : Entry) : Type 0 where
+-- an entry of one that waits at an object of some, and is firmly ready there
+pub record IsWoken (script : Script) (s : State) (m : Schedule) (these : ℕ → Bool) (e : Entry) : Type 0 where
   pub may : May script s e
   pub served : Served m e
   pub woken : AreWoken script s m (e ∷ [])
-  pub here : (o : ℕ) → eqb o c ≡ false → alters script (change_of e) o ≡ false
+  pub here : (o : ℕ) → these o ≡ false → alters script (change_of e) o ≡ false
   pub alone : (change_of e).partner ≡ None
   pub quiet : (change_of e).broadcast ≡ None
+  pub uncut : is_cut (change_of e).tree ≡ false
 
 -- what a receive gives, by the values that the channel keeps and whether it is closed
 abbrev GivesOf : List ℕ → Bool → Option ℕ → Type 0
@@ -166,11 +154,12 @@ none-sending p c v true room h = cc
 none-sending p c v false true h = cc
 none-sending p c v false false h = (refl, refl)
 
--- what goes on by itself where it receives: a receive from a channel, the lock of a mutex that is free, or the end of a wait
+-- what goes on by itself where it receives: a receive from a channel, the lock of a mutex that is free, the end of a wait, or that of a context
 data Getting (s : State) (p : Party) (o : ℕ) (w : Option What) (e : Entry) : Type 0 where
   gets : (v : Option ℕ) → IsTrue (names_chan w) → Gives s o v → Entry.Recv p o v ≡ e → Getting s p o w e
   locks : IsTrue (names_mutex w) → is_locked s o ≡ false → Entry.Lock p.g o ≡ e → Getting s p o w e
   passes_by : IsTrue (names_wg w) → counter_of s o ≡ 0 → Entry.WgWait p.g o ≡ e → Getting s p o w e
+  has_end : IsTrue (names_ctx w) → has_ended s o ≡ true → Entry.CtxDone p o ≡ e → Getting s p o w e
 
 -- by what is declared
 abbrev got_from : State → Party → ℕ → Option What → Option Entry
@@ -192,12 +181,14 @@ getting s p o (Some What.Mutex) e h = let parts = free-some (is_locked s o) (Ent
 getting s p o (Some What.Wg) e h =
     let parts = done-some (is_done s o) (Entry.WgWait p.g o) e h in
     passes_by refl (eqb-true (counter_of s o) 0 parts.0) parts.1
+getting s p o (Some (What.Ctx parent form)) e h = let parts = done-some (has_ended s o) (Entry.CtxDone p o) e h in has_end refl parts.0 parts.1
 getting s p o _ e h = cc
 
 getting-ready : (script : Script) (s : State) (p : Party) (o : ℕ) (e : Entry) → Getting s p o (what_at script o) e → is_ready_alone script s no_timer (CaseKind.Recv o) ≡ true
 getting-ready script s p o e (gets v chan gives is) = gives-ready script s o v chan gives no_timer
 getting-ready script s p o e (locks mutex free is) = free-ready s o (what_at script o) mutex free no_timer
 getting-ready script s p o e (passes_by wg done is) = done-ready s o (what_at script o) wg done no_timer
+getting-ready script s p o e (has_end ctx end is) = ended-ready s o (what_at script o) ctx end no_timer
 
 -- where nothing goes on, the receive is not ready
 free-none : (locked : Bool) (x : Entry) → cond locked None (Some x) ≡ None → not locked ≡ false
@@ -218,6 +209,9 @@ none-getting s p o (Some (What.Chan cap)) h =
     both-false (nat_lt 0 (item_count s o)) (is_closed s o) (ap (λ (xs : List ℕ). nat_lt 0 (length xs)) quiet.0) quiet.1
 none-getting s p o (Some What.Mutex) h = free-none (is_locked s o) (Entry.Lock p.g o) h
 none-getting s p o (Some (What.Cond mutex)) h = refl
+none-getting s p o (Some (What.Ctx parent form)) h = done-none (has_ended s o) (Entry.CtxDone p o) h
+none-getting s p o (Some (What.Hook ctx func)) h = refl
+none-getting s p o (Some What.Error) h = refl
 none-getting s p o (Some What.Wg) h = done-none (is_done s o) (Entry.WgWait p.g o) h
 none-getting s p o (Some What.Function) h = refl
 
@@ -364,13 +358,22 @@ panicking script s g (Instr.Select cases default_to) n c v stands has made shut 
     (subst (λ o. ChoosesClosed s o Reason.Closed) (sym at) (shut, refl))
 panicking script s g i n c v stands has made shut = cc
 
+takes-uncut : (p : Party) (c : ℕ) (v : Option ℕ) → is_cut (change_of (Entry.Recv p c v)).tree ≡ false
+takes-uncut p c None = refl
+takes-uncut p c (Some v) = refl
+
 takes-here : (script : Script) (p : Party) (c : ℕ) (v : Option ℕ) (o : ℕ) → eqb o c ≡ false → alters script (change_of (Entry.Recv p c v)) o ≡ false
 takes-here script p c None o h = refl
-takes-here script p c (Some v) o h = both-false (eqb o c) false h refl
+takes-here script p c (Some v) o h = both-false (eqb o c || false) false (both-false (eqb o c) false h refl) refl
 
-module _ (script : Script) (s : State) (m : Schedule) (c : ℕ) (good : IsGood script) (formed : IsFormed script s) (fits : Fits script s m) (but : IsCalmBut script s m (λ o. eqb o c)) where
+-- some objects are apart from one of others
+pub apart-of : (these : ℕ → Bool) (o c : ℕ) → these c ≡ true → these o ≡ false → eqb o c ≡ false
+apart-of these o c h k = unless-true (eqb o c) (λ is. never-both (these o) (ap these (eqb-true o c is) ∙ h) k)
+
+module _ (script : Script) (s : State) (m : Schedule) (these : ℕ → Bool) (c : ℕ) (here : these c ≡ true) (good : IsGood script) (formed : IsFormed script s) (fits : Fits script s m)
+    (but : IsCalmBut script s m these) where
   pub declared : c < length script.decls
-  declared = but.declared c (eq-eqb c c refl)
+  declared = but.declared c here
 
   -- who is parked goes on
   parked-served : (g : ℕ) → is_waiting m g ≡ true → IsTrue (is_in_hand (status_of m g) || is_parked (status_of m g))
@@ -390,117 +393,131 @@ module _ (script : Script) (s : State) (m : Schedule) (c : ℕ) (good : IsGood s
         never-both (is_ready_alone script s no_timer x.kind) (goes-ready script s (at_case g x.case_no) x.kind e x.goes)
         (firm-quiet script s (is_waiting m) g i x.case_no x.kind (ap (firm_on script s (is_waiting m) g) (sym stands) ∙ firm-stood script s (is_waiting m) g (goroutine_at s g) quiet) x.has).alone)
 
-    on-c : (x : Alone script s g i e) → object_of x.kind ≡ c
-    on-c x =
-        eqb-true (object_of x.kind) c (if-true (eqb (object_of x.kind) c) (λ apart.
+    on-these : (x : Alone script s g i e) → these (object_of x.kind) ≡ true
+    on-these x =
+        if-true (these (object_of x.kind)) (λ apart.
         never-both (is_ready_alone script s no_timer x.kind) (goes-ready script s (at_case g x.case_no) x.kind e x.goes)
-        (but.others g x.case_no x.kind waits (there x.case_no x.kind x.has) apart)))
+        (but.others g x.case_no x.kind waits (there x.case_no x.kind x.has) apart))
 
     -- who receives makes no misuse
-    quiet-recv : (n : ℕ) → operation i n ≡ Some (CaseKind.Recv c) → Operates script s (at_case g n) (CaseKind.Recv c)
-    quiet-recv n has = record {
-      stands = there n (CaseKind.Recv c) has;
-      calm = calm-standing script s g i stands (unfaulty script s i n (CaseKind.Recv c) has made (λ d w is. cc));
+    quiet-recv : (n o : ℕ) → operation i n ≡ Some (CaseKind.Recv o) → Operates script s (at_case g n) (CaseKind.Recv o)
+    quiet-recv n o has = record {
+      stands = there n (CaseKind.Recv o) has;
+      calm = calm-standing script s g i stands (unfaulty script s i n (CaseKind.Recv o) has made (λ d w is. cc));
     }
 
-    receives : (x : Alone script s g i e) (n : ℕ) → operation i n ≡ Some (CaseKind.Recv c) → (then : Entry) → Getting s (at_case g n) c (what_at script c) then → IsWoken script s m c then
-    receives x n has then (gets v chan gives is) =
-        subst (IsWoken script s m c) is (record {
-          may = (quiet-recv n has, chan, gives);
+    receives : (x : Alone script s g i e) (n o : ℕ) → these o ≡ true → operation i n ≡ Some (CaseKind.Recv o) → (then : Entry) → Getting s (at_case g n) o (what_at script o) then → IsWoken script s m these then
+    receives x n o on has then (gets v chan gives is) =
+        subst (IsWoken script s m these) is (record {
+          may = (quiet-recv n o has, chan, gives);
           served = (parked-served g waits, tt);
           woken = ((waits, firm x), tt);
-          here = takes-here script (at_case g n) c v;
+          here = λ d h. takes-here script (at_case g n) o v d (apart-of these d o on h);
           alone = refl;
           quiet = refl;
+          uncut = takes-uncut (at_case g n) o v;
         })
-    receives x n has then (locks mutex free is) =
-        subst (IsWoken script s m c) is (record {
-          may = ((locks-Operates script s (at_case g n) c good (quiet-recv n has) mutex).0, mutex, free);
+    receives x n o on has then (locks mutex free is) =
+        subst (IsWoken script s m these) is (record {
+          may = ((locks-Operates script s (at_case g n) o good (quiet-recv n o has) mutex).0, mutex, free);
           served = (parked-served g waits, tt);
           woken = ((waits, firm x), tt);
-          here = λ o h. h;
+          here = λ d h. both-false (eqb d o) false (apart-of these d o on h) refl;
           alone = refl;
           quiet = refl;
+          uncut = refl;
         })
-    receives x n has then (passes_by wg done is) =
-        subst (IsWoken script s m c) is (record {
-          may = ((waits-Operates script s (at_case g n) c good (quiet-recv n has) wg).0, wg, done);
+    receives x n o on has then (passes_by wg done is) =
+        subst (IsWoken script s m these) is (record {
+          may = ((waits-Operates script s (at_case g n) o good (quiet-recv n o has) wg).0, wg, done);
           served = (parked-served g waits, tt);
           woken = ((waits, firm x), tt);
-          here = λ o h. refl;
+          here = λ d h. refl;
           alone = refl;
           quiet = refl;
+          uncut = refl;
+        })
+    receives x n o on has then (has_end ctx end is) =
+        subst (IsWoken script s m these) is (record {
+          may = (quiet-recv n o has, ctx, end);
+          served = (parked-served g waits, tt);
+          woken = ((waits, firm x), tt);
+          here = λ d h. refl;
+          alone = refl;
+          quiet = refl;
+          uncut = refl;
         })
 
-    panics : (x : Alone script s g i e) (n v : ℕ) → operation i n ≡ Some (CaseKind.Send c v) → is_closed s c ≡ true → IsWoken script s m c (Entry.Panic (at_case g n) Reason.Closed)
-    panics x n v has shut = record {
-      may = panicking script s g i n c v stands has made shut;
+    panics : (x : Alone script s g i e) (n d v : ℕ) → operation i n ≡ Some (CaseKind.Send d v) → is_closed s d ≡ true → IsWoken script s m these (Entry.Panic (at_case g n) Reason.Closed)
+    panics x n d v has shut = record {
+      may = panicking script s g i n d v stands has made shut;
       served = (parked-served g waits, tt);
       woken = ((waits, firm x), tt);
       here = λ o h. refl;
       alone = refl;
       quiet = refl;
+      uncut = refl;
     }
 
-    sends : (x : Alone script s g i e) (n v : ℕ) → operation i n ≡ Some (CaseKind.Send c v) → is_closed s c ≡ false → nat_lt (item_count s c) (capacity_of script c) ≡ true
-        → IsWoken script s m c (Entry.Send (at_case g n) c v)
-    sends x n v has unshut room =
-        let shut_not : (d w : ℕ) → CaseKind.Send c v ≡ CaseKind.Send d w → is_closed s d ≡ false =
-        λ d w is. (let same : c ≡ d = cc in subst (λ d. is_closed s d ≡ false) same unshut) in
-        let calm : panic_at script s g ≡ None = calm-standing script s g i stands (unfaulty script s i n (CaseKind.Send c v) has made shut_not) in
+    sends : (x : Alone script s g i e) (n d v : ℕ) → these d ≡ true → operation i n ≡ Some (CaseKind.Send d v) → is_closed s d ≡ false → nat_lt (item_count s d) (capacity_of script d) ≡ true
+        → IsWoken script s m these (Entry.Send (at_case g n) d v)
+    sends x n d v on has unshut room =
+        let shut_not : (b w : ℕ) → CaseKind.Send d v ≡ CaseKind.Send b w → is_closed s b ≡ false =
+        λ b w is. (let same : d ≡ b = cc in subst (λ b. is_closed s b ≡ false) same unshut) in
+        let calm : panic_at script s g ≡ None = calm-standing script s g i stands (unfaulty script s i n (CaseKind.Send d v) has made shut_not) in
         record {
-          may = (record { stands = there n (CaseKind.Send c v) has; calm = calm }, open-is (channel_at s c) (send-made s i n c v has made) unshut, ltb-true (item_count s c) (capacity_of script c) room);
+          may = (record { stands = there n (CaseKind.Send d v) has; calm = calm }, open-is (channel_at s d) (send-made s i n d v has made) unshut, ltb-true (item_count s d) (capacity_of script d) room);
           served = (parked-served g waits, tt);
           woken = ((waits, firm x), tt);
-          here = λ o h. both-false (eqb o c) false h refl;
+          here = λ o h. both-false (eqb o d || false) false (both-false (eqb o d) false (apart-of these o d on h) refl) refl;
           alone = refl;
           quiet = refl;
+          uncut = refl;
         }
 
-    woken-at : (x : Alone script s g i e) (kind : CaseKind) → x.kind ≡ kind → object_of kind ≡ c → IsWoken script s m c e
+    woken-at : (x : Alone script s g i e) (kind : CaseKind) → x.kind ≡ kind → these (object_of kind) ≡ true → IsWoken script s m these e
     woken-at x (CaseKind.Recv o) is on =
-        let has : operation i x.case_no ≡ Some (CaseKind.Recv c) = x.has ∙ (ap Some is ∙ ap (λ o. Some (CaseKind.Recv o)) on) in
-        let goes : goes_alone script s (at_case g x.case_no) (CaseKind.Recv c) ≡ Some e =
-        ap (λ o. goes_alone script s (at_case g x.case_no) (CaseKind.Recv o)) (sym on) ∙ (ap (goes_alone script s (at_case g x.case_no)) (sym is) ∙ x.goes) in
-        receives x x.case_no has e (getting s (at_case g x.case_no) c (what_at script c) e goes)
+        let has : operation i x.case_no ≡ Some (CaseKind.Recv o) = x.has ∙ ap Some is in
+        let goes : goes_alone script s (at_case g x.case_no) (CaseKind.Recv o) ≡ Some e = ap (goes_alone script s (at_case g x.case_no)) (sym is) ∙ x.goes in
+        receives x x.case_no o on has e (getting s (at_case g x.case_no) o (what_at script o) e goes)
     woken-at x (CaseKind.Send d v) is on =
-        let has : operation i x.case_no ≡ Some (CaseKind.Send c v) = x.has ∙ (ap Some is ∙ ap (λ d. Some (CaseKind.Send d v)) on) in
-        let goes : goes_alone script s (at_case g x.case_no) (CaseKind.Send c v) ≡ Some e =
-        ap (λ d. goes_alone script s (at_case g x.case_no) (CaseKind.Send d v)) (sym on) ∙ (ap (goes_alone script s (at_case g x.case_no)) (sym is) ∙ x.goes) in
-        elim (sending (at_case g x.case_no) c v (is_closed s c) (nat_lt (item_count s c) (capacity_of script c)) e goes) [
-          | inl k ↦ subst (IsWoken script s m c) k.1 (panics x x.case_no v has k.0)
-          | inr k ↦ subst (IsWoken script s m c) k.2 (sends x x.case_no v has k.0 k.1)
+        let has : operation i x.case_no ≡ Some (CaseKind.Send d v) = x.has ∙ ap Some is in
+        let goes : goes_alone script s (at_case g x.case_no) (CaseKind.Send d v) ≡ Some e = ap (goes_alone script s (at_case g x.case_no)) (sym is) ∙ x.goes in
+        elim (sending (at_case g x.case_no) d v (is_closed s d) (nat_lt (item_count s d) (capacity_of script d)) e goes) [
+          | inl k ↦ subst (IsWoken script s m these) k.1 (panics x x.case_no d v has k.0)
+          | inr k ↦ subst (IsWoken script s m these) k.2 (sends x x.case_no d v on has k.0 k.1)
         ]
 
-    alone-woken : alone_of script s g (Some i) ≡ Some e → IsWoken script s m c e
-    alone-woken h = let x : Alone script s g i e = alone script s g i e h in woken-at x x.kind refl (on-c x)
+    alone-woken : alone_of script s g (Some i) ≡ Some e → IsWoken script s m these e
+    alone-woken h = let x : Alone script s g i e = alone script s g i e h in woken-at x x.kind refl (on-these x)
 
-  -- who was signalled at a Cond the mutex of which is free is firmly ready, and waits for c
+  -- who was signalled at a Cond the mutex of which is free is firmly ready, and waits for one of these
   module _ (g k : ℕ) (waits : is_waiting m g ≡ true) (mode : mode_of s g ≡ Some (Mode.Relocking k)) (free : is_locked s (mutex_of script k) ≡ false) where
     relocks-firm : is_firm_at script s m g ≡ true
     relocks-firm =
         if-true (is_firm_at script s m g) (λ quiet.
         never-both (is_locked s (mutex_of script k)) (firm-locked script s (is_waiting m) g k (goroutine_at s g) mode quiet) free)
 
-    relocks-c : eqb (mutex_of script k) c ≡ true
-    relocks-c = if-true (eqb (mutex_of script k) c) (λ apart. never-both (is_locked s (mutex_of script k)) (but.relocks g k waits mode apart) free)
+    relocks-these : these (mutex_of script k) ≡ true
+    relocks-these = if-true (these (mutex_of script k)) (λ apart. never-both (is_locked s (mutex_of script k)) (but.relocks g k waits mode apart) free)
 
-    relocks-woken : IsWoken script s m c (Entry.CondWake g k)
+    relocks-woken : IsWoken script s m these (Entry.CondWake g k)
     relocks-woken = record {
       may = (mode, free);
       served = (parked-served g waits, tt);
       woken = ((waits, relocks-firm), tt);
-      here = λ o h. subst (λ d. eqb o d ≡ false) (sym (eqb-true (mutex_of script k) c relocks-c)) h;
+      here = λ o h. both-false (eqb o (mutex_of script k)) false (apart-of these o (mutex_of script k) relocks-these h) refl;
       alone = refl;
       quiet = refl;
+      uncut = refl;
     }
 
   by-mode : (p : Party) (e : Entry) (r : Goroutine) (mode : Mode) → is_waiting m p.g ≡ true → goroutine_at s p.g ≡ Some r → r.mode ≡ mode → woken_as script s p.g r mode ≡ Some e
-      → IsWoken script s m c e
+      → IsWoken script s m these e
   by-mode p e r Mode.At waits there is h =
       let at : stands_at script s p.g ≡ instr_at script r.place =
       ap (stood script) there ∙ ap (λ (mode : Mode). elim mode as (λ mode. Option Instr) [ Mode.At ↦ instr_at script r.place | _ ↦ None ]) is in
-      elim (instr_at script r.place) as (λ o. instr_at script r.place ≡ o → alone_of script s p.g o ≡ Some e → IsWoken script s m c e) [
+      elim (instr_at script r.place) as (λ o. instr_at script r.place ≡ o → alone_of script s p.g o ≡ Some e → IsWoken script s m these e) [
         | None ↦ λ q k. cc
         | Some i ↦ λ q k. alone-woken p.g i e waits (at ∙ q) k
       ] refl h
@@ -508,13 +525,13 @@ module _ (script : Script) (s : State) (m : Schedule) (c : ℕ) (good : IsGood s
   by-mode p e r (Mode.Suspended k) waits there is h = cc
   by-mode p e r (Mode.Relocking k) waits there is h =
       let parts = free-some (is_locked s (mutex_of script k)) (Entry.CondWake p.g k) e h in
-      subst (IsWoken script s m c) parts.1 (relocks-woken p.g k waits (mode_there s p.g r (Mode.Relocking k) there is) parts.0)
+      subst (IsWoken script s m these) parts.1 (relocks-woken p.g k waits (mode_there s p.g r (Mode.Relocking k) there is) parts.0)
   by-mode p e r Mode.Ended waits there is h = cc
 
-  by-woken : (o : Option Party) (e : Entry) → ((p : Party) → o ≡ Some p → is_waiting m p.g ≡ true) → woken_by script s o ≡ Some e → IsWoken script s m c e
+  by-woken : (o : Option Party) (e : Entry) → ((p : Party) → o ≡ Some p → is_waiting m p.g ≡ true) → woken_by script s o ≡ Some e → IsWoken script s m these e
   by-woken None e parked h = cc
   by-woken (Some p) e parked h =
-      elim (goroutine_at s p.g) as (λ o. goroutine_at s p.g ≡ o → (elim o as (λ o. Option Entry) [ None ↦ None | Some r ↦ woken_in script s p.g r ]) ≡ Some e → IsWoken script s m c e) [
+      elim (goroutine_at s p.g) as (λ o. goroutine_at s p.g ≡ o → (elim o as (λ o. Option Entry) [ None ↦ None | Some r ↦ woken_in script s p.g r ]) ≡ Some e → IsWoken script s m these e) [
         | None ↦ λ q k. cc
         | Some r ↦ λ q k. by-mode p e r r.mode (parked p refl) q refl k
       ] refl h
@@ -525,17 +542,17 @@ module _ (script : Script) (s : State) (m : Schedule) (c : ℕ) (good : IsGood s
   first-sender : (p : Party) → slice_get (parties_at m.senders c) 0 ≡ Some p → (is_waiting m p.g ≡ true) × (wants script s p (sends_to c) ≡ true)
   first-sender p first = and_parts (is_waiting m p.g) (wants script s p (sends_to c)) (first-sending script s m p c fits declared first)
 
-  receiver-woken : (e : Entry) → woken_by script s (slice_get (parties_at m.receivers c) 0) ≡ Some e → IsWoken script s m c e
+  receiver-woken : (e : Entry) → woken_by script s (slice_get (parties_at m.receivers c) 0) ≡ Some e → IsWoken script s m these e
   receiver-woken e h = by-woken (slice_get (parties_at m.receivers c) 0) e (λ p first. (first-receiver p first).0) h
 
-  sender-woken : (e : Entry) → woken_by script s (slice_get (parties_at m.senders c) 0) ≡ Some e → IsWoken script s m c e
+  sender-woken : (e : Entry) → woken_by script s (slice_get (parties_at m.senders c) 0) ≡ Some e → IsWoken script s m these e
   sender-woken e h = by-woken (slice_get (parties_at m.senders c) 0) e (λ p first. (first-sender p first).0) h
 
-  pub is-woken : (e : Entry) → next_woken script s m c ≡ Some e → IsWoken script s m c e
+  pub is-woken : (e : Entry) → next_woken script s m c ≡ Some e → IsWoken script s m these e
   is-woken e h =
       first-some (woken_by script s (slice_get (parties_at m.receivers c) 0)) (woken_by script s (slice_get (parties_at m.senders c) 0)) e
       (is_longer m (slice_get (parties_at m.senders c) 0) (slice_get (parties_at m.receivers c) 0))
-      (IsWoken script s m c e) (receiver-woken e) (sender-woken e)
+      (IsWoken script s m these e) (receiver-woken e) (sender-woken e)
       (either-first script s (slice_get (parties_at m.receivers c) 0) (slice_get (parties_at m.senders c) 0)
       (is_longer m (slice_get (parties_at m.senders c) 0) (slice_get (parties_at m.receivers c) 0)) h)
 
@@ -586,7 +603,7 @@ module _ (script : Script) (s : State) (m : Schedule) (c : ℕ) (good : IsGood s
       let parked : is_parked_at script s m p (sends_to c) ≡ true = and_from (is_waiting m p.g) (wants script s p (sends_to c)) waits here in
       let first = one-first p (parties_at m.senders c) (fits.sending c p declared ∙ ap as_number parked) in
       let its : AtSend (wanted_at script s first.0) c = at-send (wanted_at script s first.0) c (first-sender first.0 first.1).1 in
-      let stands : operation_at script s first.0 ≡ Some (CaseKind.Send c its.value) = sender-stands first.0 (CaseKind.Send c its.value) its.value chan (wanting script s first.0 (CaseKind.Send c its.value) its.is) refl in
+      let stands : operation_at script s first.0 ≡ Some (CaseKind.Send c its.value) = sender-stands first.0 (CaseKind.Send c its.value) its.value chan (wanting script s first.0 (CaseKind.Send c its.value) its.is) (refl {a = CaseKind.Send c its.value}) in
       let rests : goes_alone script s (at_case first.0.g first.0.case_no) (CaseKind.Send c its.value) ≡ None =
       first-rests first.0 (CaseKind.Send c its.value) (ap (woken_by script s) (sym first.1) ∙ none) stands in
       let quiet = none-sending (at_case first.0.g first.0.case_no) c its.value (is_closed s c) (nat_lt (item_count s c) (capacity_of script c)) rests in
@@ -611,7 +628,7 @@ module _ (script : Script) (s : State) (m : Schedule) (c : ℕ) (good : IsGood s
       let first = one-first (plainly g) (parties_at m.senders c) (fits.sending c (plainly g) declared ∙ ap as_number parked) in
       let its : AtSend (wanted_at script s first.0) c = at-send (wanted_at script s first.0) c (first-sender first.0 first.1).1 in
       subst (λ o. is_locked s o ≡ true) (sym here)
-      (sender-locked first.0 (CaseKind.Send c its.value) its.value mutex (ap (woken_by script s) (sym first.1) ∙ none) (wanting script s first.0 (CaseKind.Send c its.value) its.is) refl)
+      (sender-locked first.0 (CaseKind.Send c its.value) its.value mutex (ap (woken_by script s) (sym first.1) ∙ none) (wanting script s first.0 (CaseKind.Send c its.value) its.is) (refl {a = CaseKind.Send c its.value}))
 
   -- no operation of one that waits is ready by itself
   rests : (p : Party) (kind : CaseKind) → woken_by script s (slice_get (parties_at m.receivers c) 0) ≡ None → woken_by script s (slice_get (parties_at m.senders c) 0) ≡ None
@@ -621,194 +638,27 @@ module _ (script : Script) (s : State) (m : Schedule) (c : ℕ) (good : IsGood s
   rests p (CaseKind.Send d v) none_receives none_sends waits at is =
       subst (λ d. is_ready_alone script s no_timer (CaseKind.Send d v) ≡ false) (sym is) (rests-send p v none_sends waits (at ∙ ap (λ d. Some (CaseKind.Send d v)) is))
 
-  pub none-woken : next_woken script s m c ≡ None → IsCalm script s m
-  none-woken h =
+  -- so the object is calm too
+  pub none-woken : (less : ℕ → Bool) → ((o : ℕ) → less o ≡ false → these o ≡ true → o ≡ c) → ((o : ℕ) → less o ≡ true → o < length script.decls) → next_woken script s m c ≡ None
+      → IsCalmBut script s m less
+  none-woken less only within h =
       let none = first-none (woken_by script s (slice_get (parties_at m.receivers c) 0)) (woken_by script s (slice_get (parties_at m.senders c) 0))
       (is_longer m (slice_get (parties_at m.senders c) 0) (slice_get (parties_at m.receivers c) 0))
       (either-first script s (slice_get (parties_at m.receivers c) 0) (slice_get (parties_at m.senders c) 0)
       (is_longer m (slice_get (parties_at m.senders c) 0) (slice_get (parties_at m.receivers c) 0)) h) in
-      calm_but-calm script s m (λ o. eqb o c) but (λ g n kind waits at.
-      elim (eqb (object_of kind) c) as (λ b. eqb (object_of kind) c ≡ b → is_ready_alone script s no_timer kind ≡ false) [
-        | true ↦ λ q. rests (at_case g n) kind none.0 none.1 waits at (eqb-true (object_of kind) c q)
-        | false ↦ λ q. but.others g n kind waits at q
-      ] refl) (λ g k waits mode.
-      elim (eqb (mutex_of script k) c) as (λ b. eqb (mutex_of script k) c ≡ b → is_locked s (mutex_of script k) ≡ true) [
-        | true ↦ λ q. rests-locked g k none.1 waits mode (eqb-true (mutex_of script k) c q)
-        | false ↦ λ q. but.relocks g k waits mode q
-      ] refl)
-
--- ---- the run that lets them go on
-
--- so far some went on
-pub record Waking (script : Script) (limits : Limits) (old now : Run) (c : ℕ) : Type 0 where
-  pub woken : List Entry
-  pub legal : AllLegal script limits (state_of old.machine) woken
-  pub each_woken : AreWoken script (state_of old.machine) (schedule_of old.scheduler) woken
-  pub is : seen_of script limits now ≡ with_entries (seen_of script limits old) woken
-  pub can : CanWake script limits now c
-
-pub waking-first : (script : Script) (limits : Limits) (r : Run) (c : ℕ) → CanWake script limits r c → Waking script limits r r c
-waking-first script limits r c can = record { woken = []; legal = tt; each_woken = tt; is = no-entries (seen_of script limits r); can = can }
-
--- the object has its lists
-pub record HasLists (m : Schedule) (c : ℕ) : Type 0 where
-  pub receivers : c < length m.receivers
-  pub senders : c < length m.senders
-
-pub waking-lists : (script : Script) (limits : Limits) (old now : Run) (c : ℕ) → Waking script limits old now c → HasLists (schedule_of now.scheduler) c
-waking-lists script limits old now c w =
-    let within : c < length script.decls =
-    declared script (state_of now.machine) (schedule_of now.scheduler) c w.can.kept.way.sound.good w.can.kept.way.sound.formed w.can.kept.way.sound.fits w.can.but in
-    record {
-      receivers = subst (λ n. c < n) (sym w.can.kept.way.sound.fits.receivers) within;
-      senders = subst (λ n. c < n) (sym w.can.kept.way.sound.fits.senders) within;
-    }
-
-pub waking-less : (script : Script) (limits : Limits) (old now new : Run) (c : ℕ) (e : Entry) → CanMake script limits now e → Makes script limits now e new
-    → limits.entries - new.machine.entries < limits.entries - now.machine.entries
-waking-less script limits old now new c e can makes =
-    let counted : IsCounted script (state_of now.machine) e = counted-May script (state_of now.machine) e can.may in
-    let more : new.machine.entries ≡ now.machine.entries + 1 = ap (λ (b : BookView). b.state.entries) makes.is ∙ counted.more in
-    let room : now.machine.entries < limits.entries = can.running.room in
-    omega arith
-
-module _ (script : Script) (limits : Limits) (old now : Run) (c : ℕ) (e : Entry) (w : Waking script limits old now c) (next : next_woken script (state_of now.machine) (schedule_of now.scheduler) c ≡ Some e)
-    (none : due_outcome limits (state_of now.machine) ≡ None) where
-  goes : IsWoken script (state_of now.machine) (schedule_of now.scheduler) c e
-  goes = is-woken script (state_of now.machine) (schedule_of now.scheduler) c w.can.kept.way.sound.good w.can.kept.way.sound.formed w.can.kept.way.sound.fits w.can.but e next
-
-  running : IsRunning limits (state_of now.machine)
-  running = way-running (seen_of script limits now) w.can.kept.way none
-
-  pub waking-can : CanMake script limits now e
-  waking-can = record { kept = w.can.kept; running = running; may = goes.may; served = goes.served }
-
-  pub waking-alone : (change_of e).broadcast ≡ None
-  waking-alone = goes.quiet
-
-  pub waking-more : (new : Run) → Makes script limits now e new → Waking script limits old new c
-  waking-more new makes =
-      let state : state_of now.machine ≡ (with_entries (seen_of script limits old) w.woken).state = ap (λ (b : BookView). b.state) w.is in
-      let schedule : schedule_of now.scheduler ≡ (with_entries (seen_of script limits old) w.woken).schedule = ap (λ (b : BookView). b.schedule) w.is in
-      let may : AllLegal script limits (state_of now.machine) (e ∷ []) = (legal-May script limits (state_of now.machine) e running goes.may, tt) in
       record {
-        woken = w.woken ++ e ∷ [];
-        legal = all_legal-more script limits (state_of old.machine) w.woken (e ∷ []) w.legal (subst (λ s. AllLegal script limits s (e ∷ [])) state may);
-        each_woken = woken-more script (state_of old.machine) (schedule_of old.scheduler) w.woken (e ∷ []) w.each_woken
-            (subst (λ s. AreWoken script s (with_entries (seen_of script limits old) w.woken).schedule (e ∷ [])) state
-            (subst (λ m. AreWoken script (state_of now.machine) m (e ∷ [])) schedule goes.woken));
-        is = makes.is ∙ (ap (λ b. with_entries b (e ∷ [])) w.is ∙ with_entries-more (seen_of script limits old) w.woken (e ∷ []));
-        can = record {
-          kept = makes.kept;
-          but = subst (λ (b : BookView). IsCalmBut script b.state b.schedule (λ o. eqb o c)) (sym makes.is)
-              (calm_but-again script (state_of now.machine) (schedule_of now.scheduler) e c w.can.kept.way.sound.good goes.may w.can.kept.way.sound.fits goes.served goes.here goes.alone goes.quiet w.can.but);
-        };
+        waits = but.waits;
+        objects = but.objects;
+        partners = but.partners;
+        others = λ g n kind waits at apart.
+            elim (these (object_of kind)) as (λ b. these (object_of kind) ≡ b → is_ready_alone script s no_timer kind ≡ false) [
+              | true ↦ λ q. rests (at_case g n) kind none.0 none.1 waits at (only (object_of kind) apart q)
+              | false ↦ λ q. but.others g n kind waits at q
+            ] refl;
+        relocks = λ g k waits mode apart.
+            elim (these (mutex_of script k)) as (λ b. these (mutex_of script k) ≡ b → is_locked s (mutex_of script k) ≡ true) [
+              | true ↦ λ q. rests-locked g k none.1 waits mode (only (mutex_of script k) apart q)
+              | false ↦ λ q. but.relocks g k waits mode q
+            ] refl;
+        declared = within;
       }
-
-pub wakes-none : (script : Script) (limits : Limits) (old now : Run) (c : ℕ) → Waking script limits old now c → next_woken script (state_of now.machine) (schedule_of now.scheduler) c ≡ None
-    → Wakes script limits old now
-wakes-none script limits old now c w none = record {
-  woken = w.woken;
-  legal = w.legal;
-  each_woken = w.each_woken;
-  is = w.is;
-  kept = w.can.kept;
-  calm = λ due. none-woken script (state_of now.machine) (schedule_of now.scheduler) c w.can.kept.way.sound.good w.can.kept.way.sound.formed w.can.kept.way.sound.fits w.can.but none;
-}
-
-pub wakes-due : (script : Script) (limits : Limits) (old now : Run) (c : ℕ) (outcome : Outcome) → Waking script limits old now c → due_outcome limits (state_of now.machine) ≡ Some outcome
-    → Wakes script limits old now
-wakes-due script limits old now c outcome w due = record {
-  woken = w.woken;
-  legal = w.legal;
-  each_woken = w.each_woken;
-  is = w.is;
-  kept = w.can.kept;
-  calm = λ none. let both : Some outcome ≡ None = sym due ∙ none in cc;
-}
-
--- whether an outcome is due, by the test of it
-pub none-due : (limits : Limits) (r : Run) (due : Option Outcome) (none : Bool) → due ≡ due_outcome limits (state_of r.machine) → is_some due ≡ not none → none ≡ true
-    → due_outcome limits (state_of r.machine) ≡ None
-none-due limits r None none is e h = sym is
-none-due limits r (Some outcome) none is e h = let none_not : true ≡ not true = e ∙ ap not h in cc
-
-pub some-due : (limits : Limits) (r : Run) (due : Option Outcome) (none : Bool) → due ≡ due_outcome limits (state_of r.machine) → is_some due ≡ not none → none ≡ false
-    → (outcome : Outcome) × (due_outcome limits (state_of r.machine) ≡ Some outcome)
-some-due limits r None none is e h = let some_not : false ≡ not false = e ∙ ap not h in cc
-some-due limits r (Some outcome) none is e h = (outcome, sym is)
-
--- ---- an entry with those that it wakes
-
-module _ (script : Script) (limits : Limits) (old mid : Run) (e : Entry) (can : CanEnter script limits old e) (makes : Makes script limits old e mid) where
-  first-legal : AllLegal script limits (state_of old.machine) (e ∷ [])
-  first-legal = (legal-May script limits (state_of old.machine) e can.can.running can.can.may, tt)
-
-  state-is : state_of mid.machine ≡ after script (state_of old.machine) e
-  state-is = ap (λ (b : BookView). b.state) makes.is
-
-  schedule-is : schedule_of mid.scheduler ≡ scheduled (schedule_of old.scheduler) e
-  schedule-is = ap (λ (b : BookView). b.schedule) makes.is
-
-  pub entered-alone : changed_object script (change_of e) ≡ None → Entered script limits old e mid
-  entered-alone none = record {
-    woken = [];
-    legal = first-legal;
-    each_woken = tt;
-    is = makes.is;
-    kept = makes.kept;
-    calm = λ due. subst (λ (b : BookView). IsCalm script b.state b.schedule) (sym makes.is)
-        (calm-entered script (state_of old.machine) (schedule_of old.scheduler) e can.can.kept.way.sound.good can.can.may can.can.kept.way.sound.fits can.can.served none can.calm);
-  }
-
-  pub can-wake : (c : ℕ) → changed_object script (change_of e) ≡ Some c → CanWake script limits mid c
-  can-wake c is = record {
-    kept = makes.kept;
-    but = subst (λ (b : BookView). IsCalmBut script b.state b.schedule (λ o. eqb o c)) (sym makes.is)
-        (calm-but script (state_of old.machine) (schedule_of old.scheduler) e c can.can.kept.way.sound.good can.can.kept.way.sound.formed can.can.may can.can.kept.way.sound.fits can.can.served is can.calm);
-  }
-
-  pub entered-woken : (new : Run) → Wakes script limits mid new → Entered script limits old e new
-  entered-woken new w = record {
-    woken = w.woken;
-    legal = (first-legal.0, subst (λ s. AllLegal script limits s w.woken) state-is w.legal);
-    each_woken = subst (λ s. AreWoken script s (scheduled (schedule_of old.scheduler) e) w.woken) state-is
-        (subst (λ m. AreWoken script (state_of mid.machine) m w.woken) schedule-is w.each_woken);
-    is = w.is ∙ (ap (λ b. with_entries b w.woken) makes.is ∙ with_entries-more (seen_of script limits old) (e ∷ []) w.woken);
-    kept = w.kept;
-    calm = w.calm;
-  }
-
--- ---- the book
-
--- a book in which an entry may come
-pub can_enter-seen : (b : Inside) (v : BookView) (e : Entry) → seen b ≡ v → IsKept b → outcome_of v ≡ None → May v.script v.state e → Served v.schedule e
-    → CanEnter b.script b.limits b.run e
-can_enter-seen b v e is kept none may served =
-    let unfinished : outcome_of (seen b) ≡ None = subst (λ (v : BookView). outcome_of v ≡ None) (sym is) none in
-    record {
-      can = record {
-        kept = record { way = way-lawful (seen b) kept.lawful unfinished; rooms = kept.rooms };
-        running = running-none (seen b) kept.lawful unfinished;
-        may = subst (λ (v : BookView). May v.script v.state e) (sym is) may;
-        served = subst (λ (v : BookView). Served v.schedule e) (sym is) served;
-      };
-      calm = kept.lawful.calm unfinished;
-    }
-
-pub kept-ends : (b : Inside) (mid new : Run) → Ends b.script b.limits mid new → IsKept (record { script = b.script; limits = b.limits; run = new })
-kept-ends b mid new ends = record { lawful = ends.lawful; rooms = ends.rooms }
-
-pub enters-ends : (b : Inside) (e : Entry) (mid new : Run) → Entered b.script b.limits b.run e mid → Ends b.script b.limits mid new
-    → Enters (seen b) e (seen (record { script = b.script; limits = b.limits; run = new }))
-enters-ends b e mid new entered ends = record {
-  woken = entered.woken;
-  legal = entered.legal;
-  each_woken = entered.each_woken;
-  is =
-      let state : state_of mid.machine ≡ (with_entries (seen b) (e ∷ entered.woken)).state = ap (λ (v : BookView). v.state) entered.is in
-      ends.is
-      ∙ (ap (λ s. with_entries (seen_of b.script b.limits mid) (finish_due b.limits s)) state
-      ∙ (ap (λ v. with_entries v (finish_due b.limits (state_after b.script (state_of b.run.machine) (e ∷ entered.woken)))) entered.is
-      ∙ with_entries-more (seen b) (e ∷ entered.woken) (finish_due b.limits (state_after b.script (state_of b.run.machine) (e ∷ entered.woken)))));
-}

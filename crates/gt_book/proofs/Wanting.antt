@@ -11,7 +11,7 @@ use Rattle.gt_model.specs.declared.entry.Party.{Party}
 use Rattle.gt_model.specs.declared.state.Goroutine.{Goroutine}
 use Rattle.gt_model.specs.declared.state.Mode.{Mode}
 use Rattle.gt_model.specs.Good.{IsGood, gives_values}
-use Rattle.gt_model.specs.Script.{is_chan, instr_at, what_at, is_mutex, is_cond, names_timer, names_chan, names_mutex, names_wg, names_cond, mutex_of}
+use Rattle.gt_model.specs.Script.{is_chan, instr_at, what_at, is_mutex, is_cond, names_timer, names_chan, names_mutex, names_wg, names_cond, mutex_of, can_end, named_form}
 use Rattle.gt_rules.specs.State.{State, goroutine_at, mode_of, stands, stands_at}
 use Rattle.gt_rules.specs.Operations.{operation, receives_from, sends_to}
 use Rattle.gt_rules.specs.Legal.{operation_at}
@@ -136,11 +136,11 @@ wants-sends script s p c good formed chan h =
     let w : Wanted script s p (sends_to c) = wants-some script s p (sends_to c) h in
     sends-at script s p c w.kind good formed chan (wanting script s p w.kind w.there) w.passes
 
-no-value_cond : (w : Option What) → IsTrue (names_timer w || names_chan w) → IsTrue (names_cond w) → ⊥
+no-value_cond : (w : Option What) → IsTrue (names_timer w || names_chan w || can_end (named_form w)) → IsTrue (names_cond w) → ⊥
 no-value_cond (Some (What.Cond mutex)) h cond = cc
 no-value_cond _ h cond = cc
 
-no-operation_cond : (w : Option What) → IsTrue ((names_timer w || names_chan w) || (names_mutex w || names_wg w)) → IsTrue (names_cond w) → ⊥
+no-operation_cond : (w : Option What) → IsTrue ((names_timer w || names_chan w || can_end (named_form w)) || (names_mutex w || names_wg w)) → IsTrue (names_cond w) → ⊥
 no-operation_cond (Some (What.Cond mutex)) h cond = cc
 no-operation_cond _ h cond = cc
 

@@ -34,4 +34,6 @@ pub record Signals (script : Script) (old : Run) (k count : ℕ) (new : Run) : T
   pub many : length new.machine.goroutines.items ≡ length old.machine.goroutines.items
   pub spare : new.machine.goroutines.spare ≡ old.machine.goroutines.spare
   pub channels : new.machine.channels ≡ old.machine.channels
+  pub contexts : new.machine.ctxs ≡ old.machine.ctxs
+  pub waking : new.waking ≡ old.waking
   pub places : capacity new.scheduler ≡ capacity old.scheduler

@@ -8,8 +8,9 @@ use Rattle.gt_model.specs.declared.script.Case.{Case}
 use Rattle.gt_model.specs.declared.script.CaseKind.{CaseKind}
 use Rattle.gt_model.specs.Script.{is_func}
 use Rattle.gt_rules.specs.Operations.{receives_from, offers}
-use Rattle.gt_rules.specs.State.{State, stands_at, sleeps_until, due_of}
-use Rattle.gt_book.specs.Least.{counted_of}
+use Rattle.gt_rules.specs.State.{State, stands_at, sleeps_until, due_of, context_at}
+use Rattle.gt_rules.specs.Counted.{deadline_in}
+use Rattle.gt_book.specs.Least.{IsCountedBy}
 
 -- what was found is there, and not later than a time, if that is one
 abbrev pub IsNotLater : Option (ℕ × ℕ) → Option ℕ → Type 0
@@ -44,7 +45,7 @@ IsOneAt s found _ result = result ≡ found
 
 -- its record shows what was found
 abbrev pub IsShown : Script → State → Option (ℕ × ℕ) → Type 0
-IsShown script s found = IfSome found (λ x. counted_of script s x.1 ≡ Some x.0)
+IsShown script s found = IfSome found (λ x. IsCountedBy script s x.1 x.0)
 
 -- what was found is shown, and not later than what the goroutines with a number below n wait for
 pub record IsLeastBelow (script : Script) (s : State) (n : ℕ) (found : Option (ℕ × ℕ)) : Type 0 where
@@ -52,7 +53,8 @@ pub record IsLeastBelow (script : Script) (s : State) (n : ℕ) (found : Option 
   pub sleeps : (g : ℕ) → g < n → IsNotLater found (sleeps_until s g)
   pub timers : (g t : ℕ) (i : Instr) → g < n → stands_at script s g ≡ Some i → offers (receives_from t) i ≡ true → IsNotLater found (due_of s t)
 
--- nor than what any goroutine waits for, nor than when the AfterFunc timers among the first n declarations are due
+-- nor than what any goroutine waits for, nor than when the AfterFunc timers and the contexts among the first n declarations are due
 pub record IsLeastWith (script : Script) (s : State) (n : ℕ) (found : Option (ℕ × ℕ)) : Type 0 where
   pub goroutines : IsLeastBelow script s (length s.goroutines + 1) found
   pub funcs : (t : ℕ) → t < n → is_func script t ≡ true → IsNotLater found (due_of s t)
+  pub deadlines : (x : ℕ) → x < n → IsNotLater found (deadline_in 0 (context_at s x))

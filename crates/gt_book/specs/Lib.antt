@@ -4,6 +4,8 @@ pub mod Woken
 pub mod Calm
 pub mod Run
 pub mod Broadcasts
+pub mod Cuts
+pub mod Notes
 pub mod Book
 pub mod Least
 pub mod Found

@@ -1,6 +1,7 @@
 -- What is seen of a run, what it keeps while it goes on, and what its steps need and do.
 use Rattle.std.specs.Prelude.{ℕ, ◌+◌, ◌≤◌, ◌≡◌, ◌==◌, is_some, List, [], ◌∷◌, length}
 use Rattle.std.specs.declared.option.Option.TheVariants.{None}
+use Rattle.std.specs.BinaryHeap.{heap_capacity}
 use Rattle.gt_model.specs.declared.script.Script.{Script}
 use Rattle.gt_model.specs.declared.entry.Entry.{Entry}
 use Rattle.gt_model.specs.declared.entry.Limits.{Limits}
@@ -10,7 +11,7 @@ use Rattle.gt_rules.specs.Legal.{May}
 use Rattle.gt_rules.specs.Finish.{IsRunning}
 use Rattle.gt_rules.specs.History.{AllLegal, state_after}
 use Rattle.gt_facts.specs.Formed.{IsFormed}
-use Rattle.gt_machine.specs.Machine.{state_of, HasChannels}
+use Rattle.gt_machine.specs.Machine.{state_of, HasChannels, HasContexts}
 use Rattle.gt_machine.specs.Outcomes.{due_outcome, outcome_in}
 use Rattle.gt_schedule.specs.Counts.{as_number}
 use Rattle.gt_schedule.specs.Schedule.{most_goroutines, scheduled, Served}
@@ -28,13 +29,19 @@ seen_of script limits r = record {
   schedule = schedule_of r.scheduler;
 }
 
+-- each declared context can be noted
+pub record HasWakingRoom (script : Script) (r : Run) : Type 0 where
+  pub room : length script.decls ≤ heap_capacity r.waking
+
 -- the rooms of a run were taken when it began: for every entry and the finish, for all goroutines and for the values of channels
 pub record HasRooms (script : Script) (limits : Limits) (r : Run) : Type 0 where
   pub history : length r.history.items + r.history.spare ≡ limits.entries + 1
-  pub goroutines : length r.machine.goroutines.items + r.machine.goroutines.spare ≡ most_goroutines limits
+  pub goroutines : length r.machine.goroutines.items + r.machine.goroutines.spare ≡ most_goroutines script limits
   pub channels : HasChannels script r.machine
+  pub contexts : HasContexts script r.machine
+  pub waking : HasWakingRoom script r  -- for each context that an end reaches
   pub entries : length r.history.items ≡ r.machine.entries + as_number (is_some (outcome_in r.machine.ending))  -- the finish is not counted
-  pub schedule : capacity r.scheduler ≡ most_goroutines limits
+  pub schedule : capacity r.scheduler ≡ most_goroutines script limits
   pub scheduler : IsScheduler r.scheduler
 
 -- all that a lawful book keeps, but that the run goes on or has its outcome, and that nobody parked is firmly ready while it goes on

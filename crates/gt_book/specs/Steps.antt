@@ -13,12 +13,16 @@ use Rattle.gt_model.specs.declared.entry.Reason.{Reason}
 use Rattle.gt_model.specs.declared.script.Case.{Case}
 use Rattle.gt_model.specs.declared.script.CaseKind.{CaseKind}
 use Rattle.gt_model.specs.Good.{awaits_timer}
-use Rattle.gt_model.specs.Script.{what_at, is_chan, is_timer, capacity_of}
-use Rattle.gt_rules.specs.State.{State, clock, stands_at, clock_of, due_of, next_number, sleeps_until, items_of, item_count, is_closed, is_locked, is_done, suspended_count}
+use Rattle.gt_model.specs.declared.context.Context.{Context}
+use Rattle.gt_model.specs.declared.context.End.{End}
+use Rattle.gt_model.specs.Script.{what_at, is_chan, is_ctx, is_timer, capacity_of}
+use Rattle.gt_rules.specs.State.{State, clock, stands_at, clock_of, due_of, next_number, sleeps_until, items_of, item_count, is_closed, is_locked, is_done, suspended_count, world_of, end_at, has_ended, hook_at}
+use Rattle.gt_rules.specs.Contexts.{made_context, start_count, hook_is_due, is_waiting_hook}
 use Rattle.gt_rules.specs.Operations.{receives_from}
 use Rattle.gt_rules.specs.Panics.{fault, fault_case}
 use Rattle.gt_rules.specs.Ready.{is_due}
 use Rattle.gt_rules.specs.Legal.{May, operation_at}
+use Rattle.gt_rules.specs.Legal as legal
 use Rattle.gt_rules.specs.After.{new_period}
 use Rattle.gt_book.specs.declared.step.Step.{Step}
 use Rattle.gt_book.specs.declared.answers.Did.{Did}
@@ -58,8 +62,8 @@ sends_alone p c v true room = Some (Entry.Panic p Reason.Closed)
 sends_alone p c v false true = Some (Entry.Send p c v)
 sends_alone p c v false false = None
 
--- What is no channel gives by what it is declared as: a mutex its lock where nobody has it, a WaitGroup the end of a wait where its counter is 0. What a timer
--- gives needs its record
+-- What is no channel gives by what it is declared as: a mutex its lock where nobody has it, a WaitGroup the end of a wait where its counter is 0, a context its end
+-- once it has ended. What a timer gives needs its record
 abbrev pub takes_alone : State → Party → ℕ → Option What → Option Entry
 takes_alone s p o None = None
 takes_alone s p o (Some What.Timer) = None
@@ -69,6 +73,9 @@ takes_alone s p o (Some (What.Chan cap)) = None
 takes_alone s p o (Some What.Mutex) = cond (is_locked s o) None (Some (Entry.Lock p.g o))
 takes_alone s p o (Some What.Wg) = cond (is_done s o) (Some (Entry.WgWait p.g o)) None
 takes_alone s p o (Some (What.Cond mutex)) = None
+takes_alone s p o (Some (What.Ctx parent form)) = cond (has_ended s o) (Some (Entry.CtxDone p o)) None
+takes_alone s p o (Some (What.Hook ctx func)) = None
+takes_alone s p o (Some What.Error) = None
 takes_alone s p o (Some What.Function) = None
 
 abbrev pub goes_alone : Script → State → Party → CaseKind → Option Entry
@@ -132,6 +139,19 @@ abbrev pub choice_step : Script → State → Schedule → ℕ → List Case →
 choice_step script s m g cases default_to =
     elim (first_step script s m g (is_some default_to) 1 cases) [ None ↦ no_case script g cases default_to | Some step ↦ step ]
 
+-- the own deadline of a context that has not ended
+abbrev pub live_deadline : Context → Option ℕ
+live_deadline r = cond (is_none r.end) r.own None
+
+-- a context is made: one whose own deadline is to come needs its record
+abbrev pub makes_context : ℕ → ℕ → Context → Step
+makes_context g x r = elim (live_deadline r) [ None ↦ Step.Makes (Entry.CtxMake g x (is_some r.end)) | Some due ↦ Step.Needs (TimerOp.Deadline x due) ]
+
+-- a cancellation of a context, by whether that has ended
+abbrev pub cancels : ℕ → ℕ → Bool → Step
+cancels g x true = Step.Makes (Entry.Cancel g x false 0)
+cancels g x false = Step.Cancels x
+
 -- an instruction without a panic
 abbrev pub step_of_instr : Script → State → Schedule → ℕ → Instr → Step
 step_of_instr script s m g (Instr.Say n) = Step.Makes (Entry.Say g n)
@@ -143,7 +163,7 @@ step_of_instr script s m g (Instr.New t d) = Step.Needs (TimerOp.Set t d false)
 step_of_instr script s m g (Instr.Stop t) = Step.Needs (TimerOp.Stop t)
 step_of_instr script s m g (Instr.Reset t d) = Step.Needs (TimerOp.Set t d true)
 step_of_instr script s m g (Instr.Recv o) =
-    cond (is_chan script o) (plain_step (CaseKind.Recv o) (goes_by script s m (plainly g) (CaseKind.Recv o))) (Step.Waits o)
+    cond (is_chan script o || is_ctx script o) (plain_step (CaseKind.Recv o) (goes_by script s m (plainly g) (CaseKind.Recv o))) (Step.Waits o)
 step_of_instr script s m g (Instr.Make c) = Step.Makes (Entry.Make g c)
 step_of_instr script s m g (Instr.Send c v) = plain_step (CaseKind.Send c v) (goes_by script s m (plainly g) (CaseKind.Send c v))
 step_of_instr script s m g (Instr.Close c) = Step.Makes (Entry.Close g c)
@@ -154,6 +174,12 @@ step_of_instr script s m g (Instr.Signal k) = Step.Makes (Entry.Signal g k (opti
 step_of_instr script s m g (Instr.Broadcast k) = Step.Broadcasts k
 step_of_instr script s m g (Instr.Add w n) = Step.Makes (Entry.Add g w n)
 step_of_instr script s m g (Instr.Wait w) = plain_step (CaseKind.Recv w) (goes_by script s m (plainly g) (CaseKind.Recv w))
+step_of_instr script s m g (Instr.With x) = makes_context g x (made_context script s (world_of s g) x)
+step_of_instr script s m g (Instr.Cancel x cause) = cancels g x (has_ended s x)
+step_of_instr script s m g (Instr.ErrOf x) = Step.Makes (Entry.CtxErr g x (option_map (λ (end : End). end.err) (end_at s x)))
+step_of_instr script s m g (Instr.CauseOf x) = Step.Makes (Entry.Cause g x (option_map (λ (end : End). end.cause) (end_at s x)))
+step_of_instr script s m g (Instr.After h) = Step.Makes (Entry.CtxAfter g h (cond (hook_is_due script s h) (Some (next_number s)) None))
+step_of_instr script s m g (Instr.Unhook h) = Step.Makes (Entry.CtxStop g h (is_waiting_hook (hook_at s h)))
 step_of_instr script s m g (Instr.Select cases default_to) = choice_step script s m g cases default_to
 step_of_instr script s m g (Instr.LoopTop depth count past) = Step.Nowhere
 step_of_instr script s m g (Instr.Jump to) = Step.Nowhere
@@ -195,6 +221,7 @@ Does old g (Step.Waits t) new did =
 Does old g (Step.Parks kind) new did = (new ≡ with_schedule old (parked_at old.schedule (plainly g) kind)) × (did ≡ Did.Parked)
 Does old g (Step.Chooses timed) new did =
     (new ≡ with_schedule old (parked_cases old.schedule g (cases_of (stands_at old.script old.state g)))) × (did ≡ choice_answer (ticket_of old.schedule g) timed)
+Does old g (Step.Cancels x) new did = Enters old (Entry.Cancel g x true (start_count old.script old.state x)) new × DidEnter new did
 Does old g (Step.Broadcasts k) new did = Enters old (Entry.Broadcast g k (suspended_count old.state k)) new × DidEnter new did
 Does old g (Step.Needs op) new did = (new ≡ old) × (did ≡ Did.Timer op)
 Does old g Step.Nowhere new did = ⊥
@@ -228,13 +255,15 @@ set_entry g t true was due = Entry.Reset g t was due
 set_entry g t false was due = Entry.New g t due
 
 -- the entry of an operation
-abbrev pub entry_of : State → Op → Entry
-entry_of s (Op.Set g t anew was due period) = set_entry g t anew was due
-entry_of s (Op.Stop g t was) = Entry.Stop g t was
-entry_of s (Op.TRecv p t due next) = Entry.TRecv p t due next
-entry_of s (Op.Fire t) = Entry.FireFunc t (next_number s)
-entry_of s (Op.Sleep g until) = Entry.Sleep g (Some until)
-entry_of s (Op.Wake g) = Entry.Wake g
+abbrev pub entry_of : Script → State → Op → Entry
+entry_of script s (Op.Set g t anew was due period) = set_entry g t anew was due
+entry_of script s (Op.Stop g t was) = Entry.Stop g t was
+entry_of script s (Op.TRecv p t due next) = Entry.TRecv p t due next
+entry_of script s (Op.Fire t) = Entry.FireFunc t (next_number s)
+entry_of script s (Op.Sleep g until) = Entry.Sleep g (Some until)
+entry_of script s (Op.Wake g) = Entry.Wake g
+entry_of script s (Op.Derive g x) = Entry.CtxMake g x (is_some (made_context script s (world_of s g) x).end)
+entry_of script s (Op.Expire x) = Entry.Expire x (start_count script s x)
 
 -- the period that an operation sets is that of its instruction
 abbrev pub HasPeriod : Script → State → Op → Type 0
@@ -245,10 +274,11 @@ HasPeriod script s _ = Unit {0}
 abbrev pub is_receiving : Script → State → Schedule → Party → ℕ → Bool
 is_receiving script s m p t = (is_in_hand (status_of m p.g) || is_parked (status_of m p.g)) && is_at script s p (receives_from t)
 
--- whether an operation comes too late for its goroutine
+-- whether an operation comes too late for its goroutine, or for its context
 abbrev pub is_late : BookView → Op → Bool
 is_late b (Op.TRecv p t due next) = not (is_receiving b.script b.state b.schedule p t)
 is_late b (Op.Wake g) = not (is_some (sleeps_until b.state g))
+is_late b (Op.Expire x) = has_ended b.state x
 is_late b _ = false
 
 abbrev pub is_gone : BookView → Op → Bool
@@ -260,11 +290,17 @@ DidCommit new did = MatchOption (outcome_of new) (did ≡ Commit.Entered) (λ ou
 -- what a commitment does to the book, and answers
 abbrev pub Commits : BookView → Op → Bool → BookView → Commit → Type 0
 Commits old op true new did = (new ≡ old) × (did ≡ Commit.Gone)
-Commits old op false new did = Enters old (entry_of old.state op) new × DidCommit new did
+Commits old op false new did = Enters old (entry_of old.script old.state op) new × DidCommit new did
 
 -- what a commitment needs that does not come too late
 abbrev pub MayCommit : BookView → Op → Type 0
-MayCommit b op = May b.script b.state (entry_of b.state op) × Served b.schedule (entry_of b.state op) × HasPeriod b.script b.state op
+MayCommit b op = May b.script b.state (entry_of b.script b.state op) × Served b.schedule (entry_of b.script b.state op) × HasPeriod b.script b.state op
+
+-- what the entry of an operation needs by which no context ends: the instruction that makes a context, and no misuse
+abbrev pub MayEnter : BookView → Op → Type 0
+MayEnter b (Op.Derive g x) = legal.Does b.script b.state g (Instr.With x)
+MayEnter b (Op.Expire x) = ⊥
+MayEnter b _ = Unit {0}
 
 -- a scheduler has a list for each side of each declaration
 pub record HasLists (script : Script) (m : Scheduler) : Type 0 where

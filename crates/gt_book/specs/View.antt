@@ -83,9 +83,9 @@ goer (Some x) = elim x.1 [
   | Move.Panics ↦ Some x.0
 ]
 
--- whether a change is of one goroutine alone: it signals nobody, sets no timer, starts nobody and moves no clock
+-- whether a change is of one goroutine alone: it signals nobody, sets no timer, starts nobody, changes no context and moves no clock
 abbrev pub is_own : Change → Bool
-is_own c = is_none c.partner && is_none c.broadcast && is_none c.timer && is_none (slice_get c.starts 0) && is_none c.clock
+is_own c = is_none c.partner && is_none c.broadcast && is_none c.timer && is_none c.tree && is_none (slice_get c.starts 0) && is_none c.clock
 
 -- the goroutine that makes an entry when it is woken: it goes on or panics, alone
 abbrev pub maker : Entry → Option ℕ

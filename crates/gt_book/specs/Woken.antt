@@ -16,6 +16,7 @@ use Rattle.gt_rules.specs.declared.change.Move.{Move}
 use Rattle.gt_rules.specs.Change.{Change}
 use Rattle.gt_rules.specs.declared.change.Trade.{Trade}
 use Rattle.gt_rules.specs.declared.change.SyncStep.{SyncStep}
+use Rattle.gt_rules.specs.declared.change.TreeStep.{TreeStep}
 use Rattle.gt_schedule.specs.Schedule.{Schedule, plainly, at_case, parties_at, since_of}
 use Rattle.gt_book.specs.Steps.{goes_alone, or_next}
 
@@ -91,8 +92,19 @@ signalled_for script (Some x) = elim x.1 [
   | Move.Panics ↦ None
 ]
 
--- The object at which an entry may let others go on: the channel, the mutex or the WaitGroup that it changes, or the mutex for which those wait whom it signals. It is one
--- at most
+-- the context that is made, at which nobody waits yet
+abbrev pub derived : Option (ℕ × TreeStep) → Option ℕ
+derived None = None
+derived (Some x) = elim x.1 [
+  | TreeStep.Derived ↦ Some x.0
+  | TreeStep.Canceled ↦ None
+  | TreeStep.Expired ↦ None
+  | TreeStep.Registered ↦ None
+  | TreeStep.Unhooked ↦ None
+]
+
+-- The object at which an entry by which no context ends may let others go on: the channel, the mutex, the WaitGroup or the context that it changes, or the mutex for which
+-- those wait whom it signals. It is one at most
 abbrev pub changed_object : Script → Change → Option ℕ
 changed_object script c = first_of c.channel c.sync (signalled_for script c.partner) c.broadcast
   where
@@ -101,4 +113,4 @@ changed_object script c = first_of c.channel c.sync (signalled_for script c.part
     first_of None (Some x) signalled broadcast = Some (stepped_object script x.0 x.1)
     first_of None None (Some m) broadcast = Some m
     first_of None None None (Some k) = Some (mutex_of script k)
-    first_of None None None None = None
+    first_of None None None None = derived c.tree

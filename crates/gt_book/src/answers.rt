@@ -28,7 +28,7 @@ pub enum Did {
     Over(Outcome),
 }
 
-/// What an instruction wants of a timer's record. Timers go by the places of their declarations, from 0.
+/// What an instruction wants of a timer's record. Timers and contexts go by the places of their declarations, from 0.
 #[derive(Clone, Copy)]
 pub enum TimerOp {
     /// To set timer `t`, due after `d` nanoseconds: anew, or for the first time, which makes it.
@@ -41,9 +41,11 @@ pub enum TimerOp {
     Enrolled(Ticket),
     /// To sleep for so many nanoseconds.
     Sleep(u64),
+    /// To make context `x`, whose own deadline `due`, in nanoseconds, is to come.
+    Deadline { x: u32, due: u64 },
 }
 
-/// An operation on a timer's record, with its answer. Goroutines go by their numbers, from 1, and timers by the places of their declarations, from 0;
+/// An operation on a timer's record, with its answer. Goroutines go by their numbers, from 1, timers and contexts by the places of their declarations, from 0;
 /// times are in nanoseconds, and a period of 0 is that of a timer that is no ticker.
 #[derive(Clone, Copy)]
 pub enum Op {
@@ -83,6 +85,15 @@ pub enum Op {
     Wake {
         g: u32,
     },
+    /// Goroutine `g` makes context `x`.
+    Derive {
+        g: u32,
+        x: u32,
+    },
+    /// Context `x` comes to its own deadline.
+    Expire {
+        x: u32,
+    },
 }
 
 /// What a commitment came to.
@@ -90,7 +101,7 @@ pub enum Op {
 pub enum Commit {
     /// It was entered, and the run goes on.
     Entered,
-    /// It came too late: the run has its outcome, or the goroutine waits there no more. Nothing changed.
+    /// It came too late: the run has its outcome, the goroutine waits there no more, or the context has ended. Nothing changed.
     Gone,
     /// The run has this outcome.
     Over(Outcome),

@@ -1,10 +1,12 @@
 //! The book.
 
-ghost use Rattle.std.specs.Prelude.{◌≡◌, ◌<◌, ◌≤◌, ◌↔◌, [], ◌∷◌, false, ◌+◌, IfOk, IfSome, IsNone, IsSome, IsTrue, Some, length, min, slice_get};
+ghost use Rattle.std.specs.Prelude.{◌≡◌, ◌<◌, ◌≤◌, ◌↔◌, [], ◌∷◌, true, false, ◌+◌, IfOk, IfSome, IsNone, IsSome, IsTrue, Some, length, min, slice_get};
+ghost use Rattle.std.specs.BinaryHeap.{heap_capacity};
 ghost use Rattle.gt_rules.specs.State as at;
 ghost use Rattle.gt_model.specs.Good.{IsGood, AreLimits};
 ghost use Rattle.gt_model.specs.Times.{greatest_time};
-ghost use Rattle.gt_rules.specs.Legal.{May};
+ghost use Rattle.gt_rules.specs.Legal.{May, Expires};
+ghost use Rattle.gt_rules.specs.Contexts.{start_count};
 ghost use Rattle.gt_rules.specs.Finish.{IsIdle};
 ghost use Rattle.gt_rules.specs.Change.{change_of};
 ghost use Rattle.gt_rules.specs.Counted.{counted};
@@ -12,15 +14,15 @@ ghost use Rattle.gt_model.specs.Tables.{least};
 ghost use Rattle.gt_model.specs.declared.entry.Entry.{Entry};
 ghost use Rattle.gt_model.specs.declared.entry.Outcome.{Outcome};
 ghost use Rattle.gt_machine.specs.Places.{placed_at};
-ghost use Rattle.gt_machine.specs.Machine.{HasFewCases};
+ghost use Rattle.gt_machine.specs.Machine.{HasFewCases, is_cut};
 ghost use Rattle.gt_rules.specs.Operations.{receives_from};
 ghost use Rattle.gt_schedule.specs.declared.status.RunStatus.{RunStatus};
 ghost use Rattle.gt_schedule.specs.Counts.{times};
 ghost use Rattle.gt_schedule.specs.Schedule.{parties_at, status_of, marks_at, marked, unmarked, HasMarkRoom, given_back, in_hand, IsLive, Served};
 ghost use Rattle.gt_schedule.specs.Schedule as schedule;
-ghost use Rattle.gt_book.specs.Least.{counted_of};
+ghost use Rattle.gt_book.specs.Least.{IsCountedBy};
 ghost use Rattle.gt_book.specs.declared.step.Step.{Step};
-ghost use Rattle.gt_book.specs.Steps.{DidEnter, Takes, Steps, step_of, chooses, cases_of, MayCommit, Commits, is_gone, is_receiving, entry_of, Clocks};
+ghost use Rattle.gt_book.specs.Steps.{DidEnter, Takes, Steps, step_of, chooses, cases_of, MayCommit, MayEnter, Commits, is_gone, is_receiving, entry_of, Clocks};
 ghost use Rattle.gt_book.specs.View.{first_view, stands_for, receiver_of, case_of, outcome_of, with_entries, with_schedule, Enters, IsLawful};
 
 use crate::answers::{Commit, Did, Op, Pick, TimerOp};
@@ -33,6 +35,8 @@ use gt_model::{CAP, CaseKind, Entry, Instr, Limits, NoMemory, Outcome, Party, Sc
 use gt_room::Room;
 use gt_schedule::{RunStatus, Scheduler, Ticket, most_goroutines};
 use std::alloc::Global;
+use std::cmp::Reverse;
+use std::collections::BinaryHeap;
 use std::marker::Model;
 
 /// The world of the program.
@@ -57,6 +61,22 @@ fn receiving_case(instr: &Instr, o: u32) -> u32
     }
 }
 
+/// An empty history, with room for all entries and the finish.
+fn history_room(alloc: Global, limits: Limits) -> Result<Room<Entry>, NoMemory>
+    requires { AreLimits limits }
+    ensures empty { IfOk result (λ room. room.items ≡ []) }
+    ensures spare { IfOk result (λ room. room.spare ≡ limits.entries + 1) }
+{
+    Room::with_room(alloc, limits.entries as usize + 1).map_err(|_| NoMemory)
+}
+
+/// No notes, with room for one of each context.
+fn waking_room(alloc: Global, script: &Script) -> Result<BinaryHeap<Reverse<(u64, u32)>>, NoMemory>
+    ensures { IfOk result (λ notes. length script.now.decls ≤ heap_capacity notes) }
+{
+    BinaryHeap::with_capacity(alloc, script.decls.as_slice().len()).map_err(|_| NoMemory)
+}
+
 impl Model for Book {
     ghost use Rattle.gt_book.specs.View.{BookView};
 
@@ -77,9 +97,11 @@ impl Book {
         requires limits { AreLimits limits }
         ensures { IfOk result (λ b. b ≡ first_view script limits) }
     {
-        let history = Room::with_room(alloc, limits.entries as usize + 1).map_err(|_| NoMemory)?;
-        let machine = Machine::begin(alloc, &script, limits.entries)?;
+        let history = history_room(alloc, limits)?;
+        let most = most_goroutines(&script, limits);
+        let machine = Machine::begin(alloc, &script, most - 1)?;
         let scheduler = Scheduler::begin(alloc, &script, limits)?;
+        let waking = waking_room(alloc, &script)?;
         Ok(Book {
             script,
             limits,
@@ -87,6 +109,7 @@ impl Book {
                 history,
                 machine,
                 scheduler,
+                waking,
             },
         })
     }
@@ -96,7 +119,7 @@ impl Book {
         ensures lawful { IsLawful self.now }
         ensures few { length self.now.history ≤ self.now.limits.entries + 1 }
         ensures marks { length self.now.schedule.marks ≡ length self.now.schedule.statuses }
-        ensures few_goroutines { length self.now.schedule.statuses ≤ schedule.most_goroutines self.now.limits }
+        ensures few_goroutines { length self.now.schedule.statuses ≤ schedule.most_goroutines self.now.script self.now.limits }
     {
         let _ = &self.script;
     }
@@ -140,9 +163,11 @@ impl Book {
 
     /// One above the greatest number of a timer's record: the declarations have the first numbers, and the sleeps of goroutines those behind them.
     pub fn records(&self) -> u32
-        ensures { result ≡ length self.now.script.decls + schedule.most_goroutines self.now.limits + 1 }
+        ensures { result ≡ length self.now.script.decls + schedule.most_goroutines self.now.script self.now.limits + 1 }
     {
-        self.script.decls.as_slice().len() as u32 + most_goroutines(self.limits) as u32 + 1
+        self.script.decls.as_slice().len() as u32
+            + most_goroutines(&self.script, self.limits) as u32
+            + 1
     }
 
     /// Whether a worker has a goroutine in hand.
@@ -157,6 +182,13 @@ impl Book {
         ensures { result ≡ at.due_of self.now.state t }
     {
         self.run.machine.due_of(t)
+    }
+
+    /// Whether the context at a place of a declaration has ended.
+    pub fn has_ended(&self, x: u32) -> bool
+        ensures { result ≡ at.has_ended self.now.state x }
+    {
+        self.run.machine.has_ended(x)
     }
 
     /// Who has waited longest at a receive from a timer, or None where nobody waits there.
@@ -183,7 +215,7 @@ impl Book {
     pub fn least_counted(&self) -> Option<(u64, u32)>
         ensures none { IsNone result ↔ (counted self.now.script self.now.state 0 ≡ []) }
         ensures least { IfSome result (λ found. least (counted self.now.script self.now.state 0) ≡ Some found.0) }
-        ensures whose { IfSome result (λ found. counted_of self.now.script self.now.state found.1 ≡ Some found.0) }
+        ensures whose { IfSome result (λ found. IsCountedBy self.now.script self.now.state found.1 found.0) }
     {
         least_counted(&self.run.machine, &self.script)
     }
@@ -259,6 +291,10 @@ impl Book {
                 self.broadcast(g, k);
                 self.after_entry()
             }
+            Step::Cancels(x) => {
+                self.cancel(g, x);
+                self.after_entry()
+            }
             Step::Waits(t) => {
                 let ticket = self.run.scheduler.park_at(g, CaseKind::Recv(t));
                 Did::Timer(TimerOp::Enrolled(ticket))
@@ -280,7 +316,8 @@ impl Book {
         }
     }
 
-    /// Enters an operation on a timer's record, unless it comes too late: after the outcome of the run, or where its goroutine waits there no more.
+    /// Enters an operation on a timer's record, unless it comes too late: after the outcome of the run, or where its goroutine waits there no more, or its
+    /// context has ended.
     pub fn commit(&mut self, op: Op) -> Commit
         requires { is_gone self.old op ≡ false → MayCommit self.old op }
         ensures { Commits self.old op (is_gone self.old op) self.new result }
@@ -288,8 +325,12 @@ impl Book {
         if self.is_gone(&op) {
             return Commit::Gone;
         }
-        let entry = self.entry_of(&op);
-        self.enter(entry);
+        if let Op::Expire { x } = op {
+            self.expire(x);
+        } else {
+            let entry = self.entry_of(&op);
+            self.enter(entry);
+        }
         self.outcome().map_or(Commit::Entered, Commit::Over)
     }
 
@@ -371,6 +412,7 @@ impl Book {
             || match *op {
                 Op::TRecv { p, t, .. } => !self.is_receiving(p, t),
                 Op::Wake { g } => self.run.machine.until(g).is_none(),
+                Op::Expire { x } => self.has_ended(x),
                 _ => false,
             }
     }
@@ -383,9 +425,10 @@ impl Book {
             && matches!(operation_at(&self.run.machine, &self.script, p), Some(CaseKind::Recv(o)) if o == t)
     }
 
-    /// The entry of an operation.
+    /// The entry of an operation by which no context ends.
     fn entry_of(&self, op: &Op) -> Entry
-        ensures { result ≡ entry_of self.now.state op.now }
+        requires { MayEnter self.now op.now }
+        ensures { result ≡ entry_of self.now.script self.now.state op.now }
     {
         match *op {
             Op::Set {
@@ -414,15 +457,23 @@ impl Book {
                 until: Some(until),
             },
             Op::Wake { g } => Entry::Wake { g },
+            Op::Derive { g, x } => Entry::CtxMake {
+                g,
+                x,
+                ended: self.run.machine.made(&self.script, g, x).end.is_some(),
+            },
+            Op::Expire { .. } => unreachable!(),
         }
     }
 
-    /// Makes an entry that is no broadcast, those of whoever goes on by it at the object that it changes, and the finish of the run where one is due then.
+    /// Makes an entry that is no broadcast and by which no context ends, those of whoever goes on by it at the object that it changes, and the finish of the
+    /// run where one is due then.
     fn enter(&mut self, entry: Entry)
         requires running { outcome_of self.old ≡ None }
         requires may { May self.old.script self.old.state entry }
         requires served { Served self.old.schedule entry }
         requires alone { (change_of entry).broadcast ≡ None }
+        requires uncut { is_cut (change_of entry).tree ≡ false }
         ensures { Enters self.old entry self.new }
     {
         self.run.enter(&self.script, self.limits, entry);
@@ -438,6 +489,29 @@ impl Book {
         ensures { Enters self.old (Entry.Broadcast g k (at.suspended_count self.old.state k)) self.new }
     {
         self.run.broadcast(&self.script, self.limits, g, k);
+        self.run.end(self.limits);
+    }
+
+    /// A goroutine in hand ends a context, and those that it reaches: it makes its entry and those of whoever waits at these, and the finish of the run where
+    /// one is due then.
+    fn cancel(&mut self, g: u32, x: u32)
+        requires running { outcome_of self.old ≡ None }
+        requires in_hand { status_of self.old.schedule g ≡ Some RunStatus.InHand }
+        requires cancels { step_of self.old.script self.old.state self.old.schedule g ≡ Some (Step.Cancels x) }
+        ensures { Enters self.old (Entry.Cancel g x true (start_count self.old.script self.old.state x)) self.new }
+    {
+        self.run.cancel(&self.script, self.limits, g, x);
+        self.run.end(self.limits);
+    }
+
+    /// A context comes to its own deadline: it ends, with those that it reaches, and whoever waits at these makes its entry, and the run its finish where one
+    /// is due then.
+    fn expire(&mut self, x: u32)
+        requires running { outcome_of self.old ≡ None }
+        requires expires { Expires self.old.state x }
+        ensures { Enters self.old (Entry.Expire x (start_count self.old.script self.old.state x)) self.new }
+    {
+        self.run.expire(&self.script, self.limits, x);
         self.run.end(self.limits);
     }
 }

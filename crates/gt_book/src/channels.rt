@@ -74,13 +74,14 @@ fn receives_alone(machine: &Machine, p: Party, c: u32) -> Option<Entry>
     }
 }
 
-/// The entry of a party that takes a mutex, or what a WaitGroup gives, where it can go on by itself.
+/// The entry of a party that takes a mutex, or what a WaitGroup or a context gives, where it can go on by itself.
 fn takes_alone(machine: &Machine, script: &Script, p: Party, o: u32) -> Option<Entry>
     ensures { result ≡ steps.takes_alone (state_of machine.now) p o (what_at script.now o) }
 {
     match what_at(script, o) {
         Some(What::Mutex) if !machine.is_locked(o) => Some(Entry::Lock { g: p.g, m: o }),
         Some(What::Wg) if machine.is_done(o) => Some(Entry::WgWait { g: p.g, w: o }),
+        Some(What::Ctx { .. }) if machine.has_ended(o) => Some(Entry::CtxDone { p, x: o }),
         _ => None,
     }
 }

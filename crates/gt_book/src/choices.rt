@@ -14,7 +14,7 @@ ghost use Rattle.gt_book.specs.Steps.{HasLists};
 use crate::answers::TimerOp;
 use crate::channels::goes_by;
 use crate::step::Step;
-use gt_machine::{Machine, is_chan};
+use gt_machine::{Machine, is_chan, is_ctx};
 use gt_model::{Case, CaseKind, Entry, Party, Script};
 use gt_schedule::{Scheduler, plainly};
 
@@ -42,7 +42,7 @@ pub fn timer_of(script: &Script, kind: CaseKind) -> Option<u32>
     ensures { result ≡ steps.timer_of script.now kind }
 {
     match kind {
-        CaseKind::Recv(o) if !is_chan(script, o) => Some(o),
+        CaseKind::Recv(o) if !is_chan(script, o) && !is_ctx(script, o) => Some(o),
         _ => None,
     }
 }

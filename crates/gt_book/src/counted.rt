@@ -5,13 +5,14 @@ ghost use Rattle.gt_model.specs.Good.{IsGood};
 ghost use Rattle.gt_model.specs.Script.{is_func};
 ghost use Rattle.gt_model.specs.Tables.{least};
 ghost use Rattle.gt_rules.specs.State as at;
-ghost use Rattle.gt_rules.specs.Counted.{counted};
+ghost use Rattle.gt_model.specs.declared.script.Script.{Script};
+ghost use Rattle.gt_rules.specs.Counted.{counted, deadline_in};
 ghost use Rattle.gt_rules.specs.Operations.{receives_from, offers};
 ghost use Rattle.gt_model.specs.declared.script.Case.{Case};
 ghost use Rattle.std.specs.List.{list_any};
 ghost use Rattle.gt_facts.specs.Formed.{IsFormed};
 ghost use Rattle.gt_machine.specs.Machine.{state_of};
-ghost use Rattle.gt_book.specs.Least.{counted_of};
+ghost use Rattle.gt_book.specs.Least.{IsCountedBy};
 ghost use Rattle.gt_book.specs.Found.{IsNotLater, IsOneOf, IsOneDue, IsOneOfDue, IsOneAt, IsLeastBelow, IsLeastWith};
 
 use gt_machine::Machine;
@@ -90,7 +91,7 @@ fn with_instr(found: Found, machine: &Machine, instr: &Instr) -> Found
 fn with_goroutine(found: Found, machine: &Machine, script: &Script, g: u32) -> Found
     requires good { IsGood script.now }
     requires formed { IsFormed script.now (state_of machine.now) }
-    requires few { g ≤ 200001 }
+    requires few { g ≤ 204097 }
     requires found { IsLeastBelow script.now (state_of machine.now) g found }
     ensures { IsLeastBelow script.now (state_of machine.now) (g + 1) result }
 {
@@ -102,8 +103,20 @@ fn with_goroutine(found: Found, machine: &Machine, script: &Script, g: u32) -> F
     }
 }
 
-/// The earlier of what was found and when a declaration is due, if it is an AfterFunc timer.
-fn with_func(found: Found, machine: &Machine, script: &Script, t: u32) -> Found
+/// The own deadline of a context that has not ended.
+fn deadline_of(machine: &Machine, x: u32) -> Option<u64>
+    requires { (script : Script) × IsFormed script (state_of machine.now) }
+    ensures { result ≡ deadline_in 0 (at.context_at (state_of machine.now) x) }
+{
+    if machine.has_ended(x) {
+        None
+    } else {
+        machine.own_of(x)
+    }
+}
+
+/// The earlier of what was found and when a declaration is due, if it is an AfterFunc timer or a context.
+fn with_decl(found: Found, machine: &Machine, script: &Script, t: u32) -> Found
     requires formed { IsFormed script.now (state_of machine.now) }
     requires found { IsLeastWith script.now (state_of machine.now) t found }
     ensures { IsLeastWith script.now (state_of machine.now) (t + 1) result }
@@ -111,7 +124,7 @@ fn with_func(found: Found, machine: &Machine, script: &Script, t: u32) -> Found
     if is_func(script, t) {
         earlier(found, machine.due_of(t), t)
     } else {
-        found
+        earlier(found, deadline_of(machine, t), t)
     }
 }
 
@@ -119,7 +132,7 @@ fn with_func(found: Found, machine: &Machine, script: &Script, t: u32) -> Found
 fn least_of_goroutines(machine: &Machine, script: &Script) -> Found
     requires good { IsGood script.now }
     requires formed { IsFormed script.now (state_of machine.now) }
-    requires few { length machine.now.goroutines.items ≤ 200001 }
+    requires few { length machine.now.goroutines.items ≤ 204097 }
     ensures { IsLeastBelow script.now (state_of machine.now) (length machine.now.goroutines.items + 1) result }
 {
     let mut found = None;
@@ -133,14 +146,14 @@ fn least_of_goroutines(machine: &Machine, script: &Script) -> Found
 pub fn least_counted(machine: &Machine, script: &Script) -> Option<(u64, u32)>
     requires good { IsGood script.now }
     requires formed { IsFormed script.now (state_of machine.now) }
-    requires few { length machine.now.goroutines.items ≤ 200001 }
+    requires few { length machine.now.goroutines.items ≤ 204097 }
     ensures none { IsNone result ↔ (counted script.now (state_of machine.now) 0 ≡ []) }
     ensures least { IfSome result (λ found. least (counted script.now (state_of machine.now) 0) ≡ Some found.0) }
-    ensures whose { IfSome result (λ found. counted_of script.now (state_of machine.now) found.1 ≡ Some found.0) }
+    ensures whose { IfSome result (λ found. IsCountedBy script.now (state_of machine.now) found.1 found.0) }
 {
     let mut found = least_of_goroutines(machine, script);
     for t in 0..script.decls.as_slice().len() as u32 {
-        found = with_func(found, machine, script, t);
+        found = with_decl(found, machine, script, t);
     }
     found
 }

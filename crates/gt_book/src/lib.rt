@@ -7,6 +7,8 @@ mod broadcast;
 mod channels;
 mod choices;
 mod counted;
+mod cuts;
+mod ended;
 mod run;
 mod step;
 

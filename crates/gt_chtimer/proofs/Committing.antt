@@ -15,7 +15,7 @@ Tells over fine (Commit.Over outcome) done = done ≡ over outcome
 
 -- the entry came, with this answer
 pub record Came {Done : Type 0} (old : BookView) (op : Op) (new : BookView) (over : Outcome → Done) (fine done : Done) : Type 0 where
-  pub entered : Enters old (entry_of old.state op) new
+  pub entered : Enters old (entry_of old.script old.state op) new
   pub answer : Answers new over done fine
 
 pub came : {Done : Type 0} (over : Outcome → Done) (fine : Done) (old : BookView) (op : Op) (new : BookView) (did : Commit) (done : Done)

@@ -10,9 +10,9 @@ use Rattle.gt_model.specs.declared.script.CaseKind.{CaseKind}
 use Rattle.gt_model.specs.declared.script.Instr.{Instr}
 use Rattle.gt_model.specs.declared.script.Script.{Script}
 use Rattle.gt_model.specs.Good.{IsGood, IsGoodChoice, awaits_timer}
-use Rattle.gt_model.specs.Script.{is_chan, is_timer, what_at}
+use Rattle.gt_model.specs.Script.{is_chan, is_ctx, is_timer, what_at}
 use Rattle.gt_model.specs.declared.script.What.{What}
-use Rattle.gt_rules.specs.State.{is_locked, is_done, State, clock, clock_of, due_of, stands_at, items_of, is_closed}
+use Rattle.gt_rules.specs.State.{is_locked, is_done, has_ended, State, clock, clock_of, due_of, stands_at, items_of, is_closed}
 use Rattle.gt_rules.specs.Operations.{operation, receives_from}
 use Rattle.gt_rules.specs.Panics.{fault}
 use Rattle.gt_rules.specs.Ready.{is_due}
@@ -35,12 +35,14 @@ use Rattle.gt_book.proofs.Committing.{may-poll}
 use Rattle.gt_book.proofs.Wanting.{receives-kind}
 use Rattle.gt_book.proofs.Options.{ChoiceIs, case_goes, case_polls, all_rest, all_wait, choice-so}
 use Rattle.gt_rows.specs.declared.answers.PollDone.{PollDone}
-use Rattle.gt_rows.specs.Frames.{touched, period_touched}
+use Rattle.gt_rows.specs.Frames.{touched}
 use Rattle.gt_rows.specs.Lent.{IsLentRec}
 use Rattle.gt_rows.specs.Rows.{Pair, PollsAt, PollsBy, PollsFor, PollRow, polls_for, next_of}
 use Rattle.gt_chtimer.proofs.Asking.{Echoes, echoes-answers, IsOver, is-over, asks-running}
 use Rattle.gt_chtimer.proofs.Committing.{Tells, Came, came}
-use Rattle.gt_chtimer.proofs.Keeping.{agrees-entered, shown-declared}
+use Rattle.gt_rows.proofs.Keeping.{agrees-entered, period-still}
+use Rattle.gt_rows.proofs.Tickers.{channel-no_ctx}
+use Rattle.gt_chtimer.proofs.Keeping.{shown-declared}
 use Rattle.gt_chtimer.proofs.Receiving.{channel-timer, channel-declared, gets, Got, got, got-leaves, ReceiveComes, receive-kept}
 
 -- ---- at most one case receives from a timer
@@ -105,6 +107,9 @@ takes-timerless : (s : State) (p : Party) (o : ℕ) (w : Option What) → IsTime
 takes-timerless s p o (Some What.Mutex) = both-timerless (is_locked s o) None (Some (Entry.Lock p.g o)) tt refl
 takes-timerless s p o (Some What.Wg) = both-timerless (is_done s o) (Some (Entry.WgWait p.g o)) None refl tt
 takes-timerless s p o (Some (What.Cond mutex)) = tt
+takes-timerless s p o (Some (What.Ctx parent form)) = both-timerless (has_ended s o) (Some (Entry.CtxDone p o)) None refl tt
+takes-timerless s p o (Some (What.Hook ctx func)) = tt
+takes-timerless s p o (Some What.Error) = tt
 takes-timerless s p o (Some What.Timer) = tt
 takes-timerless s p o (Some What.Ticker) = tt
 takes-timerless s p o (Some (What.AfterFunc func)) = tt
@@ -255,17 +260,17 @@ record-step b g r lawful lent channel at =
 
 -- ---- without the record
 
-untouched : (c : Change) (n id : ℕ) (before : Option ℕ) → c.timer ≡ None → id < n → touched c n id before ≡ before
-untouched c n id before none below = rw (lt-ltb id n below, none) refl
-
-period-untouched : (script : Script) (s : State) (c : Change) (id before : ℕ) → c.timer ≡ None → id < length script.decls → period_touched script s c id before ≡ before
-period-untouched script s c id before none below = rw (lt-ltb id (length script.decls) below, none) refl
+untouched : (script : Script) (s : State) (c : Change) (id : ℕ) (before : Option ℕ) → c.timer ≡ None → id < length script.decls → is_ctx script id ≡ false
+    → touched script s c id before ≡ before
+untouched script s c id before none below other = rw (lt-ltb id (length script.decls) below, other, none) refl
 
 -- an entry of no timer leaves the record of a timer right
-timerless-kept : (old : BookView) (e : Entry) (new : BookView) (r : Rec) → IsLawful old → IsTimerless e → r.id < length old.script.decls → Enters old e new → IsLentRec old r → IsLentRec new r
-timerless-kept old e new r lawful none below entered lent = record {
-  agrees = agrees-entered old e new r r lawful entered lent.agrees (refl, refl) (sym (untouched (change_of e) (length old.script.decls) r.id (shown r) none below))
-      (sym (period-untouched old.script old.state (change_of e) r.id r.period none below));
+timerless-kept : (old : BookView) (e : Entry) (new : BookView) (r : Rec) → IsLawful old → IsTimerless e → r.id < length old.script.decls → is_ctx old.script r.id ≡ false → Enters old e new
+    → IsLentRec old r → IsLentRec new r
+timerless-kept old e new r lawful none below other entered lent = record {
+  agrees = agrees-entered old e new r r lawful entered lent.agrees (record { id = refl; kind = refl })
+      (sym (untouched old.script old.state (change_of e) r.id (shown r) none below other))
+      (sym (period-still old.script old.state (change_of e) r.id r.period none));
   bits = lent.bits;
 }
 
@@ -275,17 +280,17 @@ pub record Plain (old : Pair) (g : ℕ) (new : BookView) (done : PollDone) : Typ
   pub kept : IsLentRec new old.rec
 
 plain-does : (old : Pair) (g : ℕ) (new : BookView) (did : Did) (done : PollDone) (step : Step) → IsLawful old.book → IsLentRec old.book old.rec → old.rec.id < length old.book.script.decls
-    → outcome_of old.book ≡ None → next_of old.book g ≡ Some step → PollsOr old.book.state g old.rec.id step → Does old.book g step new did → Echoes PollDone.Over PollDone.Other did done
+    → is_ctx old.book.script old.rec.id ≡ false → outcome_of old.book ≡ None → next_of old.book g ≡ Some step → PollsOr old.book.state g old.rec.id step → Does old.book g step new did → Echoes PollDone.Over PollDone.Other did done
     → Plain old g new done
-plain-does old g new did done (Step.Makes e) lawful lent below running next so does echo =
+plain-does old g new did done (Step.Makes e) lawful lent below other running next so does echo =
     let polls : PollsBy old g (record { rec = old.rec; book = new }) done (Some (Step.Makes e)) =
     record { entered = does.0; rec = refl; answer = echoes-answers PollDone.Over PollDone.Other new did done does.1 echo } in
     record {
       row = rw running (subst (PollsBy old g (record { rec = old.rec; book = new }) done) (sym next) polls);
-      kept = timerless-kept old.book e new old.rec lawful so below does.0 lent;
+      kept = timerless-kept old.book e new old.rec lawful so below other does.0 lent;
     }
-plain-does old g new did done (Step.Needs op) lawful lent below running next so does echo = absurd (subst (λ did. Echoes PollDone.Over PollDone.Other did done) does.1 echo)
-plain-does old g new did done _ lawful lent below running next so does echo = absurd so
+plain-does old g new did done (Step.Needs op) lawful lent below other running next so does echo = absurd (subst (λ did. Echoes PollDone.Over PollDone.Other did done) does.1 echo)
+plain-does old g new did done _ lawful lent below other running next so does echo = absurd so
 
 does-step : (b : BookView) (g : ℕ) (new : BookView) (did : Did) (step : Step) → outcome_of b ≡ None → next_of b g ≡ Some step → Steps b g new did → Does b g step new did
 does-step b g new did step running next steps =
@@ -299,7 +304,8 @@ plain old g new did done lawful lent channel at steps echo =
     let p : PollStep old.book g old.rec.id = record-step old.book g old.rec lawful lent channel at in
     elim (outcome_of old.book) as (λ o. outcome_of old.book ≡ o → Plain old g new done) [
       | None ↦ λ running.
-          plain-does old g new did done p.step lawful lent (channel-declared old.book.script old.book.state old.rec lent.agrees channel) running p.next p.so
+          plain-does old g new did done p.step lawful lent (channel-declared old.book.script old.book.state old.rec lent.agrees channel)
+          (channel-no_ctx old.book.script old.book.state old.rec lent.agrees channel) running p.next p.so
           (does-step old.book g new did p.step running p.next steps) echo
       | Some outcome ↦ λ ended.
           let over : IsOver old.book outcome new PollDone.Over done = is-over PollDone.Over PollDone.Other old.book g outcome new did done ended steps echo in
@@ -342,7 +348,8 @@ poll-comes old g mid did wanted lawful lent channel at is steps =
     let its : Steps old.book g mid (Did.Timer wanted) = subst (Steps old.book g mid) is steps in
     let running : outcome_of old.book ≡ None = asks-running old.book g mid wanted its in
     let below : old.rec.id < length old.book.script.decls = channel-declared old.book.script old.book.state old.rec lent.agrees channel in
-    comes-does old g mid wanted p.step lawful (shown-declared old.book.script old.book.state old.rec lent.agrees below) running p.next p.so
+    comes-does old g mid wanted p.step lawful (shown-declared old.book.script old.book.state old.rec lent.agrees below
+    (channel-no_ctx old.book.script old.book.state old.rec lent.agrees channel)) running p.next p.so
     (does-step old.book g mid (Did.Timer wanted) p.step running p.next its)
 
 -- so something is received
@@ -377,7 +384,8 @@ poll-may old g mid p t due next lawful lent channel in_hand c its timer_is is =
     let now : received r (clock b.state 0) ≡ Some (due, next) = ap (λ (b : BookView). received r (clock b.state 0)) (sym c.same) ∙ is in
     let value : Got r (clock b.state 0) due next = got r (clock b.state 0) due next now in
     let timer : is_timer b.script r.id ≡ true = channel-timer b.script r.id r.kind channel lent.agrees.kind in
-    let set : due_of b.state r.id ≡ Some due = shown-declared b.script b.state r lent.agrees (channel-declared b.script b.state r lent.agrees channel) ∙ value.shows in
+    let set : due_of b.state r.id ≡ Some due = shown-declared b.script b.state r lent.agrees (channel-declared b.script b.state r lent.agrees channel)
+    (channel-no_ctx b.script b.state r lent.agrees channel) ∙ value.shows in
     let all = may-poll b g r.id due next lawful c.running c.step in_hand timer set value.come (got-leaves b r due next lent.agrees channel value) in
     let here : ReceiveComes b (receiver_of b.script b.state g r.id) r.id due next = record { may = all.0; in_time = all.1 } in
     let there : ReceiveComes mid (receiver_of mid.script mid.state g r.id) r.id due next = subst (λ (b : BookView). ReceiveComes b (receiver_of b.script b.state g r.id) r.id due next) (sym c.same) here in

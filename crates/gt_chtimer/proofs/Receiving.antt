@@ -24,8 +24,9 @@ use Rattle.gt_book.specs.View.{BookView, Enters, IsLawful, outcome_of, is_parked
 use Rattle.gt_book.proofs.Committing.{may-receive}
 use Rattle.gt_rows.specs.Agrees.{Agrees, kind_by, kind_of_what}
 use Rattle.gt_rows.specs.Lent.{IsLentRec}
-use Rattle.gt_rows.proofs.Tickers.{leaves-due}
-use Rattle.gt_chtimer.proofs.Keeping.{agrees-set, shown-declared}
+use Rattle.gt_rows.proofs.Keeping.{agrees-set}
+use Rattle.gt_rows.proofs.Tickers.{leaves-due, channel-no_ctx}
+use Rattle.gt_chtimer.proofs.Keeping.{shown-declared}
 
 -- ---- a record with a channel is that of a timer that gives values
 
@@ -43,6 +44,9 @@ channel-what What.Wg kind h is = cc
 channel-what (What.Cond mutex) kind h is = cc
 channel-what What.Function kind h is = cc
 channel-what (What.Chan cap) kind h is = cc
+channel-what (What.Ctx parent form) kind h is = let same : RecKind.Deadline ≡ kind = cc in absurd (no-channel kind RecKind.Deadline h same refl)
+channel-what (What.Hook ctx func) kind h is = cc
+channel-what What.Error kind h is = cc
 
 channel-decl : (o : Option Decl) (kind : RecKind) → has_channel kind ≡ true
     → (elim o as (λ _. Option RecKind) [ None ↦ Some RecKind.Sleep | Some decl ↦ kind_of_what decl.what ]) ≡ Some kind
@@ -104,7 +108,8 @@ pub receive-comes : (b : BookView) (r : Rec) (p : Party) (t due : ℕ) (next : O
 receive-comes b r p t due next lawful running lent channel waits its is =
     let g : Got r (clock b.state 0) due next = got r (clock b.state 0) due next is in
     let timer : is_timer b.script r.id ≡ true = channel-timer b.script r.id r.kind channel lent.agrees.kind in
-    let set : due_of b.state r.id ≡ Some due = shown-declared b.script b.state r lent.agrees (channel-declared b.script b.state r lent.agrees channel) ∙ g.shows in
+    let set : due_of b.state r.id ≡ Some due = shown-declared b.script b.state r lent.agrees (channel-declared b.script b.state r lent.agrees channel)
+    (channel-no_ctx b.script b.state r lent.agrees channel) ∙ g.shows in
     let all : MayCommit b (Op.TRecv p r.id due next) × (is_gone b (Op.TRecv p r.id due next) ≡ false) =
     may-receive b r.id due next p lawful running timer set g.come (got-leaves b r due next lent.agrees channel g) waits in
     let here : ReceiveComes b p r.id due next = record { may = all.0; in_time = all.1 } in
@@ -119,7 +124,8 @@ receive-kept old r p t due next now new did lawful lent channel comes its is sho
     let entered : Enters old (Entry.TRecv p r.id due next) new = subst (λ t. Enters old (Entry.TRecv p t due next) new) its all.0 in
     record {
       agrees = agrees-set old (Entry.TRecv p r.id due next) new r now (Setting.Ended next) lawful entered lent.agrees
-          (channel-declared old.script old.state r lent.agrees channel) refl (ap (λ (r : Rec). r.id) is, ap (λ (r : Rec). r.kind) is) shows (ap (λ (r : Rec). r.period) is);
+          (channel-declared old.script old.state r lent.agrees channel) (channel-no_ctx old.script old.state r lent.agrees channel) refl
+          (record { id = ap (λ (r : Rec). r.id) is; kind = ap (λ (r : Rec). r.kind) is }) shows (ap (λ (r : Rec). r.period) is);
       bits = bits lent.bits;
     }
 

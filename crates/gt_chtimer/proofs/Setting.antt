@@ -4,6 +4,7 @@ use Rattle.gt_model.specs.Times.{greatest_time}
 use Rattle.gt_model.specs.declared.script.Instr.{Instr}
 use Rattle.gt_model.specs.declared.script.Script.{Script}
 use Rattle.gt_model.specs.Good.{is_setting, NamesRightly}
+use Rattle.gt_model.specs.Script.{is_ctx}
 use Rattle.gt_rules.specs.State.{stands_at, clock, clock_of}
 use Rattle.gt_rules.specs.After.{new_period, period_of}
 use Rattle.gt_rules.specs.Legal.{due_at, was_set}
@@ -33,7 +34,8 @@ use Rattle.gt_rows.proofs.Tickers.{answer-was_set, ticking-period}
 use Rattle.gt_chtimer.specs.Kinds.{setting_period}
 use Rattle.gt_chtimer.proofs.ByKind.{period-is}
 use Rattle.gt_chtimer.proofs.Asking.{Panics, panic-or-needs, Echoes, Panicked, panicked, IsOver, is-over, Asked, asked}
-use Rattle.gt_chtimer.proofs.Keeping.{agrees-panicked, agrees-set}
+use Rattle.gt_rows.proofs.Keeping.{agrees-set}
+use Rattle.gt_chtimer.proofs.Keeping.{agrees-panicked, setting-no_ctx}
 
 -- a step that asks to set a timer
 record Sets (t : ℕ) (step : Step) : Type 0 where
@@ -85,13 +87,19 @@ pub names-setting : (script : Script) (t d : ℕ) (anew : Bool) → NamesRightly
 names-setting script t d true names = names.0
 names-setting script t d false names = names.0
 
-pub set-declared : (b : BookView) (g t : ℕ) → IsLawful b → SetsAt b g t → t < length b.script.decls
-set-declared b g t lawful stands =
+pub set-setting : (b : BookView) (g t : ℕ) → IsLawful b → SetsAt b g t → IsTrue (is_setting b.script t)
+set-setting b g t lawful stands =
     let i : SetsBy_instr b g t = set-instr b g t stands in
     let there : Standing b.script b.state g i.instr = standing b.script b.state g i.instr i.stands in
     let names : NamesRightly b.script (set_instr t i.d i.anew) =
     subst (NamesRightly b.script) (instr-set b.script b.state b.schedule g t i.d i.anew i.instr i.asks) (names-instr_at b.script there.who.place i.instr lawful.good there.on) in
-    subst (λ (n : ℕ). t < n) lawful.formed.timers (setting_within b.script b.state t lawful.formed (names-setting b.script t i.d i.anew names))
+    names-setting b.script t i.d i.anew names
+
+pub set-declared : (b : BookView) (g t : ℕ) → IsLawful b → SetsAt b g t → t < length b.script.decls
+set-declared b g t lawful stands = subst (λ (n : ℕ). t < n) lawful.formed.timers (setting_within b.script b.state t lawful.formed (set-setting b g t lawful stands))
+
+pub set-no_ctx : (b : BookView) (g t : ℕ) → IsLawful b → SetsAt b g t → is_ctx b.script t ≡ false
+set-no_ctx b g t lawful stands = setting-no_ctx b.script t (set-setting b g t lawful stands)
 
 -- an operation on this timer is needed
 pub record Needed (old : BookView) (g : ℕ) (op : TimerOp) (mid : BookView) (t id : ℕ) : Type 0 where
@@ -134,7 +142,7 @@ setting-comes old g mid t d due period anew was lawful stands lent in_hand needs
     let step : next_of b g ≡ Some (Step.Needs (TimerOp.Set r.id d anew)) = needs.step ∙ ap (λ t. Some (Step.Needs (TimerOp.Set t d anew))) needs.timer in
     let its : period ≡ period_of b.script r.id d = p ∙ period-is b.script r.id d r.kind lent.agrees.kind in
     let periodic : period ≡ new_period b.script b.state g r.id = its ∙ sym (set-period b g r.id d anew step) in
-    let answers : was ≡ was_set b.script b.state t = answer ∙ (answer-was_set b.script b.state r lent.agrees below ∙ ap (was_set b.script b.state) (sym needs.timer)) in
+    let answers : was ≡ was_set b.script b.state t = answer ∙ (answer-was_set b.script b.state r lent.agrees below (set-no_ctx b g r.id lawful stands) ∙ ap (was_set b.script b.state) (sym needs.timer)) in
     let time : due ≡ min (clock b.state 0 + d) greatest_time = e ∙ ap (λ (b : BookView). min (clock b.state 0 + d) greatest_time) needs.same in
     let all : MayCommit b (Op.Set g t anew was due period) × (is_gone b (Op.Set g t anew was due period) ≡ false) =
     may-set b g t d due period anew was lawful needs.running needs.step in_hand answers time (periodic ∙ ap (new_period b.script b.state g) (sym needs.timer)) in
@@ -190,13 +198,13 @@ setting-kept old g due period true was new reply lawful stands lent periodic arm
     let alike : IsAlike (armed old.rec due period) new.rec = settles-alike old.heap (armed old.rec due period) new.heap new.rec (joins (armed old.rec due period)) arms.place in
     record {
       agrees = agrees-set old.book (set_entry g old.rec.id true was due) new.book old.rec new.rec (Setting.SetAnew due) lawful arms.entered lent.agrees
-          (set-declared old.book g old.rec.id lawful stands) refl (alike.id, alike.kind) alike.shows (alike.period ∙ periodic);
+          (set-declared old.book g old.rec.id lawful stands) (set-no_ctx old.book g old.rec.id lawful stands) refl (record { id = alike.id; kind = alike.kind }) alike.shows (alike.period ∙ periodic);
       bits = bits;
     }
 setting-kept old g due period false was new reply lawful stands lent periodic arms bits =
     let alike : IsAlike (armed old.rec due period) new.rec = settles-alike old.heap (armed old.rec due period) new.heap new.rec (joins (armed old.rec due period)) arms.place in
     record {
       agrees = agrees-set old.book (set_entry g old.rec.id false was due) new.book old.rec new.rec (Setting.Made due) lawful arms.entered lent.agrees
-          (set-declared old.book g old.rec.id lawful stands) refl (alike.id, alike.kind) alike.shows (alike.period ∙ periodic);
+          (set-declared old.book g old.rec.id lawful stands) (set-no_ctx old.book g old.rec.id lawful stands) refl (record { id = alike.id; kind = alike.kind }) alike.shows (alike.period ∙ periodic);
       bits = bits;
     }

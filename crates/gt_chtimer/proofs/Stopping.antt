@@ -4,6 +4,7 @@ use Rattle.gt_model.specs.declared.entry.Outcome.{Outcome}
 use Rattle.gt_model.specs.declared.script.Instr.{Instr}
 use Rattle.gt_model.specs.declared.entry.Entry.{Entry}
 use Rattle.gt_model.specs.Good.{is_setting}
+use Rattle.gt_model.specs.Script.{is_ctx}
 use Rattle.gt_rules.specs.State.{stands_at, stands}
 use Rattle.gt_rules.specs.Panics.{fault, panic_at}
 use Rattle.gt_rules.specs.Legal.{Does, was_set}
@@ -18,7 +19,8 @@ use Rattle.gt_book.specs.declared.answers.Op.{Op}
 use Rattle.gt_book.proofs.Firm.{calm-standing}
 use Rattle.gt_book.proofs.Going.{in_hand-goes}
 use Rattle.gt_rows.specs.Lent.{IsLentRec}
-use Rattle.gt_chtimer.proofs.Keeping.{agrees-panicked, agrees-set}
+use Rattle.gt_rows.proofs.Keeping.{agrees-set}
+use Rattle.gt_chtimer.proofs.Keeping.{agrees-panicked, setting-no_ctx}
 use Rattle.gt_chtimer.proofs.Committing.{Tells, Came, came}
 use Rattle.gt_rec.specs.Rec.{Rec, BitsRight}
 use Rattle.gt_book.specs.declared.answers.Commit.{Commit}
@@ -69,11 +71,16 @@ may-stop b g t was stands running step in_hand answers =
     (((does, answers), (in_hand-goes (status_of b.schedule g) in_hand, tt), tt), ap (λ (o : Option Outcome). is_some o || false) running)
 
 -- a timer that is stopped is declared
-pub stop-declared : (b : BookView) (g t : ℕ) → IsLawful b → StopsAt b g t → t < length b.script.decls
-stop-declared b g t lawful stands =
+stop-setting : (b : BookView) (g t : ℕ) → IsLawful b → StopsAt b g t → IsTrue (is_setting b.script t)
+stop-setting b g t lawful stands =
     let there : Standing b.script b.state g (Instr.Stop t) = standing b.script b.state g (Instr.Stop t) (stop-stands b g t stands) in
-    let setting : IsTrue (is_setting b.script t) = names-instr_at b.script there.who.place (Instr.Stop t) lawful.good there.on in
-    subst (λ (n : ℕ). t < n) lawful.formed.timers (setting_within b.script b.state t lawful.formed setting)
+    names-instr_at b.script there.who.place (Instr.Stop t) lawful.good there.on
+
+pub stop-declared : (b : BookView) (g t : ℕ) → IsLawful b → StopsAt b g t → t < length b.script.decls
+stop-declared b g t lawful stands = subst (λ (n : ℕ). t < n) lawful.formed.timers (setting_within b.script b.state t lawful.formed (stop-setting b g t lawful stands))
+
+pub stop-no_ctx : (b : BookView) (g t : ℕ) → IsLawful b → StopsAt b g t → is_ctx b.script t ≡ false
+stop-no_ctx b g t lawful stands = setting-no_ctx b.script t (stop-setting b g t lawful stands)
 
 -- after it the record shows nothing
 pub stop-kept : (old : BookView) (g : ℕ) (was : Option Bool) (r : Rec) (new : BookView) → IsLawful old → StopsAt old g r.id → IsLentRec old r
@@ -81,7 +88,7 @@ pub stop-kept : (old : BookView) (g : ℕ) (was : Option Bool) (r : Rec) (new : 
 stop-kept old g was r new lawful stands lent entered bits =
     let below : r.id < length old.script.decls = stop-declared old g r.id lawful stands in
     record {
-      agrees = agrees-set old (Entry.Stop g r.id was) new r (disarmed r) (Setting.Ended None) lawful entered lent.agrees below refl (refl, refl) refl refl;
+      agrees = agrees-set old (Entry.Stop g r.id was) new r (disarmed r) (Setting.Ended None) lawful entered lent.agrees below (stop-no_ctx old g r.id lawful stands) refl (record { id = refl; kind = refl }) refl refl;
       bits = bits;
     }
 
@@ -120,7 +127,8 @@ pub stop-comes : (old : Pair) (g : ℕ) (mid : BookView) (op : TimerOp) (t : ℕ
 stop-comes old g mid op t was lawful stands lent in_hand steps timer answer =
     let a : Asked old.book g (TimerOp.Stop old.rec.id) mid op = asked old.book g (TimerOp.Stop old.rec.id) mid op (stop-step old.book g old.rec.id stands) steps in
     let answers : answer_of old.rec ≡ was_set old.book.script old.book.state old.rec.id =
-    answer-was_set old.book.script old.book.state old.rec lent.agrees (stop-declared old.book g old.rec.id lawful stands) in
+    answer-was_set old.book.script old.book.state old.rec lent.agrees (stop-declared old.book g old.rec.id lawful stands)
+    (stop-no_ctx old.book g old.rec.id lawful stands) in
     let all : MayCommit old.book (Op.Stop g t was) × (is_gone old.book (Op.Stop g t was) ≡ false) =
     may-stop old.book g t was (subst (StopsAt old.book g) (sym timer) stands) a.running (a.step ∙ ap (λ t. Some (Step.Needs (TimerOp.Stop t))) (sym timer)) in_hand
     (answer ∙ (answers ∙ ap (was_set old.book.script old.book.state) (sym timer))) in

@@ -56,7 +56,11 @@ pub fn sec_set(heap: &mut Lazy, rec: &mut TimerRec, book: &mut Book, g: u32) -> 
         }
         Did::Parked
         | Did::Timer(
-            TimerOp::Stop(_) | TimerOp::Poll(_) | TimerOp::Enrolled(_) | TimerOp::Sleep(_),
+            TimerOp::Stop(_)
+            | TimerOp::Poll(_)
+            | TimerOp::Enrolled(_)
+            | TimerOp::Sleep(_)
+            | TimerOp::Deadline { .. },
         ) => unreachable!(),
     }
 }
@@ -84,7 +88,7 @@ fn arm_with(
     requires period { rec.old.kind ≡ RecKind.Ticker → 0 < period }
     requires may { MayCommit book.old op }
     requires in_time { is_gone book.old op ≡ false }
-    ensures arms { Arms (record { heap = heap.old; rec = rec.old; book = book.old }) (entry_of book.old.state op) due period
+    ensures arms { Arms (record { heap = heap.old; rec = rec.old; book = book.old }) (entry_of book.old.script book.old.state op) due period
         (record { heap = heap.new; rec = rec.new; book = book.new }) result }
     ensures placed { IsPlaced heap.new rec.new }
     ensures bits { BitsRight rec.new }

@@ -1,3 +1,9 @@
 pub mod Lines
+pub mod Links
+pub mod Walks
+pub mod Hooks
+pub mod Trees
 pub mod Cuts
-pub mod Shown
+pub mod Ended
+pub mod Fresh
+pub mod Rules

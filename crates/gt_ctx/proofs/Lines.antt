@@ -3,8 +3,8 @@ use Rattle.std.proofs.Common.{◌≡◌, ℕ, zero, suc, ◌<◌, ◌≤◌, eqb
 use Rattle.std.specs.Option.{option_map_or, option_and_then, option_or, is_some}
 use Rattle.std.specs.List.{list_any}
 use Rattle.gt_ctx.specs.declared.decl.CtxDecl.{CtxDecl}
-use Rattle.gt_ctx.specs.declared.decl.Form.{Form}
-use Rattle.gt_ctx.specs.declared.ends.Context.{Context}
+use Rattle.gt_model.specs.declared.context.Form.{Form}
+use Rattle.gt_model.specs.declared.context.Context.{Context}
 use Rattle.gt_ctx.specs.Decls.{AreOrdered, decl_at, parent_by, heeded_by, heeded_in, heeded}
 use Rattle.gt_ctx.specs.Contents.{Contents, context_at, own_at, reached_from, deadline}
 use Rattle.gt_ctx.specs.Tree.{line, lineage, is_within, first_found}
@@ -67,7 +67,7 @@ parent_if_heeded (CtxDecl.Hook ctx) p e = absurd (cc)
 pub heeded_earlier : (decls : List CtxDecl) → AreOrdered decls → (y p : ℕ) → heeded decls y ≡ Some p → p < y
 heeded_earlier decls ordered y p e = ordered.parent_earlier y p (parent_if_heeded (decl_at decls y) p e)
 
-heeded_if_made : (kept : Option Context) (o : Option ℕ) (p : ℕ) → option_and_then (λ (_ : Context). o) kept ≡ Some p → o ≡ Some p
+pub heeded_if_made : (kept : Option Context) (o : Option ℕ) (p : ℕ) → option_and_then (λ (_ : Context). o) kept ≡ Some p → o ≡ Some p
 heeded_if_made None o p e = absurd (cc)
 heeded_if_made (Some kept) o p e = e
 
@@ -84,7 +84,7 @@ rest_first None rest e = refl
 rest_first (Some due) rest e = absurd (cc)
 
 module _ (c : Contents) (ordered : AreOrdered c.decls) (y : ℕ) where
-  deadline-step : deadline c y ≡ option_or (own_at c.contexts y) (option_and_then (deadline c) (heeded c.decls y))
+  pub deadline-step : deadline c y ≡ option_or (own_at c.contexts y) (option_and_then (deadline c) (heeded c.decls y))
   deadline-step = first_found-step (heeded c.decls) (heeded_earlier c.decls ordered) (own_at c.contexts) y
 
   -- an own deadline is the deadline

@@ -1,21 +1,19 @@
 -- What each call answers, and what it makes of the contents.
-use Rattle.std.specs.Prelude.{ℕ, ◌+◌, min, Bool, true, false, ◌&&◌, nat_lt, nat_le, if◌then◌else◌, List, [], map, filter, drop, ◌++◌, length, slice_set, replicate, Option, None, Some, is_some, is_none}
+use Rattle.std.specs.Prelude.{◌≡◌, ℕ, ◌+◌, min, Bool, true, false, ◌&&◌, nat_lt, nat_le, if◌then◌else◌, List, [], map, filter, drop, ◌++◌, length, slice_set, replicate, Option, None, Some, is_some, is_none}
 use Rattle.std.specs.List.{range_with_len}
 use Rattle.std.specs.Option.{option_map, option_and_then, option_map_or, option_or}
+use Rattle.gt_model.specs.Times.{greatest_time}
 use Rattle.gt_ctx.specs.declared.decl.CtxDecl.{CtxDecl}
-use Rattle.gt_ctx.specs.declared.decl.Form.{Form}
-use Rattle.gt_ctx.specs.declared.ends.Context.{Context}
-use Rattle.gt_ctx.specs.declared.ends.End.{End}
-use Rattle.gt_ctx.specs.declared.ends.HookState.{HookState}
+use Rattle.gt_model.specs.declared.context.Form.{Form}
+use Rattle.gt_model.specs.declared.context.Context.{Context}
+use Rattle.gt_model.specs.declared.context.End.{End}
+use Rattle.gt_model.specs.declared.context.HookState.{HookState}
 use Rattle.gt_ctx.specs.declared.ends.Made.{Made}
 use Rattle.gt_ctx.specs.declared.ends.After.{After}
 use Rattle.gt_ctx.specs.declared.ends.Cut.{Cut}
 use Rattle.gt_ctx.specs.Decls.{decl_at, heeded, expiry_by, ctx_by}
-use Rattle.gt_ctx.specs.Contents.{Contents, context_at, end_at, deadline, is_reached, is_waiting, hook_at}
-
--- the greatest time, 2^63 - 1: a later due time counts as this one
-abbrev pub greatest_time : ℕ
-greatest_time = 9223372036854775807
+use Rattle.gt_ctx.specs.Contents.{Contents, context_at, end_at, deadline, is_reached, hook_at}
+use Rattle.gt_rules.specs.Contexts.{is_waiting_hook}
 
 -- a deadline, unless the parent's is strictly earlier
 abbrev pub unless_earlier : ℕ → Option ℕ → Option ℕ
@@ -88,7 +86,7 @@ hooks_end c s = option_and_then (end_at c.contexts) (ctx_of c.decls s)
 -- whether a cut that reaches these contexts starts a hook: it waits on one of them that has no error
 abbrev pub starts_by : (ℕ → Bool) → List CtxDecl → List (Option Context) → List HookState → ℕ → Bool
 starts_by reached decls contexts hooks s =
-    is_waiting (hook_at hooks s)
+    is_waiting_hook (hook_at hooks s)
     && option_map_or (λ y. reached y && is_none (end_at contexts y)) (ctx_of decls s) false
 
 abbrev pub is_starting : Contents → ℕ → ℕ → Bool
@@ -118,6 +116,13 @@ cut c x end = record c {
 abbrev pub after_cancel : Contents → ℕ → End → Contents
 after_cancel c x end = if is_none (end_at c.contexts x) then cut c x end else c
 
+-- a call has made this of the contents, but for the list of those that have ended
+pub record Becomes (new made : Contents) : Type 0 where
+  pub declared : new.decls ≡ made.decls
+  pub contexts : new.contexts ≡ made.contexts
+  pub hooks : new.hooks ≡ made.hooks
+  pub started : new.started ≡ made.started
+
 abbrev pub answer_cancel : Contents → ℕ → Cut
 answer_cancel c x =
     if is_none (end_at c.contexts x) then record { newly = true; starts = length (starting c x) }
@@ -135,7 +140,7 @@ answer_after c s = if is_some (hooks_end c s) then After.Starts else After.Waits
 -- a hook that waits is stopped
 abbrev pub after_stop : Contents → ℕ → Contents
 after_stop c s =
-    if is_waiting (hook_at c.hooks s) then record c { hooks = slice_set c.hooks s HookState.Stopped } else c
+    if is_waiting_hook (hook_at c.hooks s) then record c { hooks = slice_set c.hooks s HookState.Stopped } else c
 
 -- the first of the started hooks is handed out
 abbrev pub handed_out : Contents → Contents
@@ -148,4 +153,5 @@ fresh decls = record {
   contexts = replicate (length decls) None;
   hooks = replicate (length decls) HookState.Unregistered;
   started = [];
+  ended = [];
 }

@@ -1,11 +1,12 @@
 -- What contracts see of the contexts, and what is looked up in it.
-use Rattle.std.specs.Prelude.{◌≡◌, ℕ, ◌^◌, ◌<◌, Bool, true, false, List, length, slice_index_or, Option, None}
+use Rattle.std.specs.Prelude.{◌≡◌, ◌≢◌, ℕ, ◌^◌, ◌<◌, ◌≤◌, Bool, not, ◌&&◌, List, length, slice_index, slice_index_or, Option, None, is_some}
 use Rattle.std.specs.Option.{option_map, option_and_then}
 use Rattle.gt_ctx.specs.declared.decl.CtxDecl.{CtxDecl}
-use Rattle.gt_ctx.specs.declared.ends.Context.{Context}
-use Rattle.gt_ctx.specs.declared.ends.End.{End}
-use Rattle.gt_ctx.specs.declared.ends.HookState.{HookState}
+use Rattle.gt_model.specs.declared.context.Context.{Context}
+use Rattle.gt_model.specs.declared.context.End.{End}
+use Rattle.gt_model.specs.declared.context.HookState.{HookState}
 use Rattle.gt_ctx.specs.Decls.{AreOrdered, heeded}
+use Rattle.gt_ctx.specs.Links.{has}
 use Rattle.gt_ctx.specs.Tree.{lineage, is_within, first_found}
 
 pub record Contents : Type 0 where
@@ -13,6 +14,7 @@ pub record Contents : Type 0 where
   pub contexts : List (Option Context)  -- by number: what is kept of a context, or None where it is unmade
   pub hooks : List HookState  -- by number: what has become of a hook
   pub started : List ℕ  -- the hooks that cuts started and that are still to be handed out, in this order
+  pub ended : List ℕ  -- the contexts that the last cancellation ended, in any order
 
 abbrev pub context_at : List (Option Context) → ℕ → Option Context
 context_at contexts x = slice_index_or contexts x None
@@ -41,11 +43,11 @@ reached_from decls contexts y = option_and_then (λ (kept : Context). heeded dec
 abbrev pub is_reached : List CtxDecl → List (Option Context) → ℕ → ℕ → Bool
 is_reached decls contexts x y = is_within (reached_from decls contexts) x y
 
-abbrev pub is_waiting : HookState → Bool
-is_waiting HookState.Unregistered = false
-is_waiting HookState.Waiting = true
-is_waiting HookState.Started = false
-is_waiting HookState.Stopped = false
+-- a list of the contexts that had no end before and have one now: it has each of them once
+pub record AreEnded (old new : List (Option Context)) (ended : List ℕ) : Type 0 where
+  pub each : (y : ℕ) → has ended y ≡ (not (is_some (end_at old y)) && is_some (end_at new y))
+  pub once : (i j : ℕ) → i < j → j < length ended → slice_index ended i ≢ slice_index ended j
+  pub few : length ended ≤ length new
 
 -- what is true at all times: parents are declared earlier, and there is an item for each declaration
 pub record IsLawful (c : Contents) : Type 0 where

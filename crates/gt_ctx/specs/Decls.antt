@@ -1,10 +1,29 @@
 -- What is declared, by its number.
-use Rattle.std.specs.Prelude.{◌≡◌, ℕ, ◌<◌, Bool, true, false, List, slice_index_or, Option, None, Some}
+use Rattle.std.specs.Prelude.{◌≡◌, ℕ, ◌<◌, Bool, true, false, List, map, slice_index_or, Option, None, Some}
+use Rattle.gt_model.specs.declared.script.Decl.{Decl}
+use Rattle.gt_model.specs.declared.script.What.{What}
 use Rattle.gt_ctx.specs.declared.decl.CtxDecl.{CtxDecl}
-use Rattle.gt_ctx.specs.declared.decl.Form.{Form}
-use Rattle.gt_ctx.specs.declared.ends.End.{End}
-use Rattle.gt_ctx.specs.declared.ends.ErrVal.{ErrVal}
-use Rattle.gt_ctx.specs.declared.ends.CauseVal.{CauseVal}
+use Rattle.gt_model.specs.declared.context.Form.{Form}
+use Rattle.gt_model.specs.declared.context.End.{End}
+use Rattle.gt_model.specs.declared.context.ErrVal.{ErrVal}
+use Rattle.gt_model.specs.declared.context.CauseVal.{CauseVal}
+
+-- what is kept of a declaration, and of all of a script
+abbrev pub decl_by : What → CtxDecl
+decl_by What.Timer = CtxDecl.Other
+decl_by What.Ticker = CtxDecl.Other
+decl_by (What.AfterFunc func) = CtxDecl.Other
+decl_by (What.Chan cap) = CtxDecl.Other
+decl_by What.Mutex = CtxDecl.Other
+decl_by What.Wg = CtxDecl.Other
+decl_by (What.Cond mutex) = CtxDecl.Other
+decl_by (What.Ctx parent form) = CtxDecl.Context parent form
+decl_by (What.Hook ctx func) = CtxDecl.Hook ctx
+decl_by What.Error = CtxDecl.Other
+decl_by What.Function = CtxDecl.Other
+
+abbrev pub decls_of : List Decl → List CtxDecl
+decls_of decls = map (λ (d : Decl). decl_by d.what) decls
 
 abbrev pub decl_at : List CtxDecl → ℕ → CtxDecl
 decl_at decls i = slice_index_or decls i CtxDecl.Other
@@ -52,9 +71,8 @@ expiry_by Form.Cause = record { err = ErrVal.DeadlineExceeded; cause = CauseVal.
 expiry_by (Form.Timeout d cause) = record { err = ErrVal.DeadlineExceeded; cause = cause_of_expiry cause }
 expiry_by Form.Without = record { err = ErrVal.DeadlineExceeded; cause = CauseVal.DeadlineExceeded }
 
--- parents, and the contexts of hooks, are contexts that are declared earlier
+-- parents are contexts that are declared earlier, and hooks wait on contexts
 pub record AreOrdered (decls : List CtxDecl) : Type 0 where
   pub parent_earlier : (y p : ℕ) → parent_by (decl_at decls y) ≡ Some p → p < y
   pub parent_context : (y p : ℕ) → parent_by (decl_at decls y) ≡ Some p → is_context (decl_at decls p) ≡ true
-  pub ctx_earlier : (s c : ℕ) → ctx_by (decl_at decls s) ≡ Some c → c < s
   pub ctx_context : (s c : ℕ) → ctx_by (decl_at decls s) ≡ Some c → is_context (decl_at decls c) ≡ true

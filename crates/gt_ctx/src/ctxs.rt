@@ -1,13 +1,17 @@
 //! The contexts and the hooks.
-ghost use Rattle.std.specs.Prelude.{◌≡◌, ◌≢◌, ℕ, ◌<◌, ◌≤◌, ◌^◌, ◌↔◌, None, Some, length, slice_get, IsSome, IsNone, IsTrue, IfSome, IfNone, IfOk, true};
+ghost use Rattle.std.specs.Prelude.{◌≡◌, ◌≢◌, ℕ, [], ◌<◌, ◌≤◌, ◌^◌, ◌↔◌, None, Some, length, slice_get, is_some, IsSome, IsNone, IsTrue, IfSome, IfNone, IfOk, true};
 ghost use Rattle.std.specs.Option.{option_map};
-ghost use Rattle.gt_ctx.specs.Decls.{AreOrdered, decl_at, is_context, parent_by, heeded};
-ghost use Rattle.gt_ctx.specs.Contents.{IsLawful, end_at, own_at, world_at, context_at, hook_at, is_waiting, deadline};
-ghost use Rattle.gt_ctx.specs.Calls.{greatest_time, made_context, answer_made, after_make, after_cancel, answer_cancel, after_registering, answer_after, hooks_end, after_stop, handed_out, fresh, cut, starting, ctx_of, own_by, form_at, parents_deadline, parents_end};
+ghost use Rattle.gt_model.specs.Times.{greatest_time};
+ghost use Rattle.gt_ctx.specs.Decls.{AreOrdered, decls_of, decl_at, is_context, parent_by, heeded};
+ghost use Rattle.gt_ctx.specs.Contents.{IsLawful, AreEnded, end_at, own_at, world_at, context_at, hook_at, deadline};
+ghost use Rattle.gt_rules.specs.Contexts.{is_waiting_hook};
+ghost use Rattle.gt_ctx.specs.Calls.{made_context, answer_made, after_make, after_cancel, answer_cancel, after_registering, answer_after, hooks_end, after_stop, handed_out, fresh, cut, Becomes, starting, ctx_of, own_by, form_at, parents_deadline, parents_end};
 
-use crate::cut::{end_marked, end_of, mark_reached, start_hooks};
-use crate::decl::{CtxDecl, Form, expiry, heeded, hooked};
-use crate::ends::{After, CauseVal, Context, Cut, End, ErrVal, HookState, Made};
+use crate::cut::{end_of, end_reached, start_waiting, waits};
+use crate::decl::{CtxDecl, all_kept, expiry, heeded, hooked};
+use crate::ends::{After, Cut, Made};
+use crate::lists::Lists;
+use gt_model::{CauseVal, Context, End, ErrVal, Form, HookState, Script};
 use std::alloc::{AllocError, Global};
 use std::marker::Model;
 
@@ -15,18 +19,29 @@ use std::marker::Model;
 const GREATEST_TIME: u64 = 0x7fff_ffff_ffff_ffff;
 
 /// The contexts and hooks of a list of declarations. They are seen as that list, what is kept of each context, what has
-/// become of each hook, both by number, and the list `started` of the hooks that are still to be handed out.
+/// become of each hook, both by number, the list `started` of the hooks that are still to be handed out, and the list `ended` of
+/// the contexts that the last cancellation ended.
 #[derive(Drop)]
 pub struct Ctxs {
     decls: Vec<CtxDecl>,
     contexts: Vec<Option<Context>>,
+    /// The deadline of each context that was made: its own, or its parent's.
+    deadlines: Vec<Option<u64>>,
     hooks: Vec<HookState>,
-    /// Which contexts the present cut reaches.
-    marks: Vec<bool>,
+    /// The contexts that the end of a context reaches at once.
+    children: Lists,
+    /// The hooks that were registered at a context before its end. Stopped ones stay.
+    waiting: Lists,
+    /// The contexts that a cut still has to visit. Empty between the calls.
+    stack: Vec<u32>,
+    /// The hooks that a cut found at the contexts that it ended. Empty between the calls.
+    found: Vec<u32>,
     /// Each hook that a cut started, in this order.
     started: Vec<u32>,
     /// How many of these were handed out.
     handed: usize,
+    /// The contexts that the last cancellation ended.
+    ended: Vec<u32>,
 }
 
 impl Model for Ctxs {
@@ -42,34 +57,48 @@ impl Model for Ctxs {
       contexts = c.contexts.items;
       hooks = c.hooks.items;
       started = drop c.handed c.started.items;
+      ended = c.ended.items;
     } };
 
     ghost invariant = { λ c. IsKept
         c.decls.items
         c.contexts.items
         c.hooks.items
-        c.marks.items
+        c.deadlines.items
+        c.children
+        c.waiting
+        (vec_len c.stack)
+        (vec_capacity c.stack)
+        (vec_len c.found)
+        (vec_capacity c.found)
         (vec_len c.started)
         (vec_capacity c.started)
-        c.handed };
+        c.handed
+        (vec_capacity c.ended) };
 }
 
 impl Ctxs {
-    /// The contexts and hooks that are declared, none of them made or registered. Parents, and the contexts of hooks, are
-    /// contexts that are declared earlier. It alone takes memory.
-    pub fn with_decls(alloc: Global, decls: &[CtxDecl]) -> Result<Ctxs, AllocError>
-        requires ordered { AreOrdered decls.now }
-        requires few { length decls.now < 2 ^ 32 }
-        ensures { IfOk result (λ made. made ≡ fresh decls.now) }
+    /// The contexts and hooks of a script, none of them made or registered. Parents are contexts that are declared earlier, and
+    /// hooks wait on contexts. It alone takes memory.
+    pub fn with_decls(alloc: Global, script: &Script) -> Result<Ctxs, AllocError>
+        requires ordered { AreOrdered (decls_of script.now.decls) }
+        requires few { length script.now.decls < 2 ^ 32 }
+        ensures { IfOk result (λ made. made ≡ fresh (decls_of script.now.decls)) }
     {
+        let decls = all_kept(alloc, script.decls.as_slice())?;
         let names = decls.len();
         Ok(Ctxs {
-            decls: decls.to_vec(alloc)?,
+            decls,
             contexts: vec![in alloc; None; names]?,
+            deadlines: vec![in alloc; None; names]?,
             hooks: vec![in alloc; HookState::Unregistered; names]?,
-            marks: vec![in alloc; false; names]?,
+            children: Lists::with_names(alloc, names)?,
+            waiting: Lists::with_names(alloc, names)?,
+            stack: Vec::with_capacity(alloc, names + 1)?,
+            found: Vec::with_capacity(alloc, names)?,
             started: Vec::with_capacity(alloc, names)?,
             handed: 0,
+            ended: Vec::with_capacity(alloc, names)?,
         })
     }
 
@@ -94,7 +123,7 @@ impl Ctxs {
         ensures after { self.new ≡ after_make self.old x (made_context self.old x world now) }
     {
         let kept = self.context_for(x, world, now);
-        self.contexts[x as usize] = Some(kept);
+        self.keep(x, kept);
         match kept.end {
             Some(end) => Made::Ended {
                 err: end.err,
@@ -104,8 +133,23 @@ impl Ctxs {
         }
     }
 
-    /// What is kept of `x` once it is made so.
-    fn context_for(&self, x: u32, world: u32, now: u64) -> Context
+    /// Keeps what was made of `x`, and joins it to the children of the parent whose end reaches it.
+    fn keep(&mut self, x: u32, kept: Context)
+        requires unmade { context_at self.old.contexts x ≡ None }
+        requires context { x < length self.old.decls }
+        requires parent { IfSome (heeded self.old.decls x) (λ p. IsSome (context_at self.old.contexts p)) }
+        requires end { IsSome (parents_end self.old x) → IsSome kept.end }
+        ensures { self.new ≡ after_make self.old x kept }
+    {
+        let parent = self.parent(x);
+        let deadline = kept.own.or(self.parents_deadline(x));
+        self.children.join_to(parent, x);
+        self.deadlines[x as usize] = deadline;
+        self.contexts[x as usize] = Some(kept);
+    }
+
+    /// What would be kept of `x` if it were made so.
+    pub fn context_for(&self, x: u32, world: u32, now: u64) -> Context
         requires context { x < length self.now.decls }
         requires clock { now ≤ greatest_time }
         ensures { result ≡ made_context self.now x world now }
@@ -169,14 +213,19 @@ impl Ctxs {
         }
     }
 
-    /// The own deadline of `x`, once it was made.
-    fn own(&self, x: u32) -> Option<u64>
-        ensures { result ≡ own_at self.now.contexts x }
+    /// Whether `x` was made.
+    fn is_made(&self, x: u32) -> bool
+        ensures { result ≡ is_some (context_at self.now.contexts x) }
     {
-        match self.contexts.get(x as usize) {
-            Some(Some(kept)) => kept.own,
-            _ => None,
-        }
+        matches!(self.contexts.get(x as usize), Some(Some(_)))
+    }
+
+    /// The deadline of `x`, which was made.
+    fn made_deadline(&self, x: u32) -> Option<u64>
+        requires { IsSome (context_at self.now.contexts x) }
+        ensures { result ≡ deadline self.now x }
+    {
+        self.deadlines[x as usize]
     }
 
     /// The deadline of `x`, in nanoseconds: its own, else its parent's. `root` and the form `Without` have none.
@@ -186,15 +235,41 @@ impl Ctxs {
         self.lawful();
         let mut at = x;
         'up: loop {
-            let own = self.own(at);
-            if own.is_some() {
-                return own;
+            if self.is_made(at) {
+                return self.made_deadline(at);
             }
             match self.parent(at) {
                 Some(parent) => at = parent,
                 None => return None,
             }
         }
+    }
+
+    /// What is kept of `x`, or None where it was not made.
+    pub fn context(&self, x: u32) -> Option<Context>
+        ensures { result ≡ context_at self.now.contexts x }
+    {
+        match self.contexts.get(x as usize) {
+            Some(kept) => *kept,
+            None => None,
+        }
+    }
+
+    /// What has become of the hook `s`.
+    pub fn hook(&self, s: u32) -> HookState
+        ensures { result ≡ hook_at self.now.hooks s }
+    {
+        match self.hooks.get(s as usize) {
+            Some(hook) => *hook,
+            None => HookState::Unregistered,
+        }
+    }
+
+    /// The contexts that the last `cancel` ended, each once; none before the first one.
+    pub fn ended(&self) -> &[u32]
+        ensures { result.now ≡ self.now.ended }
+    {
+        self.ended.as_slice()
     }
 
     /// The error of `x`, or None before its end.
@@ -223,8 +298,10 @@ impl Ctxs {
         requires { IsSome (context_at self.old.contexts x) }
         ensures answer { result ≡ answer_cancel self.old x }
         ensures newly { IsTrue result.newly ↔ IsNone (end_at self.old.contexts x) }
-        ensures after { self.new ≡ after_cancel self.old x (record { err = err; cause = cause }) }
+        ensures after { Becomes self.new (after_cancel self.old x (record { err = err; cause = cause })) }
+        ensures ended { AreEnded self.old.contexts self.new.contexts self.new.ended }
     {
+        self.ended.clear();
         if end_of(self.contexts.as_slice(), x).is_some() {
             return Cut {
                 newly: false,
@@ -240,23 +317,30 @@ impl Ctxs {
 
     /// The cut of `x`, and how many hooks it started.
     fn cut(&mut self, x: u32, end: End) -> u32
+        requires made { IsSome (context_at self.old.contexts x) }
+        requires live { end_at self.old.contexts x ≡ None }
+        requires none { self.old.ended ≡ [] }
         ensures starts { result ≡ length (starting self.old x) }
-        ensures after { self.new ≡ cut self.old x end }
+        ensures after { Becomes self.new (cut self.old x end) }
+        ensures ended { AreEnded self.old.contexts self.new.contexts self.new.ended }
     {
-        mark_reached(
-            self.decls.as_slice(),
-            self.contexts.as_slice(),
-            x as usize,
-            self.marks.as_mut_slice(),
+        end_reached(
+            self.contexts.as_mut_slice(),
+            &self.children,
+            &self.waiting,
+            x,
+            end,
+            &mut self.stack,
+            &mut self.found,
+            &mut self.ended,
         );
-        let starts = start_hooks(
-            self.decls.as_slice(),
-            self.contexts.as_slice(),
-            self.marks.as_slice(),
+        self.found.sort_unstable();
+        let starts = start_waiting(
             self.hooks.as_mut_slice(),
+            self.found.as_slice(),
             &mut self.started,
         );
-        end_marked(self.contexts.as_mut_slice(), self.marks.as_slice(), end);
+        self.found.clear();
         starts
     }
 
@@ -279,26 +363,26 @@ impl Ctxs {
         ensures answer { result ≡ answer_after self.old s }
         ensures after { self.new ≡ after_registering self.old s }
     {
-        let ended = match hooked(self.decls[s as usize]) {
-            Some(ctx) => end_of(self.contexts.as_slice(), ctx).is_some(),
-            None => false,
-        };
-        if ended {
-            self.hooks[s as usize] = HookState::Started;
-            After::Starts
-        } else {
-            self.hooks[s as usize] = HookState::Waiting;
-            After::Waits
+        match hooked(self.decls[s as usize]) {
+            Some(ctx) if end_of(self.contexts.as_slice(), ctx).is_none() => {
+                self.waiting.join(ctx, s);
+                self.hooks[s as usize] = HookState::Waiting;
+                After::Waits
+            }
+            _ => {
+                self.hooks[s as usize] = HookState::Started;
+                After::Starts
+            }
         }
     }
 
     /// Keeps the hook `s` from being started, where it waits. Whether it waited.
     pub fn stop_hook(&mut self, s: u32) -> bool
         requires { hook_at self.old.hooks s ≢ HookState.Unregistered }
-        ensures answer { result ≡ is_waiting (hook_at self.old.hooks s) }
+        ensures answer { result ≡ is_waiting_hook (hook_at self.old.hooks s) }
         ensures after { self.new ≡ after_stop self.old s }
     {
-        let waits = self.hooks[s as usize] == HookState::Waiting;
+        let waits = waits(self.hooks.as_slice(), s);
         if waits {
             self.hooks[s as usize] = HookState::Stopped;
         }

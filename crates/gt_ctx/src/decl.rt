@@ -1,21 +1,9 @@
 //! What is declared.
-ghost use Rattle.std.specs.Prelude.{◌≡◌};
-ghost use Rattle.gt_ctx.specs.Decls.{heeded_by, ctx_by, expiry_by};
+ghost use Rattle.std.specs.Prelude.{◌≡◌, IfOk};
+ghost use Rattle.gt_ctx.specs.Decls.{decl_by, decls_of, heeded_by, ctx_by, expiry_by};
 
-use crate::ends::{CauseVal, End, ErrVal};
-
-/// How a context is derived from its parent. Times are in nanoseconds.
-#[derive(Clone, Copy, Debug, PartialEq, Eq)]
-pub enum Form {
-    /// It can be canceled.
-    Cancel,
-    /// It can be canceled with a cause.
-    Cause,
-    /// It expires `d` after it is made, with the error of that number as the cause where one is named.
-    Timeout { d: u64, cause: Option<u32> },
-    /// Its parent's end and deadline do not reach it.
-    Without,
-}
+use gt_model::{CauseVal, Decl, End, ErrVal, Form, What};
+use std::alloc::{AllocError, Global};
 
 /// What stands at one place of the declarations.
 #[derive(Clone, Copy, Debug, PartialEq, Eq)]
@@ -26,6 +14,28 @@ pub enum CtxDecl {
     Context { parent: Option<u32>, form: Form },
     /// A function that starts at the end of a context.
     Hook { ctx: u32 },
+}
+
+/// What is kept of a declaration.
+fn kept_of(what: What) -> CtxDecl
+    ensures { result ≡ decl_by what }
+{
+    match what {
+        What::Ctx { parent, form } => CtxDecl::Context { parent, form },
+        What::Hook { ctx, .. } => CtxDecl::Hook { ctx },
+        _ => CtxDecl::Other,
+    }
+}
+
+/// What is kept of declarations.
+pub fn all_kept(alloc: Global, decls: &[Decl]) -> Result<Vec<CtxDecl>, AllocError>
+    ensures { IfOk result (λ kept. kept.items ≡ decls_of decls.now) }
+{
+    let mut kept = Vec::with_capacity(alloc, decls.len())?;
+    for decl in decls {
+        kept.push_reserved(kept_of(decl.what));
+    }
+    Ok(kept)
 }
 
 /// The parent whose end and deadline reach the context that is declared so. None is `root`, or there is no such parent.

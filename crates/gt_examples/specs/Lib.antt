@@ -32,3 +32,11 @@ pub mod CondWaits
 pub mod Signals
 pub mod WaitsUnlocked
 pub mod LostSignal
+pub mod Without
+pub mod FirstCause
+pub mod Deadlines
+pub mod Hooks
+pub mod Cancels
+pub mod CancelsUnmade
+pub mod NobodyCancels
+pub mod ChoosesAnEnd

@@ -40,6 +40,14 @@ ghost use Rattle.gt_examples.specs.CondWaits as cond_waits;
 ghost use Rattle.gt_examples.specs.Signals as signals;
 ghost use Rattle.gt_examples.specs.WaitsUnlocked as waits_unlocked;
 ghost use Rattle.gt_examples.specs.LostSignal as lost_signal;
+ghost use Rattle.gt_examples.specs.Without as without;
+ghost use Rattle.gt_examples.specs.FirstCause as first_cause;
+ghost use Rattle.gt_examples.specs.Deadlines as deadlines;
+ghost use Rattle.gt_examples.specs.Hooks as hooks;
+ghost use Rattle.gt_examples.specs.Cancels as cancels;
+ghost use Rattle.gt_examples.specs.CancelsUnmade as cancels_unmade;
+ghost use Rattle.gt_examples.specs.NobodyCancels as nobody_cancels;
+ghost use Rattle.gt_examples.specs.ChoosesAnEnd as chooses_an_end;
 
 /// main sleeps for 5 ms and looks at the clock.
 pub fn sleeps_and_looks()
@@ -493,4 +501,137 @@ pub fn signals_too_early()
 /// A signal wakes a goroutine that waits after it.
 pub fn signal_wakes_later()
     ensures { IsVerdict lost_signal.script default_limits lost_signal.wakes_later (Verdict.Illegal 4) }
+{}
+
+/// A cancellation does not pass a context of the form `without`: the one below it goes on.
+pub fn ends_above_without()
+    ensures history { History without.script default_limits without.history Outcome.Exit }
+    ensures jumps { AllJump without.script 0 (first_state without.script) without.history }
+{}
+
+/// A cancellation passes a context of the form `without`.
+pub fn passes_without()
+    ensures { IsVerdict without.script default_limits without.passes (Verdict.Illegal 5) }
+{}
+
+/// A context that was canceled keeps its cause, and so does the one below it, when the deadline above them passes.
+pub fn keeps_the_first_cause()
+    ensures history { History first_cause.script default_limits first_cause.history Outcome.Exit }
+    ensures jumps { AllJump first_cause.script 0 (first_state first_cause.script) first_cause.history }
+{}
+
+/// The deadline of a parent overwrites the cause of a context that was canceled.
+pub fn overwrites_a_cause()
+    ensures { IsVerdict first_cause.script default_limits first_cause.overwrites (Verdict.Illegal 19) }
+{}
+
+/// A context ends by a deadline that is still to come.
+pub fn expires_before_its_deadline()
+    ensures { IsVerdict first_cause.script default_limits first_cause.early (Verdict.Illegal 9) }
+{}
+
+/// A deadline passes, and ends its context and the one below it, whose own is later; one whose time is 0 has ended at once.
+pub fn passes_a_deadline()
+    ensures history { History deadlines.script default_limits deadlines.history Outcome.Exit }
+    ensures jumps { AllJump deadlines.script 0 (first_state deadlines.script) deadlines.history }
+{}
+
+/// A context whose deadline has come is made without an end.
+pub fn made_live_past_its_deadline()
+    ensures { IsVerdict deadlines.script default_limits deadlines.live (Verdict.Illegal 3) }
+{}
+
+/// A wait for the end of a context goes on before it.
+pub fn found_before_its_end()
+    ensures { IsVerdict deadlines.script default_limits deadlines.found_early (Verdict.Illegal 5) }
+{}
+
+/// A deadlock while the deadline of a context is still to come.
+pub fn deadlock_before_a_deadline()
+    ensures { IsVerdict deadlines.script default_limits deadlines.gives_up (Verdict.Illegal 5) }
+{}
+
+/// A context ends by the deadline of the one above it, as if that were its own.
+pub fn expires_by_another_deadline()
+    ensures { IsVerdict deadlines.script default_limits deadlines.expires_below (Verdict.Illegal 6) }
+{}
+
+/// Of two hooks that wait one is taken back, and the end starts the other one; one that is registered after it starts at once.
+pub fn starts_hooks()
+    ensures history { History hooks.script default_limits hooks.history Outcome.Exit }
+    ensures jumps { AllJump hooks.script 0 (first_state hooks.script) hooks.history }
+{}
+
+/// A hook starts before its context ends.
+pub fn hook_starts_before_the_end()
+    ensures { IsVerdict hooks.script default_limits hooks.starts_early (Verdict.Illegal 2) }
+{}
+
+/// A hook that waits is taken back, and that is denied.
+pub fn denies_that_a_hook_waits()
+    ensures { IsVerdict hooks.script default_limits hooks.denies (Verdict.Illegal 4) }
+{}
+
+/// An end starts a hook that was taken back.
+pub fn starts_a_stopped_hook()
+    ensures { IsVerdict hooks.script default_limits hooks.starts_both (Verdict.Illegal 5) }
+{}
+
+/// An end does not start a hook that waits.
+pub fn leaves_out_a_hook()
+    ensures { IsVerdict hooks.script default_limits hooks.starts_none (Verdict.Illegal 5) }
+{}
+
+/// A hook waits for a context that has ended.
+pub fn hook_waits_behind_the_end()
+    ensures { IsVerdict hooks.script default_limits hooks.waits_late (Verdict.Illegal 6) }
+{}
+
+/// Of two cancellations the first one brings the end, which a context that is made below has at once.
+pub fn cancels_twice()
+    ensures history { History cancels.script default_limits cancels.history Outcome.Exit }
+    ensures jumps { AllJump cancels.script 0 (first_state cancels.script) cancels.history }
+{}
+
+/// A cancellation brings an end to a context that has ended.
+pub fn ends_a_context_twice()
+    ensures { IsVerdict cancels.script default_limits cancels.ends_twice (Verdict.Illegal 3) }
+{}
+
+/// A context is made without an end below one that has ended.
+pub fn made_live_below_an_end()
+    ensures { IsVerdict cancels.script default_limits cancels.live_below (Verdict.Illegal 4) }
+{}
+
+/// A context that was not made is canceled.
+pub fn cancels_an_unmade_context()
+    ensures history { History cancels_unmade.script default_limits cancels_unmade.history Outcome.Panic }
+    ensures jumps { AllJump cancels_unmade.script 0 (first_state cancels_unmade.script) cancels_unmade.history }
+{}
+
+/// A run goes on where a context was canceled that was not made.
+pub fn goes_on_without_a_context()
+    ensures { IsVerdict cancels_unmade.script default_limits cancels_unmade.goes_on (Verdict.Illegal 1) }
+{}
+
+/// A wait for the end of a context that nobody cancels waits for ever.
+pub fn nobody_cancels()
+    ensures history { History nobody_cancels.script default_limits nobody_cancels.history Outcome.Deadlock }
+    ensures jumps { AllJump nobody_cancels.script 0 (first_state nobody_cancels.script) nobody_cancels.history }
+{}
+
+/// A wait for the end of a context that nobody cancels goes on.
+pub fn goes_on_without_an_end()
+    ensures { IsVerdict nobody_cancels.script default_limits nobody_cancels.goes_on (Verdict.Illegal 2) }
+{}
+
+/// A choice goes on at the case that waits for the end of a context.
+pub fn chooses_an_end()
+    ensures history { History chooses_an_end.script default_limits chooses_an_end.history Outcome.Exit }
+    ensures jumps { AllJump chooses_an_end.script 0 (first_state chooses_an_end.script) chooses_an_end.history }
+{}
+
+/// A choice goes on for the end of a context at a case that waits for something else.
+pub fn chooses_an_end_at_another_case()
+    ensures { IsVerdict chooses_an_end.script default_limits chooses_an_end.other_case (Verdict.Illegal 5) }
 {}

@@ -1,4 +1,4 @@
--- What an entry that may come next changes is there to be changed: its goroutines live, its timer or its channel was made or is not yet, what steps is declared, its clock ticks.
+-- What an entry that may come next changes is there to be changed: its goroutines live, its timer or its channel was made or is not yet, what steps is declared, its context or hook may change so, its clock ticks.
 use Rattle.std.proofs.Common.{◌≡◌, ℕ, ◌<◌, List, length, sym, subst, ◌∙◌, arith, Option, None, Some, true, false, is_some, IsTrue, refl, IfSome, IsSomeAnd, MatchOption, ap}
 use Rattle.gt_model.specs.declared.script.Script.{Script}
 use Rattle.gt_model.specs.declared.script.Instr.{Instr}
@@ -17,6 +17,7 @@ use Rattle.gt_rules.specs.declared.change.Move.{Move}
 use Rattle.gt_rules.specs.declared.change.Setting.{Setting}
 use Rattle.gt_rules.specs.declared.change.SyncStep.{SyncStep}
 use Rattle.gt_rules.specs.declared.change.Trade.{Trade}
+use Rattle.gt_rules.specs.declared.change.TreeStep.{TreeStep}
 use Rattle.gt_rules.specs.Change.{Change, change_of}
 use Rattle.gt_rules.specs.Legal.{May, MayPanic, ChoosesClosed, Operates, operation_at}
 use Rattle.gt_rules.specs.Panics.{panic_at, fault_at}
@@ -24,6 +25,7 @@ use Rattle.gt_rules.specs.Finish.{Legal}
 use Rattle.gt_facts.specs.Formed.{IsFormed}
 use Rattle.gt_facts.proofs.Lookups.{Standing, standing, Asleep, sleeper, InMode, in-mode, AtOperation, at_operation, names-Does}
 use Rattle.gt_facts.proofs.Makers.{Maker, calls, receives, trades, pairs, wakes, ticks, panics, retakes, signals, maker, Sets, sets, HasTrade, Trades, trades-May}
+pub use Rattle.gt_facts.proofs.Contexts.{FitsTree, FitsDerived, FitsEnd, FitsRegistered, FitsUnhooked, tree-fits}
 use Rattle.gt_facts.proofs.Still.{panic_stands}
 use Rattle.gt_facts.proofs.Within.{setting_within, chan_within, mutex_of-within, relocking-cond}
 
@@ -66,6 +68,7 @@ pub record Fits (script : Script) (s : State) (c : Change) : Type 0 where
   pub timer : IfSome c.timer (λ (x : ℕ × Setting). FitsTimer s x.0 x.1)
   pub channel : IfSome c.channel (λ (x : ℕ × Trade). FitsChannel script s x.0 x.1)
   pub sync : IfSome c.sync (λ (x : ℕ × SyncStep). FitsSync script s x.0 x.1)
+  pub tree : IfSome c.tree (λ (x : ℕ × TreeStep). FitsTree script s x.0 x.1)
   pub clock : IfSome c.clock (λ (x : ℕ × ℕ). x.0 < length s.clocks)
 
 -- ---- who makes an entry lives
@@ -225,9 +228,10 @@ fits-May script s e good formed may = record {
   timer = timer-fits script s e good formed may;
   channel = channel-fits script s e good formed may;
   sync = sync-fits script s e good formed may;
+  tree = tree-fits script s e good formed may;
   clock = clock-fits script s e formed may;
 }
 
 pub fits-Legal : (script : Script) (limits : Limits) (s : State) (e : Entry) → IsGood script → IsFormed script s → Legal script limits s e → Fits script s (change_of e)
-fits-Legal script limits s (Entry.Finish outcome) good formed legal = record { mover = tt; partner = tt; broadcast = tt; timer = tt; channel = tt; sync = tt; clock = tt }
+fits-Legal script limits s (Entry.Finish outcome) good formed legal = record { mover = tt; partner = tt; broadcast = tt; timer = tt; channel = tt; sync = tt; tree = tt; clock = tt }
 fits-Legal script limits s e good formed legal = fits-May script s e good formed legal.1

@@ -20,8 +20,10 @@ use Rattle.gt_model.specs.declared.state.Timer.{Timer}
 use Rattle.gt_model.specs.declared.state.Mode.{Mode}
 use Rattle.gt_model.specs.Times.{greatest_time}
 use Rattle.gt_model.specs.Tables.{at, change, change_numbered, flatten}
-use Rattle.gt_rules.specs.State.{State, Channel, goroutine_at, mode_of, stands_at, until_of, suspended_at, relocking_at, is_suspended, sleeps_until, clock, clock_of, world_of, timer_at, channel_at, item_count}
-use Rattle.gt_model.specs.Script.{code_of, instr_at, is_func, is_cond, names_func, func_of, capacity_of}
+use Rattle.gt_rules.specs.State.{State, Channel, goroutine_at, mode_of, stands_at, until_of, suspended_at, relocking_at, is_suspended, sleeps_until, clock, clock_of, world_of, timer_at, channel_at, item_count, context_at}
+use Rattle.gt_rules.specs.Contexts.{starting, hook_world}
+use Rattle.gt_model.specs.declared.context.Context.{Context}
+use Rattle.gt_model.specs.Script.{code_of, instr_at, is_func, is_cond, names_func, func_of, capacity_of, ctx_of, hook_func}
 use Rattle.gt_model.specs.Good.{IsGood, IsGoodCode, DeclaresRightly, is_finish}
 use Rattle.gt_rules.specs.declared.change.Move.{Move}
 use Rattle.gt_rules.specs.declared.change.Setting.{Setting}
@@ -34,16 +36,18 @@ use Rattle.gt_rules.specs.Operations.{operation}
 use Rattle.gt_rules.specs.Finish.{Legal}
 use Rattle.gt_rules.specs.History.{AllLegal, state_after}
 use Rattle.gt_rules.specs.Places.{silent, silent_at, settled, next_of, place_after}
-use Rattle.gt_facts.specs.Formed.{IsFormed, IsFormedChannel, IsOnWay, IsPlaced, IsPlacedIn}
+use Rattle.gt_facts.specs.Formed.{IsFormed, IsFormedChannel, started_count, IsOnWay, IsPlaced, IsPlacedIn}
 use Rattle.gt_model.proofs.GoodCode.{HasItem, has_item, all_at, main_within}
 use Rattle.gt_facts.proofs.Landing.{way-forward, next-way, passes, Landed, landed}
 use Rattle.gt_facts.proofs.Lookups.{Standing, standing, AtOperation, at_operation, mode_is, names-instr_at}
 use Rattle.gt_facts.proofs.Suspended.{suspended-mode, signals-other, all-signalled}
 pub use Rattle.gt_facts.proofs.Suspended.{length-signalled}
-use Rattle.gt_facts.proofs.Makers.{Maker, calls, receives, trades, pairs, wakes, ticks, panics, retakes, signals, maker, Leaves, Sets, sets, Trades, trades-May, Begins, AllBegin, starts, starts-few}
+use Rattle.gt_facts.proofs.Makers.{Maker, calls, receives, trades, pairs, wakes, ticks, panics, retakes, signals, maker, Leaves, Sets, sets, Trades, trades-May}
+use Rattle.gt_facts.proofs.Starts.{Begins, AllBegin, starts, starts-few}
+use Rattle.gt_facts.proofs.Contexts.{AreContexts, AreHooks, IsHookOf, contexts-of, hooks-of, contexts-first, hooks-first, contexts-entered, hooks-entered}
 use Rattle.gt_facts.proofs.Counters.{AreSyncs, syncs-finished, syncs-entered, syncs-first}
 use Rattle.gt_facts.proofs.Periods.{ArePeriods, periods-first, periods-entered}
-use Rattle.gt_facts.proofs.Within.{chan_within}
+use Rattle.gt_facts.proofs.Within.{chan_within, hook_func-within}
 use Rattle.gt_model.proofs.Items.{at-is, at-change_other, numbered-change_other}
 use Rattle.gt_model.proofs.Changes.{AllAt, AllNumbered, all-change, all-set, all_numbered-change, all_numbered-append, length-change, length-change_numbered}
 
@@ -78,12 +82,12 @@ pub record AreChannels (script : Script) (cs : List (Option Channel)) : Type 0 w
   pub count : length cs ≡ length script.decls
   pub each : (c : ℕ) (r : Channel) → at cs c ≡ Some r → IsFormedChannel script c r
 
-formed-parts : (script : Script) (s : State) → AreClocks s.clocks → AreGoroutines script s.goroutines → length s.goroutines ≤ s.entries + 1 → AreTimers script s.timers
-    → ArePeriods script s.timers → AreChannels script s.channels → AreSyncs script s.entries s.syncs → IsFormed script s
-formed-parts script s clocks gs few ts periods cs ys =
+formed-parts : (script : Script) (s : State) → AreClocks s.clocks → AreGoroutines script s.goroutines → length s.goroutines ≤ s.entries + 1 + started_count s → AreTimers script s.timers
+    → ArePeriods script s.timers → AreChannels script s.channels → AreSyncs script s.entries s.syncs → AreContexts script s.contexts → AreHooks script s.contexts s.hooks → IsFormed script s
+formed-parts script s clocks gs few ts periods cs ys xs hs =
     let timer : (t : ℕ) (r : Timer) → timer_at s t ≡ Some r → IsFormedTimer r = λ t r e. ts.each t (Some r) (at-is s.timers t r e) in
     record {
-      world = record { goroutines = λ g r e. (gs.each g r e).world; timers = λ t r e. (timer t r e).world };
+      world = record { goroutines = λ g r e. (gs.each g r e).world; timers = λ t r e. (timer t r e).world; contexts = λ x r e. (xs.each x r e).world };
       one_clock = clocks.one;
       time = clocks.time;
       placed = λ g r e. (gs.each g r e).placed;
@@ -97,6 +101,10 @@ formed-parts script s clocks gs few ts periods cs ys =
       chans = cs.each;
       syncs = ys.count;
       counters = ys.each;
+      contexts = xs.count;
+      ctxs = xs.each;
+      hooks = hs.count;
+      hooked = λ h is. (let was : IsHookOf script s.contexts h = hs.each h is in record { named = was.named; made = was.made });
     }
 
 clocks-of : (script : Script) (s : State) → IsFormed script s → AreClocks s.clocks
@@ -217,7 +225,7 @@ formed-first script good =
     (record { count = length-map script.decls (λ (d : Decl). None); each = all-none script.decls })
     (periods-first script)
     (record { count = length-map script.decls (λ (d : Decl). None); each = λ c r e. none_channel script script.decls c c r e })
-    (syncs-first script)
+    (syncs-first script) (contexts-first script) (hooks-first script)
 
 -- ---- goroutines
 
@@ -358,6 +366,21 @@ timer_world-zero script s t formed = elim (timer_at s t) as (λ o. timer_at s t 
   | Some r ↦ λ e. formed.world.timers t r e
 ] refl
 
+abbrev world_in : Option Context → ℕ
+world_in o = elim o [ None ↦ 0 | Some r ↦ r.world ]
+
+context_world-zero : (script : Script) (s : State) (x : ℕ) → IsFormed script s → world_in (context_at s x) ≡ 0
+context_world-zero script s x formed = elim (context_at s x) as (λ o. context_at s x ≡ o → world_in o ≡ 0) [
+  | None ↦ λ e. refl
+  | Some r ↦ λ e. formed.world.contexts x r e
+] refl
+
+pub hook_world-zero : (script : Script) (s : State) (h : ℕ) → IsFormed script s → hook_world script s h ≡ 0
+hook_world-zero script s h formed = elim (ctx_of script h) as (λ o. (elim o [ None ↦ 0 | Some x ↦ world_in (context_at s x) ]) ≡ 0) [
+  | None ↦ refl
+  | Some x ↦ context_world-zero script s x formed
+]
+
 starts_what : (script : Script) (what : What) → DeclaresRightly script what → names_func (Some what) ≡ true → (elim what [ What.AfterFunc f ↦ f | _ ↦ 0 ]) < length script.funcs
 starts_what script What.Timer h k = cc
 starts_what script What.Ticker h k = cc
@@ -366,6 +389,9 @@ starts_what script What.Wg h k = cc
 starts_what script (What.Cond mutex) h k = cc
 starts_what script (What.AfterFunc f) h k = h
 starts_what script (What.Chan cap) h k = cc
+starts_what script (What.Ctx parent form) h k = cc
+starts_what script (What.Hook ctx func) h k = cc
+starts_what script What.Error h k = cc
 starts_what script What.Function h k = cc
 
 func_of-within : (script : Script) (t : ℕ) → IsGood script → is_func script t ≡ true → func_of script t < length script.funcs
@@ -447,12 +473,17 @@ partner-formed script s m q k good formed _ all = all
 broadcast-formed : (script : Script) (gs : List Goroutine) (o : Option ℕ) → AreGoroutines script gs → AreGoroutines script (with_signalled gs o)
 broadcast-formed script gs o all = record { each = all-signalled (IsFormedGoroutine script) gs o all.each (signalled-formed script) }
 
-starter-formed : (script : Script) (s : State) (x : Start) → IsGood script → IsFormed script s → Begins script x → IsFormedGoroutine script (started_by script s x)
+starter-formed : (script : Script) (s : State) (x : Start) → IsGood script → IsFormed script s → Begins script s x → IsFormedGoroutine script (started_by script s x)
 starter-formed script s (Start.ByGoroutine g f) good formed h = begun-formed script (world_of s g) f good (world_of-zero script s g formed) h
 starter-formed script s (Start.ByTimer t) good formed h =
     begun-formed script (timer_world s t) (func_of script t) good (timer_world-zero script s t formed) (func_of-within script t good h)
+starter-formed script s (Start.ByHook h) good formed hook =
+    begun-formed script (hook_world script s h) (hook_func script h) good (hook_world-zero script s h formed) (hook_func-within script h good hook)
+starter-formed script s (Start.ByEnd x i) good formed hook =
+    let h : ℕ = slice_index (starting script s x) i in
+    begun-formed script (hook_world script s h) (hook_func script h) good (hook_world-zero script s h formed) (hook_func-within script h good hook)
 
-starts-formed : (script : Script) (s : State) (gs : List Goroutine) (xs : List Start) → IsGood script → IsFormed script s → AllBegin script xs → AreGoroutines script gs
+starts-formed : (script : Script) (s : State) (gs : List Goroutine) (xs : List Start) → IsGood script → IsFormed script s → AllBegin script s xs → AreGoroutines script gs
     → AreGoroutines script (with_starts script s gs xs)
 starts-formed script s gs [] good formed begin all = all
 starts-formed script s gs (x ∷ xs) good formed begin all =
@@ -571,24 +602,26 @@ formed-after script s e good formed may =
     let woken : List Goroutine = with_signalled movers c.broadcast in
     let kept : length woken ≡ length movers = length-signalled movers c.broadcast in
     let more : length (with_starts script s woken c.starts) ≡ length woken + length c.starts = length-starts script s woken c.starts in
-    let counts : length c.starts ≤ c.counted = starts-few e in
-    let few : length s.goroutines ≤ s.entries + 1 = formed.few in
+    let counts : length c.starts + started_count s ≤ c.counted + started_count (after script s e) = starts-few script s e may in
+    let few : length s.goroutines ≤ s.entries + 1 + started_count s = formed.few in
     let moved_once : AreGoroutines script (with_mover script s.goroutines c.mover) = mover-formed script s c.mover c.partner c.clock good formed who in
     formed-parts script (after script s e)
     (clocks-formed script s c.mover c.partner c.clock formed who)
-    (starts-formed script s woken c.starts good formed (starts script s e good may)
+    (starts-formed script s woken c.starts good formed (starts script s e good formed may)
     (broadcast-formed script movers c.broadcast (partner-formed script s c.mover c.partner c.clock good formed who moved_once)))
     (omega arith)
     (timers-formed script s c.mover c.timer formed (sets script s e good may))
     (periods-entered script s e may formed.periods)
     (channels-formed script s c.mover c.channel formed (trades-May script s e good may))
     (syncs-entered script s e good formed may)
+    (contexts-entered script s e good formed (world_of-zero script s (number_of c.mover) formed) may)
+    (hooks-entered script s e good formed may)
 
 pub formed-finish : (script : Script) (s : State) (outcome : Outcome) → IsFormed script s → IsFormed script (after script s (Entry.Finish outcome))
 formed-finish script s outcome formed =
-    let few : length s.goroutines ≤ s.entries + 1 = formed.few in
+    let few : length s.goroutines ≤ s.entries + 1 + started_count s = formed.few in
     formed-parts script (after script s (Entry.Finish outcome)) (clocks-of script s formed) (goroutines-of script s formed) (omega arith) (timers-of script s formed)
-    formed.periods (channels-of script s formed) (syncs-finished script s formed)
+    formed.periods (channels-of script s formed) (syncs-finished script s formed) (contexts-of script s formed) (hooks-of script s formed)
 
 -- ---- legal entries, and histories of them
 

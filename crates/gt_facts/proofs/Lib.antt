@@ -3,6 +3,8 @@ pub mod Lookups
 pub mod Partners
 pub mod Suspended
 pub mod Makers
+pub mod Starts
+pub mod Contexts
 pub mod Periods
 pub mod Counters
 pub mod Quiet

@@ -8,7 +8,7 @@ use Rattle.gt_model.specs.declared.state.Goroutine.{Goroutine}
 use Rattle.gt_model.specs.declared.state.Mode.{Mode}
 use Rattle.gt_model.specs.Tables.{numbered}
 use Rattle.gt_rules.specs.State.{State, goroutine_at, mode_of, stands, stands_at, until_of, sleeps_until}
-use Rattle.gt_model.specs.Script.{instr_at, is_chan, is_mutex, is_wg, what_at, names_timer, names_chan, names_mutex, names_wg}
+use Rattle.gt_model.specs.Script.{instr_at, is_chan, is_mutex, is_wg, what_at, names_timer, names_chan, names_mutex, names_wg, named_form, can_end}
 use Rattle.gt_model.specs.declared.script.What.{What}
 use Rattle.gt_model.specs.declared.script.Func.{Func}
 use Rattle.gt_model.specs.declared.script.Place.{Place}
@@ -241,11 +241,11 @@ names-operation script _ n kind e names = cc
 
 -- ---- a lock is the only receive of a mutex, and a wait that of a WaitGroup
 
-no-value_mutex : (w : Option What) → IsTrue (names_timer w || names_chan w) → IsTrue (names_mutex w) → ⊥
+no-value_mutex : (w : Option What) → IsTrue (names_timer w || names_chan w || can_end (named_form w)) → IsTrue (names_mutex w) → ⊥
 no-value_mutex (Some What.Mutex) h mutex = cc
 no-value_mutex _ h mutex = cc
 
-no-value_wg : (w : Option What) → IsTrue (names_timer w || names_chan w) → IsTrue (names_wg w) → ⊥
+no-value_wg : (w : Option What) → IsTrue (names_timer w || names_chan w || can_end (named_form w)) → IsTrue (names_wg w) → ⊥
 no-value_wg (Some What.Wg) h wg = cc
 no-value_wg _ h wg = cc
 

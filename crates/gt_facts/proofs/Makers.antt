@@ -1,5 +1,5 @@
 -- Who makes an entry that may come next, and what the entry changes: of what is shown here alone each kind of entry, and of instruction, has a clause.
-use Rattle.std.proofs.Common.{◌≡◌, ℕ, zero, suc, ◌<◌, ◌≤◌, List, [], ◌∷◌, length, refl, sym, ap, subst, ◌∙◌, arith, Option, None, Some, Bool, true, false, not, ◌&&◌, ◌||◌, ◌==◌, ◌≢◌, nat_lt, slice_get, is_some, is_none, IsTrue, IfSome, IsSomeAnd, MatchOption, option_map, get_or, ◌+◌, ◌*◌, min}
+use Rattle.std.proofs.Common.{◌≡◌, ℕ, zero, suc, ◌<◌, ◌≤◌, List, [], ◌∷◌, length, refl, sym, ap, subst, ◌∙◌, arith, Option, None, Some, Bool, true, false, not, ◌&&◌, ◌||◌, ◌==◌, ◌≢◌, nat_lt, slice_get, is_some, is_none, IsTrue, IfSome, IsSomeAnd, MatchOption, option_map, get_or, cond, ◌+◌, ◌*◌, min}
 use Rattle.std.specs.List.{list_any}
 use Rattle.std.proofs.Math.Nat.{min-le_left}
 use Rattle.std.proofs.lemmas.Bool.{and_parts, eqb-true, leb-true, lt-ltb, ltb-true, or_left, or_right}
@@ -15,19 +15,20 @@ use Rattle.gt_model.specs.Times.{greatest_time}
 use Rattle.gt_model.specs.declared.script.Case.{Case}
 use Rattle.gt_model.specs.declared.script.CaseKind.{CaseKind}
 use Rattle.gt_model.specs.declared.script.What.{What}
-use Rattle.gt_model.specs.Script.{what_at, names_timer, names_chan, names_mutex, names_wg, is_func, is_timer, is_chan, mutex_of, capacity_of, is_ticker}
+use Rattle.gt_model.specs.Script.{what_at, names_timer, names_chan, names_mutex, names_wg, names_ctx, is_func, is_timer, is_chan, mutex_of, capacity_of, is_ticker}
 use Rattle.gt_model.specs.Good.{IsGood, is_finish, is_setting}
 use Rattle.gt_model.proofs.Declared.{timer_setting, func_setting}
-use Rattle.gt_rules.specs.State.{is_locked, counter_of, mode_of, suspended_count, State, Channel, goroutine_at, stands, world_of, clock, clock_of, sleeps_until, next_number, timer_at, due_of, period_at, channel_at, items_of, item_count, is_closed, is_open}
+use Rattle.gt_rules.specs.State.{is_locked, counter_of, mode_of, suspended_count, State, Channel, goroutine_at, stands, world_of, clock, clock_of, sleeps_until, next_number, timer_at, due_of, period_at, channel_at, items_of, item_count, is_closed, is_open, end_at, has_ended, hook_at}
+use Rattle.gt_rules.specs.Contexts.{made_context, start_count, hook_is_due, is_waiting_hook}
+use Rattle.gt_model.specs.declared.context.End.{End}
 use Rattle.gt_rules.specs.Panics.{panic_of, fault, fault_at, fault_case, case_fault, choice_fault, when, or_else, open_fault, zero_ticker}
 use Rattle.gt_rules.specs.Ready.{is_due, is_ready_instr, is_ready_case, is_ready_alone, is_ready_recv, has_partner, partner_waits, has_come, everyone}
 use Rattle.gt_rules.specs.Operations.{operation, polls, receives_from, sends_to}
 use Rattle.gt_rules.specs.declared.change.Move.{Move}
 use Rattle.gt_rules.specs.declared.change.Trade.{Trade}
 use Rattle.gt_rules.specs.declared.change.Setting.{Setting}
-use Rattle.gt_rules.specs.declared.change.Start.{Start}
 use Rattle.gt_rules.specs.Change.{change_of, sleeps, takes, goes_on}
-use Rattle.gt_rules.specs.Legal.{May, MayPanic, ChoosesClosed, Does, Operates, operation_at, is_polling, Gives, due_at, sleep_end, was_set, LeavesBy}
+use Rattle.gt_rules.specs.Legal.{May, MayPanic, ChoosesClosed, Does, Operates, operation_at, is_polling, Gives, due_at, sleep_end, was_set, LeavesBy, Expires}
 use Rattle.gt_rules.specs.Finish.{IsIdle}
 use Rattle.gt_facts.proofs.Lookups.{locks-Operates, waits-Operates, names-Does, names-Operates, operates-Does, does-Operates, AtOperation, at_operation, HasAny, any-has, IsCase, is-case, ReceivesFrom, receives-recv, SendsTo, sends-send}
 use Rattle.gt_facts.proofs.Partners.{Partner, partner}
@@ -61,13 +62,15 @@ pub data Maker (script : Script) (s : State) : Option (ℕ × Move) → Option (
   -- a goroutine at the receive of a timer's value that has come
   receives : (p : Party) (t due : ℕ) → Operates script s p (CaseKind.Recv t) → IsTrue (is_timer script t) → due_of s t ≡ Some due → due ≤ clock_of s p.g
       → Maker script s (Some (goes_on p)) None None
-  -- a goroutine at an operation of a channel that is ready by itself, and two at the two operations of a channel that keeps no values: a good script declares it as one
+  -- a goroutine at an operation of a channel, or of a context, that is ready by itself
   trades : (p : Party) (kind : CaseKind) → Operates script s p kind → ((timed : ℕ → Bool) → is_ready_alone script s timed kind ≡ true) → Maker script s (Some (goes_on p)) None None
+  -- two at the two operations of a channel that keeps no values: a good script declares it as one
   pairs : (from to : Party) (c v : ℕ) → Operates script s from (CaseKind.Send c v) → Operates script s to (CaseKind.Recv c) → (IsGood script → IsTrue (is_chan script c)) → capacity_of script c ≡ 0
       → from.g ≢ to.g → IsTrue (not (is_polling script s from.g && is_polling script s to.g)) → Maker script s (Some (goes_on from)) (Some (goes_on to)) None
-  -- a sleeper whose time has come, and an AfterFunc timer
+  -- a sleeper whose time has come, an AfterFunc timer, and a context
   wakes : (g : ℕ) → IsSomeAnd (sleeps_until s g) (λ until. until ≤ clock_of s g) → Maker script s (Some (g, Move.GoesOn 0)) None None
   fires : (t : ℕ) → IsTrue (is_func script t) → IsSomeAnd (timer_at s t) (λ (r : Timer). IsTrue (is_due r.due (clock s r.world))) → Maker script s None None None
+  expires : (x : ℕ) → Expires s x → Maker script s None None None
   -- the program's clock, and a misuse
   ticks : (to : ℕ) → clock s 0 < to → to ≤ greatest_time → Maker script s None None (Some (0, to))
   panics : (p : Party) (reason : Reason) → MayPanic script s p reason → Maker script s (Some (p.g, Move.Panics)) None None
@@ -93,6 +96,9 @@ chan-ready s c v (What.AfterFunc func) h gives timed = cc
 chan-ready s c v What.Mutex h gives timed = cc
 chan-ready s c v What.Wg h gives timed = cc
 chan-ready s c v (What.Cond mutex) h gives timed = cc
+chan-ready s c v (What.Ctx parent form) h gives timed = cc
+chan-ready s c v (What.Hook ctx func) h gives timed = cc
+chan-ready s c v What.Error h gives timed = cc
 chan-ready s c v What.Function h gives timed = cc
 
 -- what is received from a channel makes the receive ready by itself
@@ -111,6 +117,11 @@ free-ready s m _ mutex free timed = cc
 pub done-ready : (s : State) (w : ℕ) (o : Option What) → IsTrue (names_wg o) → counter_of s w ≡ 0 → (timed : ℕ → Bool) → is_ready_recv s timed w o ≡ true
 done-ready s w (Some What.Wg) wg done timed = ap (λ n. n == 0) done
 done-ready s w _ wg done timed = cc
+
+-- and a context that has ended
+pub ended-ready : (s : State) (x : ℕ) (w : Option What) → IsTrue (names_ctx w) → IsTrue (has_ended s x) → (timed : ℕ → Bool) → is_ready_recv s timed x w ≡ true
+ended-ready s x (Some (What.Ctx parent form)) ctx ended timed = ended
+ended-ready s x _ ctx ended timed = cc
 
 pub maker : (script : Script) (s : State) (e : Entry) → May script s e → Maker script s (change_of e).mover (change_of e).partner (change_of e).clock
 maker script s (Entry.Say g n) may = calls g (Instr.Say n) (Move.GoesOn 0) may (λ timed counts me. refl) refl
@@ -146,6 +157,14 @@ maker script s (Entry.Add g w n) may = calls g (Instr.Add w n) (Move.GoesOn 0) m
 maker script s (Entry.WgWait g w) may =
     calls g (Instr.Wait w) (Move.GoesOn 0) may.0
     (λ timed counts me. or_left (is_ready_alone script s timed (CaseKind.Recv w)) _ (done-ready s w (what_at script w) may.1 may.2 timed)) refl
+maker script s (Entry.CtxMake g x ended) may = calls g (Instr.With x) (Move.GoesOn 0) may.0 (λ timed counts me. refl) refl
+maker script s (Entry.Cancel g x newly count) may = calls g (Instr.Cancel x may.0) (Move.GoesOn 0) may.1 (λ timed counts me. refl) refl
+maker script s (Entry.Expire x count) may = expires x may.0
+maker script s (Entry.CtxErr g x err) may = calls g (Instr.ErrOf x) (Move.GoesOn 0) may.0 (λ timed counts me. refl) refl
+maker script s (Entry.Cause g x cause) may = calls g (Instr.CauseOf x) (Move.GoesOn 0) may.0 (λ timed counts me. refl) refl
+maker script s (Entry.CtxDone p x) may = trades p (CaseKind.Recv x) may.0 (λ timed. ended-ready s x (what_at script x) may.1 may.2 timed)
+maker script s (Entry.CtxAfter g h child) may = calls g (Instr.After h) (Move.GoesOn 0) may.0 (λ timed counts me. refl) refl
+maker script s (Entry.CtxStop g h stopped) may = calls g (Instr.Unhook h) (Move.GoesOn 0) may.0 (λ timed counts me. refl) refl
 maker script s (Entry.Clock zero to) may = ticks to may.0 may.1
 maker script s (Entry.Clock (suc world) to) may = absurd may
 maker script s (Entry.Panic p reason) may = panics p reason may
@@ -174,7 +193,7 @@ pub none-when : (b : Bool) (reason : Reason) → when b reason ≡ None → b �
 none-when true reason h = cc
 none-when false reason h = refl
 
-some-not_none : {X : Type 0} (o : Option X) → is_none o ≡ false → is_some o ≡ true
+pub some-not_none : {X : Type 0} (o : Option X) → is_none o ≡ false → is_some o ≡ true
 some-not_none None h = cc
 some-not_none (Some x) h = refl
 
@@ -305,27 +324,6 @@ trades-May script s (Entry.Close g c) good may =
     record { named = names-Does script s g (Instr.Close c) good may; has = (is.made, is.unshut) }
 trades-May script s _ good may = tt
 
--- ---- who are started
-
--- who starts a goroutine names a function
-abbrev pub Begins : Script → Start → Type 0
-Begins script (Start.ByGoroutine g f) = f < length script.funcs
-Begins script (Start.ByTimer t) = IsTrue (is_func script t)
-
-abbrev pub AllBegin : Script → List Start → Type 0
-AllBegin script [] = Unit {0}
-AllBegin script (x ∷ xs) = Begins script x × AllBegin script xs
-
-pub starts : (script : Script) (s : State) (e : Entry) → IsGood script → May script s e → AllBegin script (change_of e).starts
-starts script s (Entry.Go g child f) good may = (names-Does script s g (Instr.Go f) good may.0, tt)
-starts script s (Entry.FireFunc t child) good may = (may.0, tt)
-starts script s _ good may = tt
-
--- an entry starts no more than it takes of the limit
-pub starts-few : (e : Entry) → length (change_of e).starts ≤ (change_of e).counted
-starts-few (Entry.Finish outcome) = omega arith
-starts-few _ = omega arith
-
 -- ---- the entry of who stands at an instruction
 
 not_true : (b : Bool) → (b ≡ true → ⊥) → b ≡ false
@@ -378,6 +376,9 @@ gives-not script s p w o What.Wg good idle now gets is ready =
     let waits = waits-Operates script s p o good gets (ap names_wg is) in
     idle (Entry.WgWait p.g o) (waits.0, ap names_wg is, eqb-true (counter_of s o) 0 ready)
 gives-not script s p w o (What.Cond mutex) good idle now gets is ready = cc
+gives-not script s p w o (What.Ctx parent form) good idle now gets is ready = idle (Entry.CtxDone p o) (gets, ap names_ctx is, ready)
+gives-not script s p w o (What.Hook ctx func) good idle now gets is ready = cc
+gives-not script s p w o What.Error good idle now gets is ready = cc
 gives-not script s p w o What.Function good idle now gets is ready = cc
 
 recv-not : (script : Script) (s : State) (p : Party) (w o : ℕ) → IsGood script → IsIdle script s → clock_of s p.g ≡ clock s w → Operates script s p (CaseKind.Recv o)
@@ -560,6 +561,12 @@ idle-not script s g w (Instr.Signal k) good idle now does ready = signal-not scr
 idle-not script s g w (Instr.Broadcast k) good idle now does ready = idle (Entry.Broadcast g k (suspended_count s k)) (does, refl)
 idle-not script s g w (Instr.Add k n) good idle now does ready = idle (Entry.Add g k n) does
 idle-not script s g w (Instr.Wait k) good idle now does ready = plain-not script s g w (Instr.Wait k) (CaseKind.Recv k) good idle now does refl ready
+idle-not script s g w (Instr.With x) good idle now does ready = idle (Entry.CtxMake g x (is_some (made_context script s (world_of s g) x).end)) (does, refl)
+idle-not script s g w (Instr.Cancel x named) good idle now does ready = idle (Entry.Cancel g x (not (has_ended s x)) (start_count script s x)) (named, does, refl, refl)
+idle-not script s g w (Instr.ErrOf x) good idle now does ready = idle (Entry.CtxErr g x (option_map (λ (end : End). end.err) (end_at s x))) (does, refl)
+idle-not script s g w (Instr.CauseOf x) good idle now does ready = idle (Entry.Cause g x (option_map (λ (end : End). end.cause) (end_at s x))) (does, refl)
+idle-not script s g w (Instr.After h) good idle now does ready = idle (Entry.CtxAfter g h (cond (hook_is_due script s h) (Some (next_number s)) None)) (does, refl)
+idle-not script s g w (Instr.Unhook h) good idle now does ready = idle (Entry.CtxStop g h (is_waiting_hook (hook_at s h))) (does, refl)
 idle-not script s g w Instr.Finish good idle now does ready = idle (Entry.End g) does
 idle-not script s g w (Instr.LoopTop depth count past) good idle now does ready = cc
 idle-not script s g w (Instr.LoopEnd depth top) good idle now does ready = cc

@@ -1,16 +1,19 @@
 -- A legal history can be printed: what its entries name is declared as such.
-use Rattle.std.proofs.Common.{◌≡◌, ℕ, zero, suc, ◌≤◌, List, [], ◌∷◌, arith, Option, None, Some, IsTrue, IfSome, IsSomeAnd}
+use Rattle.std.proofs.Common.{◌≡◌, ℕ, zero, suc, ◌≤◌, List, [], ◌∷◌, sym, subst, arith, cond, Option, None, Some, Bool, true, false, option_map, IsTrue, IfSome, IsSomeAnd}
 use Rattle.gt_model.specs.declared.script.Script.{Script}
 use Rattle.gt_model.specs.declared.script.Instr.{Instr}
 use Rattle.gt_model.specs.declared.script.CaseKind.{CaseKind}
 use Rattle.gt_model.specs.Script.{is_chan}
+use Rattle.gt_model.specs.declared.context.CauseVal.{CauseVal}
+use Rattle.gt_model.specs.declared.context.End.{End}
 use Rattle.gt_model.specs.declared.state.Mode.{Mode}
 use Rattle.gt_model.specs.declared.entry.Entry.{Entry}
 use Rattle.gt_model.specs.declared.entry.Limits.{Limits}
 use Rattle.gt_model.specs.declared.entry.Reason.{Reason}
 use Rattle.gt_model.specs.Good.{IsGood}
-use Rattle.gt_model.specs.Named.{IsNamed, AllNamed}
-use Rattle.gt_rules.specs.State.{State, stands_at, mode_of, sleeps_until, next_number}
+use Rattle.gt_model.specs.Named.{IsNamed, IsNamedCause, AllNamed}
+use Rattle.gt_rules.specs.State.{State, stands_at, mode_of, sleeps_until, next_number, end_at}
+use Rattle.gt_rules.specs.Contexts.{hook_is_due}
 use Rattle.gt_rules.specs.declared.change.Move.{Move}
 use Rattle.gt_rules.specs.Change.{change_of}
 use Rattle.gt_rules.specs.After.{after}
@@ -19,8 +22,10 @@ use Rattle.gt_rules.specs.Finish.{Legal}
 use Rattle.gt_rules.specs.History.{AllLegal}
 use Rattle.gt_facts.specs.Formed.{IsFormed}
 use Rattle.gt_facts.proofs.Formed.{formed-Legal}
-use Rattle.gt_facts.proofs.Within.{relocking-cond}
-use Rattle.gt_facts.proofs.Makers.{Maker, calls, receives, trades, pairs, wakes, panics, retakes, signals, maker, sets, trades-May, starts}
+use Rattle.gt_facts.proofs.Within.{relocking-cond, cancels-ctx}
+use Rattle.gt_facts.proofs.Makers.{Maker, calls, receives, trades, pairs, wakes, panics, retakes, signals, maker, sets, trades-May}
+use Rattle.gt_facts.proofs.Starts.{starts}
+use Rattle.gt_facts.proofs.Contexts.{end-named, expired-fits}
 pub use Rattle.gt_facts.proofs.Lookups.{names-instr_at, names-Does, names-Operates}
 
 -- goroutines are numbered from 1: there is none with the number 0
@@ -64,10 +69,26 @@ one-signalled : (s : State) (k : ℕ) (woken : Option ℕ) → Signals s k woken
 one-signalled s k None h = tt
 one-signalled s k (Some g) h = one-mode_of s g (Mode.Suspended k) h
 
+-- and who is started at once by a hook
+one-child : (s : State) (child : Option ℕ) (due : Bool) → child ≡ cond due (Some (next_number s)) None → IfSome child (λ g. 1 ≤ g)
+one-child s None due e = tt
+one-child s (Some g) true e = let is : g ≡ next_number s = cc in one-next_number s g is
+one-child s (Some g) false e = cc
+
+-- and the cause of an end is named
+cause-named : (script : Script) (s : State) (x : ℕ) (cause : Option CauseVal) → IsFormed script s
+    → cause ≡ option_map (λ (end : End). end.cause) (end_at s x) → IsNamedCause script cause
+cause-named script s x cause formed is =
+    elim (end_at s x)
+    as (λ o. IfSome o (λ (end : End). IsNamedCause script (Some end.cause)) → cause ≡ option_map (λ (end : End). end.cause) o → IsNamedCause script cause) [
+      | None ↦ λ h e. subst (IsNamedCause script) (sym e) tt
+      | Some end ↦ λ h e. subst (IsNamedCause script) (sym e) h
+    ] (end-named script s x formed) is
+
 -- an entry that may come next can be printed: its goroutines have numbers, and its timer, its channel and its function are declared
 pub named-May : (script : Script) (s : State) (e : Entry) → IsGood script → IsFormed script s → May script s e → IsNamed script e
 named-May script s (Entry.Go g child f) good formed may =
-    (tt, (one-Maker script s _ _ _ (maker script s (Entry.Go g child f) may), (one-next_number s child may.1, ((starts script s (Entry.Go g child f) good may).0, tt))))
+    (tt, (one-Maker script s _ _ _ (maker script s (Entry.Go g child f) may), (one-next_number s child may.1, ((starts script s (Entry.Go g child f) good formed may).0, tt))))
 named-May script s (Entry.FireFunc t child) good formed may = (tt, (may.0, (one-next_number s child may.2, tt)))
 named-May script s (Entry.Recv p c v) good formed may = (tt, (one-operation_at script s p.g p.case_no (CaseKind.Recv c) may.0.stands, (may.1, (tt, tt))))
 named-May script s (Entry.Pair from to c v) good formed may =
@@ -90,6 +111,27 @@ named-May script s (Entry.Signal g k woken) good formed may =
     (tt, (one-stands_at script s g (Instr.Signal k) may.0.stands, (names-Does script s g (Instr.Signal k) good may.0, (one-signalled s k woken may.1, tt))))
 named-May script s (Entry.Broadcast g k count) good formed may =
     (tt, (one-stands_at script s g (Instr.Broadcast k) may.0.stands, (names-Does script s g (Instr.Broadcast k) good may.0, (tt, tt))))
+named-May script s (Entry.CtxMake g x ended) good formed may =
+    (tt, (one-stands_at script s g (Instr.With x) may.0.stands, (names-Does script s g (Instr.With x) good may.0, (tt, tt))))
+named-May script s (Entry.Cancel g x newly count) good formed may = (
+  tt,
+  (one-stands_at script s g (Instr.Cancel x may.0) may.1.stands, (cancels-ctx script x may.0 (names-Does script s g (Instr.Cancel x may.0) good may.1), (tt, (tt, tt)))),
+)
+named-May script s (Entry.Expire x count) good formed may = (tt, ((expired-fits script s x formed may.0).named, (tt, tt)))
+named-May script s (Entry.CtxErr g x err) good formed may =
+    (tt, (one-stands_at script s g (Instr.ErrOf x) may.0.stands, (names-Does script s g (Instr.ErrOf x) good may.0, (tt, tt))))
+named-May script s (Entry.Cause g x cause) good formed may =
+    (tt, (one-stands_at script s g (Instr.CauseOf x) may.0.stands, (names-Does script s g (Instr.CauseOf x) good may.0, (cause-named script s x cause formed may.1, tt))))
+named-May script s (Entry.CtxDone p x) good formed may = (tt, (one-operation_at script s p.g p.case_no (CaseKind.Recv x) may.0.stands, (may.1, tt)))
+named-May script s (Entry.CtxAfter g h child) good formed may = (
+  tt,
+  (
+    one-stands_at script s g (Instr.After h) may.0.stands,
+    (names-Does script s g (Instr.After h) good may.0, (one-child s child (hook_is_due script s h) may.1, tt)),
+  ),
+)
+named-May script s (Entry.CtxStop g h stopped) good formed may =
+    (tt, (one-stands_at script s g (Instr.Unhook h) may.0.stands, (names-Does script s g (Instr.Unhook h) good may.0, (tt, tt))))
 named-May script s e good formed may =
     assumption (
       one-Maker script s (change_of e).mover (change_of e).partner (change_of e).clock (maker script s e may),

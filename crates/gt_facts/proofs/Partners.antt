@@ -23,7 +23,7 @@ pub record Partner (script : Script) (s : State) (counts : ℕ → Bool) (me : �
   pub waits : polls instr ≡ false
   pub passes : offers test instr ≡ true
 
-none-is : {X : Type 0} (o : Option X) → is_none o ≡ true → o ≡ None
+pub none-is : {X : Type 0} (o : Option X) → is_none o ≡ true → o ≡ None
 none-is None h = refl
 none-is (Some x) h = cc
 

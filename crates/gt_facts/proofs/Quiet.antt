@@ -1,5 +1,5 @@
 -- The law of quiet: where nobody could go on and no time has come, nothing may come next but a move of the program's clock.
-use Rattle.std.proofs.Common.{◌≡◌, ℕ, zero, suc, ◌+◌, ◌<◌, List, [], ◌∷◌, refl, sym, ap, subst, ◌∙◌, arith, slice_get, Option, None, Some, Bool, true, false, not, ◌||◌, eqb, IsTrue, is_some, nat_lt, nat_le, eq-eqb}
+use Rattle.std.proofs.Common.{◌≡◌, ℕ, zero, suc, ◌+◌, ◌<◌, List, [], ◌∷◌, ◌++◌, refl, sym, ap, subst, ◌∙◌, arith, slice_get, Option, None, Some, Bool, true, false, not, ◌||◌, eqb, IsTrue, is_some, nat_lt, nat_le, eq-eqb}
 use Rattle.std.specs.List.{list_all, list_any, filter_map, enumerate_from}
 use Rattle.std.specs.Option.{option_map}
 use Rattle.std.proofs.lemmas.Bool.{and_parts, ltb-true, lt-leb, or_left, or_right, or_parts, or_from}
@@ -10,7 +10,7 @@ use Rattle.gt_model.specs.declared.state.Goroutine.{Goroutine}
 use Rattle.gt_model.specs.declared.state.Timer.{Timer}
 use Rattle.gt_model.specs.declared.state.Mode.{Mode}
 use Rattle.gt_model.specs.Tables.{numbered, at}
-use Rattle.gt_rules.specs.State.{State, goroutine_at, stands, stands_at, until_of, clock, timer_at, due_of}
+use Rattle.gt_rules.specs.State.{State, goroutine_at, stands, stands_at, until_of, clock, timer_at, due_of, context_at}
 use Rattle.gt_model.specs.declared.script.Case.{Case}
 use Rattle.gt_model.specs.declared.script.CaseKind.{CaseKind}
 use Rattle.gt_model.specs.declared.script.What.{What}
@@ -19,7 +19,8 @@ use Rattle.gt_rules.specs.Panics.{fault}
 use Rattle.gt_rules.specs.Operations.{operation, receives_from, offers}
 use Rattle.gt_rules.specs.Ready.{is_firm, is_firm_in, is_due, is_ready_in, is_ready_at, is_ready_instr, is_ready_case, is_ready_recv, has_partner, has_come, everyone, no_timer}
 use Rattle.gt_facts.specs.Still.{IsStill}
-use Rattle.gt_rules.specs.Counted.{sleep_of, awaits, is_awaited, counted_timer}
+use Rattle.gt_rules.specs.Counted.{sleep_of, awaits, is_awaited, counted_timer, deadline_in}
+use Rattle.gt_model.specs.declared.context.Context.{Context}
 use Rattle.gt_rules.specs.Finish.{IsIdle}
 use Rattle.gt_facts.specs.Quiet.{IsQuiet, none_due}
 use Rattle.gt_facts.proofs.Lookups.{any-numbered, offers-operation, enumerated_at, all-enumerated, Standing, standing}
@@ -46,16 +47,22 @@ given_numbered : (f : Goroutine → Option ℕ) (p : ℕ → Bool) (xs : List Go
 given_numbered f p xs zero x t e is h = cc
 given_numbered f p xs (suc i) x t e is h = given_at f p xs i x t e is h
 
--- the two parts of the test on times
-sleeps_later : (script : Script) (s : State) → none_due script s ≡ true → list_all (nat_lt (clock s 0)) (filter_map (sleep_of 0) s.goroutines) ≡ true
-sleeps_later script s h =
-    (and_parts _ (list_all (nat_lt (clock s 0)) (filter_map (counted_timer script s 0) (enumerate_from 0 s.timers)))
-    (sym (list_all-append (nat_lt (clock s 0)) (filter_map (sleep_of 0) s.goroutines) (filter_map (counted_timer script s 0) (enumerate_from 0 s.timers))) ∙ h)).0
+-- the three parts of the test on times
+record Later (script : Script) (s : State) : Type 0 where
+  sleeps : list_all (nat_lt (clock s 0)) (filter_map (sleep_of 0) s.goroutines) ≡ true
+  timers : list_all (nat_lt (clock s 0)) (filter_map (counted_timer script s 0) (enumerate_from 0 s.timers)) ≡ true
+  deadlines : list_all (nat_lt (clock s 0)) (filter_map (deadline_in 0) s.contexts) ≡ true
 
-timers_later : (script : Script) (s : State) → none_due script s ≡ true → list_all (nat_lt (clock s 0)) (filter_map (counted_timer script s 0) (enumerate_from 0 s.timers)) ≡ true
-timers_later script s h =
-    (and_parts (list_all (nat_lt (clock s 0)) (filter_map (sleep_of 0) s.goroutines)) _
-    (sym (list_all-append (nat_lt (clock s 0)) (filter_map (sleep_of 0) s.goroutines) (filter_map (counted_timer script s 0) (enumerate_from 0 s.timers))) ∙ h)).1
+all_later : (script : Script) (s : State) → none_due script s ≡ true → Later script s
+all_later script s h =
+    let sleeps : List ℕ = filter_map (sleep_of 0) s.goroutines in
+    let timers : List ℕ = filter_map (counted_timer script s 0) (enumerate_from 0 s.timers) in
+    let deadlines : List ℕ = filter_map (deadline_in 0) s.contexts in
+    let last = and_parts (list_all (nat_lt (clock s 0)) (sleeps ++ timers)) (list_all (nat_lt (clock s 0)) deadlines)
+    (sym (list_all-append (nat_lt (clock s 0)) (sleeps ++ timers) deadlines) ∙ h) in
+    let both = and_parts (list_all (nat_lt (clock s 0)) sleeps) (list_all (nat_lt (clock s 0)) timers)
+    (sym (list_all-append (nat_lt (clock s 0)) sleeps timers) ∙ last.0) in
+    record { sleeps = both.0; timers = both.1; deadlines = last.1 }
 
 -- ---- who is not firmly ready
 
@@ -68,7 +75,7 @@ sleeps_on : (script : Script) (s : State) (g until : ℕ) (r : Goroutine) → Is
 sleeps_on script s g until r quiet e asleep =
     let zero_world : r.world ≡ 0 = quiet.world.goroutines g r e in
     let gives : sleep_of 0 r ≡ Some until = rw (eq-eqb r.world 0 zero_world) (ap until_of asleep) in
-    let later : clock s 0 < until = ltb-true (clock s 0) until (given_numbered (sleep_of 0) (nat_lt (clock s 0)) s.goroutines g r until e gives (sleeps_later script s quiet.none_due)) in
+    let later : clock s 0 < until = ltb-true (clock s 0) until (given_numbered (sleep_of 0) (nat_lt (clock s 0)) s.goroutines g r until e gives (all_later script s quiet.none_due).sleeps) in
     subst (λ w. nat_le until (clock s w) ≡ false) (sym zero_world) (lt-leb until (clock s 0) later)
 
 -- a timer that counts is not due
@@ -79,7 +86,7 @@ timer_later script s t due r quiet e is counts =
     let gives : counted_timer script s 0 (t, Some r) ≡ Some due = rw (eq-eqb r.world 0 zero_world, counts) is in
     let there : slice_get (enumerate_from 0 s.timers) t ≡ Some (0 + t, Some r) = enumerated_at 0 s.timers t (Some r) (at-is s.timers t r e) in
     let zero_t : 0 + t ≡ t = omega arith in
-    ltb-true (clock s 0) due (given_at (counted_timer script s 0) (nat_lt (clock s 0)) (enumerate_from 0 s.timers) t (t, Some r) due (rw zero_t at there) gives (timers_later script s quiet.none_due))
+    ltb-true (clock s 0) due (given_at (counted_timer script s 0) (nat_lt (clock s 0)) (enumerate_from 0 s.timers) t (t, Some r) due (rw zero_t at there) gives (all_later script s quiet.none_due).timers)
 
 same_number : (t : ℕ) → eqb t t ≡ true
 same_number t = eq-eqb t t refl
@@ -119,6 +126,9 @@ recv_not s timed t (Some (What.Chan cap)) later h = h
 recv_not s timed t (Some What.Mutex) later h = h
 recv_not s timed t (Some What.Wg) later h = h
 recv_not s timed t (Some (What.Cond mutex)) later h = refl
+recv_not s timed t (Some (What.Ctx parent form)) later h = h
+recv_not s timed t (Some (What.Hook ctx func)) later h = refl
+recv_not s timed t (Some What.Error) later h = refl
 recv_not s timed t (Some What.Function) later h = refl
 
 -- so it is with each operation of who stands there
@@ -189,10 +199,29 @@ func_not : (script : Script) (s : State) (t : ℕ) (r : Timer) → IsQuiet scrip
 func_not script s t r quiet e func =
     subst (λ w. is_due r.due (clock s w) ≡ false) (sym (quiet.world.timers t r e)) (not_due script s t r quiet e (or_left (is_func script t) _ func))
 
+-- and no context that has not ended has come to its deadline
+deadline_later : (script : Script) (s : State) (x due : ℕ) (r : Context) → IsQuiet script s → context_at s x ≡ Some r → r.end ≡ None → r.own ≡ Some due
+    → clock s 0 < due
+deadline_later script s x due r quiet e none is =
+    let gives : deadline_in 0 (Some r) ≡ Some due = rw (eq-eqb r.world 0 (quiet.world.contexts x r e), none) is in
+    ltb-true (clock s 0) due
+    (given_at (deadline_in 0) (nat_lt (clock s 0)) s.contexts x (Some r) due (at-is s.contexts x r e) gives (all_later script s quiet.none_due).deadlines)
+
+deadline_not : (script : Script) (s : State) (x : ℕ) (r : Context) → IsQuiet script s → context_at s x ≡ Some r → r.end ≡ None
+    → is_due r.own (clock s r.world) ≡ false
+deadline_not script s x r quiet e none =
+    elim r.own as (λ d. r.own ≡ d → is_due d (clock s r.world) ≡ false) [
+      | None ↦ λ q. refl
+      | Some due ↦ λ q.
+          subst (λ w. nat_le due (clock s w) ≡ false) (sym (quiet.world.contexts x r e))
+          (lt-leb due (clock s 0) (deadline_later script s x due r quiet e none q))
+    ] refl
+
 pub quiet-IsStill : (script : Script) (s : State) → IsQuiet script s → IsStill script s
 quiet-IsStill script s quiet = record {
   nobody_ready = λ g r e. not_ready script s g r quiet e r.mode refl;
   no_func_due = λ t r e func. func_not script s t r quiet e func;
+  no_deadline_due = λ x r e none. deadline_not script s x r quiet e none;
 }
 
 -- the law of quiet

@@ -1,5 +1,5 @@
 -- A program is idle exactly where it stands still: who is ready has an entry that may come next, and who is not has none.
-use Rattle.std.proofs.Common.{◌≡◌, ℕ, zero, suc, ◌≤◌, refl, sym, ap, subst, ◌∙◌, Option, None, Some, Bool, true, false, not, ◌||◌, ◌==◌, ◌≢◌, is_some, IsTrue, IsSomeAnd, MatchOption}
+use Rattle.std.proofs.Common.{◌≡◌, ℕ, zero, suc, ◌≤◌, refl, sym, ap, subst, ◌∙◌, Option, None, Some, Bool, true, false, not, ◌||◌, ◌==◌, ◌≢◌, is_some, is_none, IsTrue, IsSomeAnd, MatchOption}
 use Rattle.std.specs.Option.{option_map}
 use Rattle.std.proofs.lemmas.Bool.{leb-true, le-leb, eq-eqb, and_from}
 pub use Rattle.std.proofs.lemmas.Bool.{or_left, or_right}
@@ -11,7 +11,9 @@ use Rattle.gt_model.specs.declared.entry.Reason.{Reason}
 use Rattle.gt_model.specs.declared.state.Goroutine.{Goroutine}
 use Rattle.gt_model.specs.declared.state.Timer.{Timer}
 use Rattle.gt_model.specs.declared.state.Mode.{Mode}
-use Rattle.gt_rules.specs.State.{State, goroutine_at, stands, stands_at, until_of, sleeps_until, clock, clock_of, world_of, mode_of, next_number, timer_at, due_of, is_closed, is_locked}
+use Rattle.gt_rules.specs.State.{State, goroutine_at, stands, stands_at, until_of, sleeps_until, clock, clock_of, world_of, mode_of, next_number, timer_at, due_of, is_closed, is_locked, context_at}
+use Rattle.gt_rules.specs.Contexts.{start_count}
+use Rattle.gt_model.specs.declared.context.Context.{Context}
 use Rattle.gt_model.specs.declared.script.CaseKind.{CaseKind}
 use Rattle.gt_model.specs.declared.script.What.{What}
 use Rattle.gt_model.specs.Script.{instr_at, what_at, names_timer, is_func, is_timer, mutex_of, capacity_of}
@@ -21,12 +23,12 @@ use Rattle.gt_rules.specs.Ready.{is_due, is_ready, is_ready_in, is_ready_at, is_
 use Rattle.gt_model.specs.Good.{IsGood}
 use Rattle.gt_rules.specs.declared.change.Move.{Move}
 use Rattle.gt_rules.specs.Change.{change_of}
-use Rattle.gt_rules.specs.Legal.{May, MayPanic, ChoosesClosed, Does, Operates, operation_at}
+use Rattle.gt_rules.specs.Legal.{May, Expires, MayPanic, ChoosesClosed, Does, Operates, operation_at}
 use Rattle.gt_rules.specs.Finish.{IsIdle, IsProgramClock}
 use Rattle.gt_facts.specs.Still.{IsStill}
 use Rattle.gt_facts.proofs.Lookups.{Standing, standing, AtOperation, at_operation, operates-Does, operation-any, offers-operation, Asleep, sleeper, InMode, in-mode, mode_there}
-use Rattle.gt_facts.proofs.Partners.{Partner, partner-waits}
-use Rattle.gt_facts.proofs.Makers.{Maker, calls, receives, trades, pairs, wakes, fires, ticks, panics, retakes, signals, maker, idle-not}
+use Rattle.gt_facts.proofs.Partners.{Partner, partner-waits, none-is}
+use Rattle.gt_facts.proofs.Makers.{Maker, calls, receives, trades, pairs, wakes, fires, expires, ticks, panics, retakes, signals, maker, idle-not}
 
 -- ---- a still program is idle
 
@@ -85,6 +87,9 @@ timer-ready s timed t (Some (What.Chan cap)) timer come = cc
 timer-ready s timed t (Some What.Mutex) timer come = cc
 timer-ready s timed t (Some What.Wg) timer come = cc
 timer-ready s timed t (Some (What.Cond mutex)) timer come = cc
+timer-ready s timed t (Some (What.Ctx parent form)) timer come = cc
+timer-ready s timed t (Some (What.Hook ctx func)) timer come = cc
+timer-ready s timed t (Some What.Error) timer come = cc
 timer-ready s timed t (Some What.Function) timer come = cc
 timer-ready s timed t None timer come = cc
 
@@ -171,6 +176,14 @@ fires_not script s t still func h =
       | Some r ↦ λ e k. true_false (is_due r.due (clock s r.world)) k (still.no_func_due t r e func)
     ] refl h
 
+-- a context that has come to its deadline has ended
+expires_not : (script : Script) (s : State) (x : ℕ) → IsStill script s → Expires s x → ⊥
+expires_not script s x still h =
+    elim (context_at s x) as (λ o. context_at s x ≡ o → IsSomeAnd o (λ (r : Context). IsTrue (is_due r.own (clock s r.world)) × IsTrue (is_none r.end)) → ⊥) [
+      | None ↦ λ e k. k
+      | Some r ↦ λ e k. true_false (is_due r.own (clock s r.world)) k.0 (still.no_deadline_due x r e (none-is r.end k.1))
+    ] refl h
+
 faulty : (o : Option Reason) (k n : ℕ) (reason : Reason) → (elim o as (λ x. Option (ℕ × Reason)) [ None ↦ None | Some why ↦ Some (k, why) ]) ≡ Some (n, reason) → is_some o ≡ true
 faulty None k n reason e = cc
 faulty (Some why) k n reason e = refl
@@ -218,6 +231,7 @@ clock-Maker script s m q k still (trades p kind call ready) =
 clock-Maker script s m q k still (pairs from to c v sends gets chan none other waits) = absurd (pairs_not script s from to c v still sends gets none other)
 clock-Maker script s m q k still (wakes g h) = absurd (wakes_not script s g still h)
 clock-Maker script s m q k still (fires t func h) = absurd (fires_not script s t still func h)
+clock-Maker script s m q k still (expires x h) = absurd (expires_not script s x still h)
 clock-Maker script s m q k still (ticks to up most) = refl
 clock-Maker script s m q k still (panics p reason h) = absurd (may-panic_not script s p reason still h)
 clock-Maker script s m q k still (retakes g c relocks free) = absurd (retakes_not script s g c still relocks free)
@@ -291,8 +305,14 @@ func_not script s t r idle e func come =
     idle (Entry.FireFunc t (next_number s))
     (func, subst (λ (o : Option Timer). IsSomeAnd o (λ (r : Timer). IsTrue (is_due r.due (clock s r.world)))) (sym e) come, refl)
 
+deadline_not : (script : Script) (s : State) (x : ℕ) (r : Context) → IsIdle script s → context_at s x ≡ Some r → r.end ≡ None → is_due r.own (clock s r.world) ≡ true → ⊥
+deadline_not script s x r idle e none come =
+    idle (Entry.Expire x (start_count script s x))
+    (subst (λ (o : Option Context). IsSomeAnd o (λ (r : Context). IsTrue (is_due r.own (clock s r.world)) × IsTrue (is_none r.end))) (sym e) (come, ap is_none none), refl)
+
 pub idle-IsStill : (script : Script) (s : State) → IsGood script → IsIdle script s → IsStill script s
 idle-IsStill script s good idle = record {
   nobody_ready = λ g r e. not_true (is_ready script s g r) (ready_not script s g r good idle e r.mode refl);
   no_func_due = λ t r e func. not_true (is_due r.due (clock s r.world)) (func_not script s t r idle e func);
+  no_deadline_due = λ x r e none. not_true (is_due r.own (clock s r.world)) (deadline_not script s x r idle e none);
 }

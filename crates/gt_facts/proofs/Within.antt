@@ -1,13 +1,14 @@
--- What is declared has a place among the timers, the channels or the syncs of a formed state, and the mutex of a Cond is one.
+-- What is declared has a place in a formed state, and what it stands on is declared as such.
 use Rattle.std.proofs.Common.{◌≡◌, ◌≢◌, ℕ, ◌<◌, length, slice_get, refl, subst, arith, Option, None, Some, true, IsTrue, IfSome, option_map}
 use Rattle.gt_model.specs.declared.script.Script.{Script}
 use Rattle.gt_model.specs.declared.script.Decl.{Decl}
 use Rattle.gt_model.specs.declared.script.What.{What}
 use Rattle.gt_model.specs.declared.state.Mode.{Mode}
-use Rattle.gt_model.specs.Script.{what_at, names_mutex, names_cond, is_timer, is_func, is_chan, is_mutex, is_cond, mutex_of}
-use Rattle.gt_model.specs.Good.{IsGood, DeclaresRightly, is_setting}
+use Rattle.gt_model.specs.declared.context.Form.{Form}
+use Rattle.gt_model.specs.Script.{what_at, names_mutex, names_cond, names_ctx, names_hook, named_form, takes_cause, is_timer, is_func, is_chan, is_mutex, is_cond, is_ctx, is_hook, form_of, hook_func, mutex_of}
+use Rattle.gt_model.specs.Good.{IsGood, DeclaresRightly, FormsRightly, CancelsRightly, is_setting}
 use Rattle.gt_model.proofs.GoodCode.{all_at}
-use Rattle.gt_model.proofs.Declared.{setting_declared, chan_declared, mutex_declared, timer_setting, func_setting}
+use Rattle.gt_model.proofs.Declared.{setting_declared, chan_declared, mutex_declared, ctx_declared, hook_declared, endable_ctx, timer_setting, func_setting}
 use Rattle.gt_rules.specs.State.{State, mode_of, suspended_at, relocking_at}
 use Rattle.gt_facts.specs.Formed.{IsFormed}
 use Rattle.gt_facts.proofs.Lookups.{InMode, in-mode}
@@ -62,6 +63,63 @@ mutex_of-within script o good h =
       | None ↦ λ e. omega arith
       | Some d ↦ λ e. mutex_in-within script o d.what (all_at (λ (d : Decl). DeclaresRightly script d.what) script.decls o d good.declares e) h
     ] refl
+
+-- ---- what is declared is declared rightly: the function of a hook, the form of a context, and what they stand on
+
+pub declared-rightly : (script : Script) (o : ℕ) (what : What) → IsGood script → what_at script o ≡ Some what → DeclaresRightly script what
+declared-rightly script o what good h =
+    elim (slice_get script.decls o)
+    as (λ d. slice_get script.decls o ≡ d → option_map (λ (d : Decl). d.what) d ≡ Some what → DeclaresRightly script what) [
+      | None ↦ λ e is. cc
+      | Some d ↦ λ e is.
+          subst (DeclaresRightly script) (inside d.what what is)
+          (all_at (λ (d : Decl). DeclaresRightly script d.what) script.decls o d good.declares e)
+    ] refl h
+  where
+    inside : (a b : What) → Some a ≡ Some b → a ≡ b
+    inside a b e = cc
+
+abbrev func_in : What → ℕ
+func_in what = elim what [ What.Hook ctx func ↦ func | _ ↦ 0 ]
+
+hook_in-within : (script : Script) (what : What) → DeclaresRightly script what → names_hook (Some what) ≡ true → func_in what < length script.funcs
+hook_in-within script (What.Hook ctx func) h k = h.1
+hook_in-within script _ h k = cc
+
+pub hook_func-within : (script : Script) (h : ℕ) → IsGood script → IsTrue (is_hook script h) → hook_func script h < length script.funcs
+hook_func-within script h good hook =
+    elim (what_at script h)
+    as (λ o. what_at script h ≡ o → names_hook o ≡ true → (elim o as (λ o. ℕ) [ None ↦ 0 | Some what ↦ func_in what ]) < length script.funcs) [
+      | None ↦ λ e k. cc
+      | Some what ↦ λ e k. hook_in-within script what (declared-rightly script h what good e) k
+    ] refl hook
+
+form_in-rightly : (script : Script) (what : What) (form : Form) → DeclaresRightly script what → named_form (Some what) ≡ Some form → FormsRightly script form
+form_in-rightly script (What.Ctx parent own) form h k = let is : own ≡ form = cc in subst (FormsRightly script) is h.1
+form_in-rightly script _ form h k = cc
+
+pub form-rightly : (script : Script) (x : ℕ) (form : Form) → IsGood script → form_of script x ≡ Some form → FormsRightly script form
+form-rightly script x form good h =
+    elim (what_at script x) as (λ o. what_at script x ≡ o → named_form o ≡ Some form → FormsRightly script form) [
+      | None ↦ λ e k. cc
+      | Some what ↦ λ e k. form_in-rightly script what form (declared-rightly script x what good e) k
+    ] refl h
+
+-- a context and a hook have their places
+pub ctx_within : (script : Script) (s : State) (x : ℕ) → IsFormed script s → IsTrue (is_ctx script x) → x < length s.contexts
+ctx_within script s x formed h = rw formed.contexts (ctx_declared script x h)
+
+pub hook_within : (script : Script) (s : State) (h : ℕ) → IsFormed script s → IsTrue (is_hook script h) → h < length s.hooks
+hook_within script s h formed hook = rw formed.hooks (hook_declared script h hook)
+
+takes_cause-ctx : (w : Option What) → IsTrue (takes_cause (named_form w)) → IsTrue (names_ctx w)
+takes_cause-ctx (Some (What.Ctx parent form)) h = refl
+takes_cause-ctx _ h = cc
+
+-- what is canceled is a context
+pub cancels-ctx : (script : Script) (x : ℕ) (named : Option ℕ) → CancelsRightly script x named → IsTrue (is_ctx script x)
+cancels-ctx script x None h = endable_ctx script x h
+cancels-ctx script x (Some e) h = takes_cause-ctx (what_at script x) h.0
 
 -- ---- who waits at a Cond
 

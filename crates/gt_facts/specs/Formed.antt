@@ -1,5 +1,5 @@
 -- What the states keep that a run reaches.
-use Rattle.std.specs.Prelude.{ℕ, ◌*◌, ◌+◌, ◌<◌, ◌≤◌, ◌≡◌, Bool, true, false, IfSome, IsTrue, List, [], ◌∷◌, length, slice_get}
+use Rattle.std.specs.Prelude.{ℕ, ◌*◌, ◌+◌, ◌<◌, ◌≤◌, ◌≡◌, Bool, true, false, IfSome, IsSomeAnd, IsTrue, is_some, count_by, List, [], ◌∷◌, length, slice_get}
 use Rattle.std.specs.declared.option.Option.TheVariants.{None, Some}
 use Rattle.gt_model.specs.declared.script.Script.{Script}
 use Rattle.gt_model.specs.declared.script.Instr.{Instr}
@@ -7,10 +7,13 @@ use Rattle.gt_model.specs.declared.script.Place.{Place}
 use Rattle.gt_model.specs.declared.state.Goroutine.{Goroutine}
 use Rattle.gt_model.specs.declared.state.Timer.{Timer}
 use Rattle.gt_model.specs.declared.state.Mode.{Mode}
+use Rattle.gt_model.specs.declared.context.Context.{Context}
+use Rattle.gt_model.specs.declared.context.End.{End}
+use Rattle.gt_model.specs.Named.{IsNamedCause}
 use Rattle.gt_model.specs.Times.{greatest_time}
-use Rattle.gt_rules.specs.State.{State, Channel, clock, goroutine_at, timer_at, channel_at, counter_of, until_of, suspended_at, relocking_at}
+use Rattle.gt_rules.specs.State.{State, Channel, clock, goroutine_at, timer_at, channel_at, counter_of, until_of, suspended_at, relocking_at, context_at, hook_at, is_registered, is_started}
 use Rattle.gt_model.specs.Good.{most_added}
-use Rattle.gt_model.specs.Script.{code_of, is_ticker, is_chan, is_cond, capacity_of}
+use Rattle.gt_model.specs.Script.{code_of, is_ticker, is_chan, is_cond, is_ctx, is_hook, ctx_of, capacity_of}
 use Rattle.gt_rules.specs.Places.{silent_at}
 use Rattle.gt_facts.specs.Quiet.{IsOneWorld}
 
@@ -36,6 +39,22 @@ pub record IsFormedChannel (script : Script) (c : ℕ) (r : Channel) : Type 0 wh
   pub world : r.world ≡ 0
   pub few : length r.items ≤ capacity_of script c
 
+-- a context is declared as one, belongs to the program, its deadline is a time, and the cause of its end a declared error, if it is one
+pub record IsFormedContext (script : Script) (x : ℕ) (r : Context) : Type 0 where
+  pub named : IsTrue (is_ctx script x)
+  pub world : r.world ≡ 0
+  pub own : IfSome r.own (λ at. at ≤ greatest_time)
+  pub cause : IfSome r.end (λ (end : End). IsNamedCause script (Some end.cause))
+
+-- a hook that was registered is declared as one, and its context was made
+pub record IsFormedHook (script : Script) (s : State) (h : ℕ) : Type 0 where
+  pub named : IsTrue (is_hook script h)
+  pub made : IsSomeAnd (ctx_of script h) (λ x. IsTrue (is_some (context_at s x)))
+
+-- how many hooks were started
+abbrev pub started_count : State → ℕ
+started_count s = count_by is_started s.hooks
+
 -- the time between two ticks, by whether a timer is a ticker
 abbrev pub IsPeriod : Bool → ℕ → Type 0
 IsPeriod true period = 0 < period
@@ -51,8 +70,8 @@ pub record IsFormed (script : Script) (s : State) : Type 0 where
   pub untils : (g : ℕ) (r : Goroutine) → goroutine_at s g ≡ Some r → IfSome (until_of r.mode) (λ until. until ≤ greatest_time)
   -- who waits at a Cond waits at what is declared as one
   pub conds : (g : ℕ) (r : Goroutine) → goroutine_at s g ≡ Some r → IfSome (suspended_at r.mode) (λ k. IsTrue (is_cond script k)) × IfSome (relocking_at r.mode) (λ k. IsTrue (is_cond script k))
-  -- an entry makes one goroutine at most
-  pub few : length s.goroutines ≤ s.entries + 1
+  -- an entry makes one goroutine at most, but for those that hooks start
+  pub few : length s.goroutines ≤ s.entries + 1 + started_count s
   -- there is a timer or none for each declaration, and it is due at a time
   pub timers : length s.timers ≡ length script.decls
   pub dues : (t : ℕ) (r : Timer) → timer_at s t ≡ Some r → IfSome r.due (λ due. due ≤ greatest_time)
@@ -65,3 +84,8 @@ pub record IsFormed (script : Script) (s : State) : Type 0 where
   -- each entry has added a million to a counter at most
   pub counters : (w : ℕ) → counter_of s w ≤ most_added * s.entries
   pub chans : (c : ℕ) (r : Channel) → channel_at s c ≡ Some r → IsFormedChannel script c r
+  -- there is a context or none for each declaration, and what has become of a hook
+  pub contexts : length s.contexts ≡ length script.decls
+  pub ctxs : (x : ℕ) (r : Context) → context_at s x ≡ Some r → IsFormedContext script x r
+  pub hooks : length s.hooks ≡ length script.decls
+  pub hooked : (h : ℕ) → IsTrue (is_registered (hook_at s h)) → IsFormedHook script s h

@@ -5,7 +5,8 @@ use Rattle.std.specs.declared.option.Option.TheVariants.{Some}
 use Rattle.gt_model.specs.declared.script.Script.{Script}
 use Rattle.gt_model.specs.declared.state.Goroutine.{Goroutine}
 use Rattle.gt_model.specs.declared.state.Timer.{Timer}
-use Rattle.gt_rules.specs.State.{State, clock, goroutine_at, timer_at}
+use Rattle.gt_model.specs.declared.context.Context.{Context}
+use Rattle.gt_rules.specs.State.{State, clock, goroutine_at, timer_at, context_at}
 use Rattle.gt_rules.specs.Ready.{is_firm, everyone}
 use Rattle.gt_rules.specs.Counted.{counted}
 
@@ -13,6 +14,7 @@ use Rattle.gt_rules.specs.Counted.{counted}
 pub record IsOneWorld (s : State) : Type 0 where
   pub goroutines : (g : ℕ) (r : Goroutine) → goroutine_at s g ≡ Some r → r.world ≡ 0
   pub timers : (t : ℕ) (r : Timer) → timer_at s t ≡ Some r → r.world ≡ 0
+  pub contexts : (x : ℕ) (r : Context) → context_at s x ≡ Some r → r.world ≡ 0
 
 -- no goroutine is firmly ready, be its partners parked or not
 abbrev pub none_firm : Script → State → Bool

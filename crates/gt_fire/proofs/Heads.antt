@@ -1,14 +1,17 @@
 -- The head of a heap that was run: its record agrees with the machine as before, and what fired may be entered.
-use Rattle.std.proofs.Common.{◌≡◌, ℕ, zero, suc, ◌-◌, ◌<◌, ◌≤◌, nat_lt, length, List, [], ◌∷◌, slice_get, true, false, refl, sym, ap, subst, ◌∙◌, Option, None, Some, IsNone, IsSomeAnd, IsTrue, if◌then◌else◌, is_some, ◌||◌, arith, option_map}
-use Rattle.std.proofs.lemmas.Bool.{eq-eqb, lt-ltb}
+use Rattle.std.proofs.Common.{◌≡◌, inr, Bool, ℕ, zero, suc, ◌-◌, ◌<◌, ◌≤◌, nat_lt, length, List, [], ◌∷◌, slice_get, true, false, refl, sym, ap, subst, ◌∙◌, Option, None, Some, IsNone, IsSomeAnd, IsTrue, MatchOption, if◌then◌else◌, is_some, ◌||◌, arith, option_map}
+use Rattle.std.proofs.lemmas.Bool.{eq-eqb}
 use Rattle.std.proofs.lemmas.Bool.Decides.{nat_tests}
 use Rattle.std.specs.Option.{option_or}
 use Rattle.gt_model.specs.declared.entry.Entry.{Entry}
 use Rattle.gt_model.specs.declared.script.Script.{Script}
 use Rattle.gt_model.specs.declared.script.Decl.{Decl}
 use Rattle.gt_model.specs.declared.script.What.{What}
-use Rattle.gt_model.specs.Script.{is_func, names_func}
-use Rattle.gt_rules.specs.State.{State, clock, due_of, sleeps_until, next_number}
+use Rattle.gt_model.specs.declared.context.Context.{Context}
+use Rattle.gt_model.specs.Script.{is_func, is_ctx, names_func}
+use Rattle.gt_rules.specs.Change.{change_of}
+use Rattle.gt_rules.specs.Contexts.{start_count}
+use Rattle.gt_rules.specs.State.{State, clock, context_at, has_ended, next_number}
 use Rattle.gt_rules.specs.declared.change.Move.{Move}
 use Rattle.gt_rules.specs.declared.change.Setting.{Setting}
 use Rattle.gt_facts.proofs.Within.{func_within}
@@ -18,14 +21,20 @@ use Rattle.gt_rec.specs.Changes.{begun, send_begun, out_of_heap, rekeyed}
 use Rattle.gt_lazy.specs.declared.answer.Ran.{Ran}
 use Rattle.gt_lazy.specs.Cleaning.{cleaned}
 use Rattle.gt_lazy.specs.Running.{is_stale, send_answer, due_answer, head_answer, run_as, head_run}
-use Rattle.gt_lazy.specs.Slots.{LazyHeap, IsSettled}
+use Rattle.gt_lazy.specs.Slots.{LazyHeap, IsSettled, Scans}
+use Rattle.gt_book.specs.declared.answers.Op.{Op}
+use Rattle.gt_book.specs.Steps.{MayCommit, live_deadline}
 use Rattle.gt_book.specs.View.{BookView, IsLawful, outcome_of}
 use Rattle.gt_book.proofs.Committing.{may-fire, may-wake}
+use Rattle.gt_book.proofs.Deadlines.{may-expire}
 use Rattle.gt_rows.specs.declared.answers.HeadDone.{HeadDone}
-use Rattle.gt_rows.specs.Agrees.{Agrees, kind_by, kind_of_what}
+use Rattle.gt_rows.specs.Agrees.{Agrees, kind_by, kind_of_what, live_at}
 use Rattle.gt_rows.specs.Lent.{IsLentRec, IsKept}
-use Rattle.gt_rows.proofs.Keeping.{IsOfSame, agrees-stays, agrees-set, agrees-moved, placed-settled}
-use Rattle.gt_fire.specs.Fires.{MayFire, FiredAs}
+use Rattle.gt_rows.specs.Rows.{Parts, ExpiresBy, FiresAs, HeadBy, HeadRow}
+use Rattle.gt_rows.proofs.Keeping.{IsOfSame, agrees-stays, agrees-set, agrees-moved, agrees-after, agrees-over, period-still, placed-settled}
+use Rattle.gt_rows.proofs.Owns.{expiry-ends}
+use Rattle.gt_rows.proofs.Tickers.{shown-due, shown-sleep, shown-own, kind-deadline, kind-other}
+use Rattle.gt_fire.specs.Fires.{MayFire, FiredAs, CommitsAs}
 
 pub not-below : (a b : ℕ) → b ≤ a → nat_lt a b ≡ false
 not-below a b h = grind (arith, nat_tests)
@@ -41,6 +50,9 @@ what-func What.Wg h = cc
 what-func (What.Cond mutex) h = cc
 what-func What.Function h = cc
 what-func (What.Chan cap) h = cc
+what-func (What.Ctx parent form) h = cc
+what-func (What.Hook ctx func) h = cc
+what-func What.Error h = cc
 
 kind-func : (script : Script) (id : ℕ) → kind_by script id ≡ Some RecKind.Func → is_func script id ≡ true
 kind-func script id h =
@@ -59,6 +71,9 @@ what-no_sleep What.Wg h = cc
 what-no_sleep (What.Cond mutex) h = cc
 what-no_sleep What.Function h = cc
 what-no_sleep (What.Chan cap) h = cc
+what-no_sleep (What.Ctx parent form) h = cc
+what-no_sleep (What.Hook ctx func) h = cc
+what-no_sleep What.Error h = cc
 
 behind : {X : Type 0} (xs : List X) (i : ℕ) → slice_get xs i ≡ None → length xs ≤ i
 behind [] i h = omega arith
@@ -72,23 +87,6 @@ kind-sleep script id h =
       | None ↦ λ k. refl
       | Some d ↦ λ k. absurd (what-no_sleep d.what k)
     ] h)
-
-what-no_deadline : (what : What) → kind_of_what what ≡ Some RecKind.Deadline → ⊥
-what-no_deadline What.Timer h = cc
-what-no_deadline What.Ticker h = cc
-what-no_deadline (What.AfterFunc f) h = cc
-what-no_deadline What.Mutex h = cc
-what-no_deadline What.Wg h = cc
-what-no_deadline (What.Cond mutex) h = cc
-what-no_deadline What.Function h = cc
-what-no_deadline (What.Chan cap) h = cc
-
-kind-no_deadline : (script : Script) (id : ℕ) → kind_by script id ≡ Some RecKind.Deadline → ⊥
-kind-no_deadline script id h =
-    elim (slice_get script.decls id) as (λ o. (elim o as (λ o. Option RecKind) [ None ↦ Some RecKind.Sleep | Some decl ↦ kind_of_what decl.what ]) ≡ Some RecKind.Deadline → ⊥) [
-      | None ↦ λ k. cc
-      | Some d ↦ λ k. what-no_deadline d.what k
-    ] h
 
 -- ---- what fires may be entered
 
@@ -104,17 +102,18 @@ shown-plain r sending ready =
       | Some due ↦ λ n. cc
     ] ready
 
--- the record of a function is of a declaration, and shows when it is due
-func-due : (script : Script) (s : State) (r : Rec) → r.id < length script.decls → Agrees script s r → due_of s r.id ≡ shown r
-func-due script s r below agrees =
-    let here : nat_lt r.id (length script.decls) ≡ true = lt-ltb r.id (length script.decls) below in
-    sym (agrees.shown ∙ rw here refl)
+-- the record of a function is of no context
+func-no_ctx : (script : Script) (s : State) (r : Rec) → Agrees script s r → r.kind ≡ RecKind.Func → is_ctx script r.id ≡ false
+func-no_ctx script s r agrees func = kind-other script r.id r.kind agrees.kind (λ is. cc)
 
--- and the one of a sleep is of none
-sleep-due : (script : Script) (s : State) (r : Rec) → length script.decls ≤ r.id → Agrees script s r → sleeps_until s (r.id - length script.decls) ≡ shown r
-sleep-due script s r beyond agrees =
-    let here : nat_lt r.id (length script.decls) ≡ false = not-below r.id (length script.decls) beyond in
-    sym (agrees.shown ∙ rw here refl)
+-- where the time of a deadline has come that is set, its context may expire unless it has ended
+deadline-may : (b : BookView) (r : Rec) (due : ℕ) → IsLawful b → outcome_of b ≡ None → Agrees b.script b.state r → Keeps r → r.kind ≡ RecKind.Deadline → r.when ≡ Some due
+    → due ≤ clock b.state 0 → has_ended b.state r.id ≡ false → MayCommit b (Op.Expire r.id)
+deadline-may b r due lawful running agrees keeps kind set come going =
+    let plain : has_channel r.kind ≡ false = ap has_channel kind in
+    let ctx : is_ctx b.script r.id ≡ true = kind-deadline b.script r.id (agrees.kind ∙ ap Some kind) in
+    may-expire b r.id due lawful running
+    (sym (shown-own b.script b.state r agrees ctx going) ∙ (shown-plain r (keeps.none_sent plain) (keeps.none_ready plain) ∙ set)) come
 
 pub fires-may : (b : BookView) (r : Rec) (due : ℕ) (k : RecKind) → IsLawful b → outcome_of b ≡ None → Agrees b.script b.state r → Keeps r → r.kind ≡ k → r.when ≡ Some due
     → due ≤ clock b.state 0 → MayFire b r.id k
@@ -124,14 +123,14 @@ fires-may b r due RecKind.Func lawful running agrees keeps kind set come =
     let func : IsTrue (is_func b.script r.id) = kind-func b.script r.id (agrees.kind ∙ ap Some kind) in
     let below : r.id < length b.script.decls = subst (λ (n : ℕ). r.id < n) lawful.formed.timers (func_within b.script b.state r.id lawful.formed func) in
     let plain : has_channel r.kind ≡ false = ap has_channel kind in
-    may-fire b r.id due lawful running func (func-due b.script b.state r below agrees ∙ (shown-plain r (keeps.none_sent plain) (keeps.none_ready plain) ∙ set)) come
+    may-fire b r.id due lawful running func (sym (shown-due b.script b.state r agrees below (func-no_ctx b.script b.state r agrees kind)) ∙ (shown-plain r (keeps.none_sent plain) (keeps.none_ready plain) ∙ set)) come
 fires-may b r due RecKind.Sleep lawful running agrees keeps kind set come =
     let beyond : length b.script.decls ≤ r.id = kind-sleep b.script r.id (agrees.kind ∙ ap Some kind) in
     let plain : has_channel r.kind ≡ false = ap has_channel kind in
     let may = may-wake b (r.id - length b.script.decls) due lawful running
-    (sleep-due b.script b.state r beyond agrees ∙ (shown-plain r (keeps.none_sent plain) (keeps.none_ready plain) ∙ set)) come in
+    (sym (shown-sleep b.script b.state r agrees beyond) ∙ (shown-plain r (keeps.none_sent plain) (keeps.none_ready plain) ∙ set)) come in
     (beyond, may.0, may.1)
-fires-may b r due RecKind.Deadline lawful running agrees keeps kind set come = kind-no_deadline b.script r.id (agrees.kind ∙ ap Some kind)
+fires-may b r due RecKind.Deadline lawful running agrees keeps kind set come = (running, deadline-may b r due lawful running agrees keeps kind set come)
 
 -- ---- the record after a run
 
@@ -243,31 +242,76 @@ dropped-shows r after now P answer is when =
 
 -- ---- the book and the record after what fired
 
+live-made : (o : Option Context) (due : ℕ) → (elim o as (λ o. Option ℕ) [ None ↦ None | Some r ↦ live_deadline r ]) ≡ Some due → is_some o ≡ true
+live-made None due h = cc
+live-made (Some r) due h = refl
+
+-- a context has ended when its deadline has run, now or before
+agrees-expired : (old new : BookView) (reply : HeadDone) (r after : Rec) (due : ℕ) → IsLawful old → IsLentRec old r → Keeps r → r.kind ≡ RecKind.Deadline → r.when ≡ Some due
+    → IsRunFrom r after → (b : Bool) → has_ended old.state r.id ≡ b → CommitsAs old (Op.Expire r.id) new reply b → Agrees new.script new.state after
+agrees-expired old new reply r after due lawful lent keeps kind set from true ended did =
+    let ctx : is_ctx old.script r.id ≡ true = kind-deadline old.script r.id (lent.agrees.kind ∙ ap Some kind) in
+    subst (λ (b : BookView). Agrees b.script b.state after) (sym did.0) (agrees-over old.script old.state r after lent.agrees from.same from.period ctx ended)
+agrees-expired old new reply r after due lawful lent keeps kind set from false going did =
+    let e : Entry = Entry.Expire r.id (start_count old.script old.state r.id) in
+    let ctx : is_ctx old.script r.id ≡ true = kind-deadline old.script r.id (lent.agrees.kind ∙ ap Some kind) in
+    let plain : has_channel r.kind ≡ false = ap has_channel kind in
+    let own : live_at old.state r.id ≡ Some due =
+    sym (shown-own old.script old.state r lent.agrees ctx going) ∙ (shown-plain r (keeps.none_sent plain) (keeps.none_ready plain) ∙ set) in
+    let made : is_some (context_at old.state r.id) ≡ true = live-made (context_at old.state r.id) due own in
+    agrees-after old e new r after lawful did.0 lent.agrees from.same (inr (ctx, expiry-ends old r.id (start_count old.script old.state r.id) new did.0 made))
+    (from.period ∙ sym (period-still old.script old.state (change_of e) r.id r.period refl))
+
 pub kept-fired : (old : BookView) (seq : ℕ) (new : BookView) (reply : HeadDone) (k : RecKind) (h : LazyHeap) (r after : Rec) (now due number : ℕ) (next : Option ℕ)
-    → IsLawful old → IsLentRec old r → r.kind ≡ k → FiredAs old r.id seq new reply k → head_answer r now ≡ Ran.Fired due number next → after ≡ head_run r now
+    → IsLawful old → IsLentRec old r → Keeps r → r.kind ≡ k → FiredAs old r.id seq new reply k → head_answer r now ≡ Ran.Fired due number next → after ≡ head_run r now
     → r.when ≡ Some due → IsSettled h after → BitsRight after → IsKept new h after
-kept-fired old seq new reply k h r after now due number next lawful lent kind fired answer is set settled bits =
+kept-fired old seq new reply k h r after now due number next lawful lent keeps kind fired answer is set settled bits =
     let ran : Has r now (Ran.Fired due number next) (head_run r now) = has-run r now (Ran.Fired due number next) answer tt in
     let from : IsRunFrom r after = subst (IsRunFrom r) (sym is) (from-run r now) in
     record {
-      rec = record { agrees = agrees-fired old seq new reply k r after now due lawful lent kind fired (is ∙ (ran.0 ∙ ap (λ k. run_as k r now) kind)) set from; bits = bits };
+      rec = record { agrees = agrees-fired old seq new reply k r after now due lawful lent keeps kind fired (is ∙ (ran.0 ∙ ap (λ k. run_as k r now) kind)) set from; bits = bits };
       placed = placed-settled h after settled;
     }
   where
-    agrees-fired : (old : BookView) (seq : ℕ) (new : BookView) (reply : HeadDone) (k : RecKind) (r after : Rec) (now due : ℕ) → IsLawful old → IsLentRec old r → r.kind ≡ k
+    agrees-fired : (old : BookView) (seq : ℕ) (new : BookView) (reply : HeadDone) (k : RecKind) (r after : Rec) (now due : ℕ) → IsLawful old → IsLentRec old r → Keeps r → r.kind ≡ k
         → FiredAs old r.id seq new reply k → after ≡ run_as k r now → r.when ≡ Some due → IsRunFrom r after → Agrees new.script new.state after
-    agrees-fired old seq new reply RecKind.Timer r after now due lawful lent kind fired is set from =
+    agrees-fired old seq new reply RecKind.Timer r after now due lawful lent keeps kind fired is set from =
         subst (λ (b : BookView). Agrees b.script b.state after) (sym fired.0)
         (agrees-stays old.script old.state r after lent.agrees from.same (ap shown is ∙ run_as-shows RecKind.Timer r now due refl set) from.period)
-    agrees-fired old seq new reply RecKind.Ticker r after now due lawful lent kind fired is set from =
+    agrees-fired old seq new reply RecKind.Ticker r after now due lawful lent keeps kind fired is set from =
         subst (λ (b : BookView). Agrees b.script b.state after) (sym fired.0)
         (agrees-stays old.script old.state r after lent.agrees from.same (ap shown is ∙ run_as-shows RecKind.Ticker r now due refl set) from.period)
-    agrees-fired old seq new reply RecKind.Func r after now due lawful lent kind fired is set from =
+    agrees-fired old seq new reply RecKind.Func r after now due lawful lent keeps kind fired is set from =
         let func : IsTrue (is_func old.script r.id) = kind-func old.script r.id (lent.agrees.kind ∙ ap Some kind) in
         let below : r.id < length old.script.decls = subst (λ (n : ℕ). r.id < n) lawful.formed.timers (func_within old.script old.state r.id lawful.formed func) in
-        agrees-set old (Entry.FireFunc r.id (next_number old.state)) new r after (Setting.Ended None) lawful fired.0 lent.agrees below refl from.same (ap shown is) from.period
-    agrees-fired old seq new reply RecKind.Sleep r after now due lawful lent kind fired is set from =
+        agrees-set old (Entry.FireFunc r.id (next_number old.state)) new r after (Setting.Ended None) lawful fired.0 lent.agrees below (func-no_ctx old.script old.state r lent.agrees kind) refl from.same (ap shown is) from.period
+    agrees-fired old seq new reply RecKind.Sleep r after now due lawful lent keeps kind fired is set from =
         let beyond : length old.script.decls ≤ r.id = kind-sleep old.script r.id (lent.agrees.kind ∙ ap Some kind) in
         agrees-moved old (Entry.Wake (r.id - length old.script.decls)) new r after (Move.GoesOn 0) lawful fired.0 lent.agrees (not-below r.id (length old.script.decls) beyond) refl refl from.same
         (ap shown is) from.period
-    agrees-fired old seq new reply RecKind.Deadline r after now due lawful lent kind fired is set from = absurd fired
+    agrees-fired old seq new reply RecKind.Deadline r after now due lawful lent keeps kind fired is set from = agrees-expired old new reply r after due lawful lent keeps kind set from (has_ended old.state r.id) refl fired
+
+-- ---- the row of a head that fired
+
+expires-as : (old new : Parts) (reply : HeadDone) (b : Bool) → new.rec ≡ head_run old.rec (clock old.book.state 0) → Scans old.heap new.heap 0 old.rec new.rec
+    → CommitsAs old.book (Op.Expire old.rec.id) new.book reply b → ExpiresBy old new reply b
+expires-as old new reply true is scans did = record { book = did.0; rec = is; scans = scans; answer = did.1 }
+expires-as old new reply false is scans did = record { entered = did.0; rec = is; scans = scans; answer = did.1 }
+
+fires-as : (old new : Parts) (seq : ℕ) (reply : HeadDone) (k : RecKind) → new.rec ≡ head_run old.rec (clock old.book.state 0) → Scans old.heap new.heap 0 old.rec new.rec
+    → FiredAs old.book old.rec.id seq new.book reply k → FiresAs old seq new reply k
+fires-as old new seq reply RecKind.Timer is scans fired = record { book = fired.0; rec = is; scans = scans; answer = fired.1 }
+fires-as old new seq reply RecKind.Ticker is scans fired = record { book = fired.0; rec = is; scans = scans; answer = fired.1 }
+fires-as old new seq reply RecKind.Func is scans fired = record { entered = fired.0; rec = is; scans = scans; answer = fired.1 }
+fires-as old new seq reply RecKind.Sleep is scans fired = record { entered = fired.0; rec = is; scans = scans; answer = fired.1 }
+fires-as old new seq reply RecKind.Deadline is scans fired = expires-as old new reply (has_ended old.book.state old.rec.id) is scans fired
+
+pub fired-row : (old new : Parts) (reply : HeadDone) (now due seq : ℕ) (next : Option ℕ) → outcome_of old.book ≡ None → now ≡ clock old.book.state 0
+    → head_answer old.rec now ≡ Ran.Fired due seq next → new.rec ≡ head_run old.rec now → Scans old.heap new.heap 0 old.rec new.rec
+    → FiredAs old.book old.rec.id seq new.book reply old.rec.kind → HeadRow old new reply
+fired-row old new reply now due seq next running time answer is scans fired =
+    let at_clock : new.rec ≡ head_run old.rec (clock old.book.state 0) = is ∙ ap (head_run old.rec) time in
+    let by : HeadBy old new reply (Ran.Fired due seq next) = fires-as old new seq reply old.rec.kind at_clock scans fired in
+    let row : HeadBy old new reply (head_answer old.rec (clock old.book.state 0)) =
+    subst (HeadBy old new reply) (sym answer ∙ ap (head_answer old.rec) time) by in
+    subst (λ o. MatchOption o (HeadBy old new reply (head_answer old.rec (clock old.book.state 0))) (λ outcome. (reply ≡ HeadDone.Over outcome) × (new ≡ old))) (sym running) row

@@ -138,12 +138,12 @@ sleep-arms old new g d until did answer reply f =
     })
 
 -- the record of the sleep
-record IsArmed (r now : Rec) (due : ℕ) : Type 0 where
-  same : IsOfSame r now
-  shows : shown now ≡ Some due
-  period : now.period ≡ 0
+pub record IsArmed (r now : Rec) (due : ℕ) : Type 0 where
+  pub same : IsOfSame r now
+  pub shows : shown now ≡ Some due
+  pub period : now.period ≡ 0
 
-armed-settles : (h : LazyHeap) (r : Rec) (h' : LazyHeap) (r' : Rec) (due : ℕ) (b : Bool) → Settles h (armed r due 0) h' r' b → IsArmed r r' due
+pub armed-settles : (h : LazyHeap) (r : Rec) (h' : LazyHeap) (r' : Rec) (due : ℕ) (b : Bool) → Settles h (armed r due 0) h' r' b → IsArmed r r' due
 armed-settles h r h' r' due true place =
     subst (λ (r' : Rec). IsArmed r r' due) (sym place.record_is) (record { same = record { id = refl; kind = refl }; shows = refl; period = refl })
 armed-settles h r h' r' due false place =

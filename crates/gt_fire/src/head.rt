@@ -2,11 +2,10 @@
 
 ghost use Rattle.std.specs.Prelude.{◌≡◌, ℕ, ◌↔◌, [], IsNone, IfSome, false, slice_index_or};
 ghost use Rattle.gt_lazy.specs.Slots.{Slot, StandsAt};
-ghost use Rattle.gt_book.specs.Steps.{MayCommit, entry_of, is_gone};
-ghost use Rattle.gt_book.specs.View.{Enters};
+ghost use Rattle.gt_book.specs.Steps.{MayCommit, is_gone};
 ghost use Rattle.gt_rows.specs.Lent.{IsLent, IsKept};
-ghost use Rattle.gt_rows.specs.Rows.{Answers, HeadRow};
-ghost use Rattle.gt_fire.specs.Fires.{MayFire, FiredAs};
+ghost use Rattle.gt_rows.specs.Rows.{HeadRow};
+ghost use Rattle.gt_fire.specs.Fires.{MayFire, FiredAs, CommitsAs};
 
 use gt_book::{Book, Commit, Op};
 use gt_lazy::{Lazy, Ran};
@@ -26,7 +25,8 @@ pub fn head_rec(heap: &Lazy) -> Option<u32>
 }
 
 /// Runs the head of a heap, which is this record's, at the program's clock. A head whose heap has yet to learn of a change is cleaned instead (Go 1.23,
-/// runtime/time.go). A function that is due starts, and a sleep that is over ends; a timer with a channel begins its send.
+/// runtime/time.go). A function that is due starts, a sleep that is over ends, and a context whose deadline has come ends, unless it has; a timer with a channel
+/// begins its send.
 pub fn sec_run_head(heap: &mut Lazy, rec: &mut TimerRec, book: &mut Book) -> HeadDone
     requires lent { IsLent book.old heap.old rec.old }
     requires head { StandsAt heap.old 0 rec.old }
@@ -66,17 +66,14 @@ fn fire(book: &mut Book, kind: RecKind, id: u32, seq: u64) -> HeadDone
                 },
             )
         }
-        // There are no deadlines so far.
-        RecKind::Deadline => HeadDone::Gone,
+        RecKind::Deadline => commit(book, Op::Expire { x: id }),
     }
 }
 
-/// Commits the operation of a record that fired.
+/// Commits the operation of a record that fired, unless it comes too late.
 fn commit(book: &mut Book, op: Op) -> HeadDone
-    requires may { MayCommit book.old op }
-    requires in_time { is_gone book.old op ≡ false }
-    ensures entered { Enters book.old (entry_of book.old.state op) book.new }
-    ensures answer { Answers book.new HeadDone.Over result HeadDone.Fired }
+    requires may { is_gone book.old op ≡ false → MayCommit book.old op }
+    ensures { CommitsAs book.old op book.new result (is_gone book.old op) }
 {
     match book.commit(op) {
         Commit::Entered => HeadDone::Fired,

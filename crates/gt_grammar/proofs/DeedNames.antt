@@ -57,7 +57,7 @@ placed-from names [] inside blocks n f k r w = tt
 placed-from names (declares name what ∷ rest) inside blocks n f k r w =
     let x : Declared = declared (kind_in what) n f in (
       here-by (names name) x (find (names_in (n + 1) f rest) name) (bytes_eq name name) n (same-name name) r.2.first (w name),
-      placed-from names rest false blocks (n + 1) f k r.4 (λ q. further names q (bytes_eq q name) x (find (names_in (n + 1) f rest) q) n refl (w q)),
+      placed-from names rest false blocks (n + 1) f k r.5 (λ q. further names q (bytes_eq q name) x (find (names_in (n + 1) f rest) q) n refl (w q)),
     )
 placed-from names (opens name decl ∷ rest) inside blocks n f k r w =
     let x : Declared = declared Kind.Function n f in
@@ -96,7 +96,7 @@ free-not_root word h = λ e.
 each-name : (names : Names) (P : Decl → Type 0) → ((d : Decl) → is_free_name d.name ≡ true → P d) → (deeds : List Deed) (inside : Bool) (blocks : List OpenBlock) (n f k : ℕ) → Right names inside blocks n f k deeds → All P (decls_in deeds)
 each-name names P by [] inside blocks n f k r = All-none P
 each-name names P by (declares name what ∷ rest) inside blocks n f k r =
-    All-cons P (decl_of name what) (decls_in rest) (by (decl_of name what) r.2.free) (each-name names P by rest false blocks (n + 1) f k r.4)
+    All-cons P (decl_of name what) (decls_in rest) (by (decl_of name what) r.2.free) (each-name names P by rest false blocks (n + 1) f k r.5)
 each-name names P by (opens name decl ∷ rest) inside blocks n f k r =
     All-cons P (decl_of name What.Function) (decls_in rest) (by (decl_of name What.Function) r.3.free) (each-name names P by rest true [] (n + 1) (f + 1) k r.6)
 each-name names P by (does i ∷ rest) inside blocks n f k r = each-name names P by rest true (holding Held.Entered blocks) n f (k + 1) r.3
@@ -157,7 +157,7 @@ has_names names deeds r p = record {
 pub functions_are : (names : Names) (deeds : List Deed) (inside : Bool) (blocks : List OpenBlock) (n f k : ℕ) → Right names inside blocks n f k deeds → Placed names n f deeds → map (λ (g : Func). g.decl) (funcs_in deeds) ≡ function_places n (decls_in deeds)
 functions_are names [] inside blocks n f k r p = refl
 functions_are names (declares name what ∷ rest) inside blocks n f k r p =
-    functions_are names rest false blocks (n + 1) f k r.4 p.1 ∙ ap (λ b. cond b (n ∷ []) [] ++ function_places (n + 1) (decls_in rest)) (sym (no_function names what r.3))
+    functions_are names rest false blocks (n + 1) f k r.5 p.1 ∙ ap (λ b. cond b (n ∷ []) [] ++ function_places (n + 1) (decls_in rest)) (sym (no_function names what r.3))
 functions_are names (opens name decl ∷ rest) inside blocks n f k r p =
     ap (λ x. x ∷ map (λ (g : Func). g.decl) (funcs_in rest)) p.1 ∙ ap (λ xs. n ∷ xs) (functions_are names rest true [] (n + 1) (f + 1) k r.6 p.2)
 functions_are names (does instr ∷ rest) inside blocks n f k r p = functions_are names rest true (holding Held.Entered blocks) n f (k + 1) r.3 p
@@ -227,7 +227,7 @@ found names (declares name what ∷ rest) inside blocks n f k r p q d h =
       kind = ap (λ (y : Declared). y.kind) e;
       func = λ t. absurd (starts-no_function names what r.3 (ap (λ (y : Declared). is_kind_function y.kind) e ∙ t));
     })
-    (λ e. found-further (decl_of name what) (decls_in rest) (funcs_in rest) (funcs_in rest) n f f q d (λ w. w) (found names rest false blocks (n + 1) f k r.4 p.1 q d e))
+    (λ e. found-further (decl_of name what) (decls_in rest) (funcs_in rest) (funcs_in rest) n f f q d (λ w. w) (found names rest false blocks (n + 1) f k r.5 p.1 q d e))
     h
 found names (opens name decl ∷ rest) inside blocks n f k r p q d h =
     let x : Declared = declared Kind.Function n f in

@@ -13,17 +13,18 @@ use Rattle.gt_model.specs.declared.script.What.{What}
 use Rattle.gt_model.specs.declared.script.Instr.{Instr}
 use Rattle.gt_model.specs.declared.script.Case.{Case}
 use Rattle.gt_model.specs.declared.script.CaseKind.{CaseKind}
-use Rattle.gt_model.specs.Script.{what_at, names_timer, names_func, names_chan, names_mutex, names_wg, names_cond, is_chan as model_is_chan, is_timer as model_is_timer, is_mutex as model_is_mutex, is_wg as model_is_wg, is_cond as model_is_cond}
-use Rattle.gt_model.specs.Good.{is_setting as model_is_setting, gives_values as model_gives_values, awaits_timer as model_awaits, OperatesRightly, IsGoodChoice, is_finish, is_line, NamesRightly, DeclaresRightly, IsGoodInstr, IsGoodCode, IsGood, function_name}
+use Rattle.gt_model.specs.declared.context.Form.{Form}
+use Rattle.gt_model.specs.Script.{what_at, names_timer, names_func, names_chan, names_mutex, names_wg, names_cond, names_ctx, names_hook, names_error, named_form, can_end, takes_cause, form_of, is_ctx as model_is_ctx, is_endable as model_is_endable, is_hook as model_is_hook, is_error as model_is_error, is_chan as model_is_chan, is_timer as model_is_timer, is_mutex as model_is_mutex, is_wg as model_is_wg, is_cond as model_is_cond}
+use Rattle.gt_model.specs.Good.{is_setting as model_is_setting, gives_values as model_gives_values, awaits_timer as model_awaits, OperatesRightly, IsGoodChoice, is_finish, is_line, NamesRightly, FormsRightly, DeclaresRightly, IsGoodInstr, IsGoodCode, IsGood, function_name}
 use Rattle.gt_table.specs.declared.form.Kind.{Kind}
-use Rattle.gt_table.specs.Forms.{is_kind_function, is_kind_setting, is_kind_timer, is_kind_chan, is_kind_source, is_kind_mutex, is_kind_wg, is_kind_cond}
+use Rattle.gt_table.specs.Forms.{is_kind_function, is_kind_setting, is_kind_timer, is_kind_chan, is_kind_source, is_kind_mutex, is_kind_wg, is_kind_cond, is_kind_ctx, is_kind_endable, is_kind_causable, is_kind_hook, is_kind_error}
 use Rattle.gt_names.specs.declared.names.Declared.{Declared}
 use Rattle.gt_names.specs.Names.{Names, find}
 use Rattle.gt_grammar.specs.declared.progress.OpenBlock.{OpenBlock}
 use Rattle.gt_grammar.specs.declared.progress.Held.{Held}
 use Rattle.gt_grammar.specs.Faults.{count_if, holding, ended_in, block_ended, case_added, default_added}
 use Rattle.gt_grammar.specs.Deeds.{Deed, declares, opens, does, loops, selects, chooses, defaults, closes, decl_of, func_of, decls_in, case_at, cases_from, default_from, Block as Open, in_loop, in_select, in_body, code_from, code_in, funcs_in, script_in}
-use Rattle.gt_grammar.proofs.Rightly.{kind_in, names_in, IsPlace, Refers, RefersCase, Starts, Right, opened, chosen_in}
+use Rattle.gt_grammar.proofs.Rightly.{kind_in, names_in, IsPlace, IsFunc, Refers, RefersCase, StartsForm, Starts, Precedes, Right, opened, chosen_in}
 use Rattle.gt_grammar.proofs.KindTests.{is_of_kind, by_kind}
 use Rattle.gt_grammar.proofs.OpenLoops.{Alike, alike-holding, alike-ended}
 use Rattle.gt_grammar.proofs.DeedNames.{Placed, placed, has_names, functions_are, HasFunc, Found, found}
@@ -76,7 +77,7 @@ names-chan : (names : Names) (script : Script) → AllKnown names script → (c 
 names-chan names script known c p = names-object names script known is_kind_chan names_chan (λ what. (is_of_kind what).chan) c p
 
 names-source : (names : Names) (script : Script) → AllKnown names script → (o : ℕ) → IsPlace names is_kind_source o → model_gives_values script o ≡ true
-names-source names script known o p = names-object names script known is_kind_source (λ w. names_timer w || names_chan w) (λ what. (is_of_kind what).source) o p
+names-source names script known o p = names-object names script known is_kind_source (λ w. names_timer w || names_chan w || can_end (named_form w)) (λ what. (is_of_kind what).source) o p
 
 names-mutex : (names : Names) (script : Script) → AllKnown names script → (m : ℕ) → IsPlace names is_kind_mutex m → model_is_mutex script m ≡ true
 names-mutex names script known m p = names-object names script known is_kind_mutex names_mutex (λ what. (is_of_kind what).mutex) m p
@@ -87,10 +88,28 @@ names-wg names script known w p = names-object names script known is_kind_wg nam
 names-cond : (names : Names) (script : Script) → AllKnown names script → (k : ℕ) → IsPlace names is_kind_cond k → model_is_cond script k ≡ true
 names-cond names script known k p = names-object names script known is_kind_cond names_cond (λ what. (is_of_kind what).condition) k p
 
+names-ctx : (names : Names) (script : Script) → AllKnown names script → (x : ℕ) → IsPlace names is_kind_ctx x → model_is_ctx script x ≡ true
+names-ctx names script known x p = names-object names script known is_kind_ctx names_ctx (λ what. (is_of_kind what).context) x p
+
+names-endable : (names : Names) (script : Script) → AllKnown names script → (x : ℕ) → IsPlace names is_kind_endable x → model_is_endable script x ≡ true
+names-endable names script known x p = names-object names script known is_kind_endable (λ w. can_end (named_form w)) (λ what. (is_of_kind what).endable) x p
+
+names-causable : (names : Names) (script : Script) → AllKnown names script → (x : ℕ) → IsPlace names is_kind_causable x → takes_cause (form_of script x) ≡ true
+names-causable names script known x p = names-object names script known is_kind_causable (λ w. takes_cause (named_form w)) (λ what. (is_of_kind what).causable) x p
+
+names-hook : (names : Names) (script : Script) → AllKnown names script → (s : ℕ) → IsPlace names is_kind_hook s → model_is_hook script s ≡ true
+names-hook names script known s p = names-object names script known is_kind_hook names_hook (λ what. (is_of_kind what).hook) s p
+
+names-error : (names : Names) (script : Script) → AllKnown names script → (e : ℕ) → IsPlace names is_kind_error e → model_is_error script e ≡ true
+names-error names script known e p = names-object names script known is_kind_error names_error (λ what. (is_of_kind what).error) e p
+
+names-func : (names : Names) (script : Script) → AllKnown names script → (f : ℕ) → IsFunc names f → f < length script.funcs
+names-func names script known f r = omega (arith, r.2, func-within script r.0.name r.0.declared (known r.0.name r.0.declared r.0.known) r.1)
+
 -- what stands last is of each instruction that sets a timer
 names_rightly-by : (names : Names) (script : Script) → AllKnown names script → (i : Instr) → Refers names i → NamesRightly script i
 names_rightly-by names script known (Instr.Sleep d) r = r
-names_rightly-by names script known (Instr.Go f) r = omega (arith, r.2, func-within script r.0.name r.0.declared (known r.0.name r.0.declared r.0.known) r.1)
+names_rightly-by names script known (Instr.Go f) r = names-func names script known f r
 names_rightly-by names script known (Instr.Stop t) r = names-setting names script known t r
 names_rightly-by names script known (Instr.Recv o) r = names-source names script known o r
 names_rightly-by names script known (Instr.Make c) r = names-chan names script known c r
@@ -103,6 +122,13 @@ names_rightly-by names script known (Instr.Wait w) r = names-wg names script kno
 names_rightly-by names script known (Instr.CWait k) r = names-cond names script known k r
 names_rightly-by names script known (Instr.Signal k) r = names-cond names script known k r
 names_rightly-by names script known (Instr.Broadcast k) r = names-cond names script known k r
+names_rightly-by names script known (Instr.With x) r = names-ctx names script known x r
+names_rightly-by names script known (Instr.Cancel x None) r = names-endable names script known x r
+names_rightly-by names script known (Instr.Cancel x (Some e)) r = (names-causable names script known x r.0, names-error names script known e r.1)
+names_rightly-by names script known (Instr.ErrOf x) r = names-ctx names script known x r
+names_rightly-by names script known (Instr.CauseOf x) r = names-ctx names script known x r
+names_rightly-by names script known (Instr.After s) r = names-hook names script known s r
+names_rightly-by names script known (Instr.Unhook s) r = names-hook names script known s r
 names_rightly-by names script known (Instr.LoopTop depth count past) r = absurd r
 names_rightly-by names script known (Instr.LoopEnd depth top) r = absurd r
 names_rightly-by names script known (Instr.Select cases default_to) r = absurd r
@@ -325,7 +351,7 @@ All-none P = λ k d h. absurd (omega arith)
 
 funcs-good : (names : Names) (script : Script) → AllKnown names script → (deeds : List Deed) (inside : Bool) (blocks : List OpenBlock) (n f k : ℕ) → Right names inside blocks n f k deeds → All (λ (g : Func). IsGoodCode script g.code) (funcs_in deeds)
 funcs-good names script known [] inside blocks n f k r = All-none (λ (g : Func). IsGoodCode script g.code)
-funcs-good names script known (declares name what ∷ rest) inside blocks n f k r = funcs-good names script known rest false blocks (n + 1) f k r.4
+funcs-good names script known (declares name what ∷ rest) inside blocks n f k r = funcs-good names script known rest false blocks (n + 1) f k r.5
 funcs-good names script known (opens name decl ∷ rest) inside blocks n f k r =
     All-cons (λ (g : Func). IsGoodCode script g.code) (func_of decl (code_in rest)) (funcs_in rest)
     (code-good script (code_in rest) (ends names script known rest [] [] 0 (n + 1) (f + 1) k r.6 tt) (loops-good names rest (n + 1) (f + 1) k r.6)) (funcs-good names script known rest true [] (n + 1) (f + 1) k r.6)
@@ -337,16 +363,26 @@ funcs-good names script known (defaults ∷ rest) inside blocks n f k r = funcs-
 funcs-good names script known (closes ∷ rest) inside [] n f k r = funcs-good names script known rest false [] n f k r.1
 funcs-good names script known (closes ∷ rest) inside (inner ∷ outer) n f k r = funcs-good names script known rest true (block_ended (inner ∷ outer)) n f k r.2
 
+forms-by : (names : Names) (script : Script) → AllKnown names script → (form : Form) → StartsForm names form → FormsRightly script form
+forms-by names script known Form.Cancel s = tt
+forms-by names script known Form.Cause s = tt
+forms-by names script known (Form.Timeout d None) s = (s.0, tt)
+forms-by names script known (Form.Timeout d (Some e)) s = (s.0, names-error names script known e s.1)
+forms-by names script known Form.Without s = tt
+
 declares-by : (names : Names) (script : Script) → AllKnown names script → (what : What) → Starts names what → DeclaresRightly script what
-declares-by names script known (What.AfterFunc f) s = omega (arith, s.2, func-within script s.0.name s.0.declared (known s.0.name s.0.declared s.0.known) s.1)
+declares-by names script known (What.AfterFunc f) s = names-func names script known f s
 declares-by names script known (What.Chan cap) s = s
 declares-by names script known (What.Cond mutex) s = names-mutex names script known mutex s
+declares-by names script known (What.Ctx None form) s = (tt, forms-by names script known form s.1)
+declares-by names script known (What.Ctx (Some p) form) s = (names-ctx names script known p s.0, forms-by names script known form s.1)
+declares-by names script known (What.Hook ctx func) s = (names-ctx names script known ctx s.0, names-func names script known func s.1)
 declares-by names script known What.Function s = absurd s
 declares-by names script known _ s = tt
 
 declares-good : (names : Names) (script : Script) → AllKnown names script → (deeds : List Deed) (inside : Bool) (blocks : List OpenBlock) (n f k : ℕ) → Right names inside blocks n f k deeds → All (λ (d : Decl). DeclaresRightly script d.what) (decls_in deeds)
 declares-good names script known [] inside blocks n f k r = All-none (λ (d : Decl). DeclaresRightly script d.what)
-declares-good names script known (declares name what ∷ rest) inside blocks n f k r = All-cons (λ (d : Decl). DeclaresRightly script d.what) (decl_of name what) (decls_in rest) (declares-by names script known what r.3) (declares-good names script known rest false blocks (n + 1) f k r.4)
+declares-good names script known (declares name what ∷ rest) inside blocks n f k r = All-cons (λ (d : Decl). DeclaresRightly script d.what) (decl_of name what) (decls_in rest) (declares-by names script known what r.3) (declares-good names script known rest false blocks (n + 1) f k r.5)
 declares-good names script known (opens name decl ∷ rest) inside blocks n f k r = All-cons (λ (d : Decl). DeclaresRightly script d.what) (decl_of name What.Function) (decls_in rest) tt (declares-good names script known rest true [] (n + 1) (f + 1) k r.6)
 declares-good names script known (does i ∷ rest) inside blocks n f k r = declares-good names script known rest true (holding Held.Entered blocks) n f (k + 1) r.3
 declares-good names script known (loops count ∷ rest) inside blocks n f k r = declares-good names script known rest true (opened count blocks) n f k r.3
@@ -356,9 +392,32 @@ declares-good names script known (defaults ∷ rest) inside blocks n f k r = dec
 declares-good names script known (closes ∷ rest) inside [] n f k r = declares-good names script known rest false [] n f k r.1
 declares-good names script known (closes ∷ rest) inside (inner ∷ outer) n f k r = declares-good names script known rest true (block_ended (inner ∷ outer)) n f k r.2
 
+-- each context is derived from one in front of it
+abbrev parent-of : Option Decl → Option ℕ
+parent-of o = elim (option_map (λ (d : Decl). d.what) o) [ None ↦ None | Some what ↦ elim what [ What.Ctx parent form ↦ parent | _ ↦ None ] ]
+
+parents-good : (names : Names) (deeds : List Deed) (inside : Bool) (blocks : List OpenBlock) (n f k : ℕ) → Right names inside blocks n f k deeds → (x p : ℕ) → parent-of (slice_get (decls_in deeds) x) ≡ Some p → p < n + x
+parents-good names [] inside blocks n f k r x p e = cc
+parents-good names (declares name what ∷ rest) inside blocks n f k r zero p e = before what r.4 e
+  where
+    before : (what : What) → Precedes n what → parent-of (Some (decl_of name what)) ≡ Some p → p < n + 0
+    before (What.Ctx (Some q) form) h e = let same : q ≡ p = cc in omega (arith, h, same)
+    before (What.Ctx None form) h e = cc
+    before _ h e = cc
+parents-good names (declares name what ∷ rest) inside blocks n f k r (suc x) p e = omega (arith, parents-good names rest false blocks (n + 1) f k r.5 x p e)
+parents-good names (opens name decl ∷ rest) inside blocks n f k r zero p e = cc
+parents-good names (opens name decl ∷ rest) inside blocks n f k r (suc x) p e = omega (arith, parents-good names rest true [] (n + 1) (f + 1) k r.6 x p e)
+parents-good names (does i ∷ rest) inside blocks n f k r x p e = parents-good names rest true (holding Held.Entered blocks) n f (k + 1) r.3 x p e
+parents-good names (loops count ∷ rest) inside blocks n f k r x p e = parents-good names rest true (opened count blocks) n f k r.3 x p e
+parents-good names (selects ∷ rest) inside blocks n f k r x p e = parents-good names rest true (chosen_in blocks) n f (k + 1) r.3 x p e
+parents-good names (chooses kind ∷ rest) inside blocks n f k r x p e = parents-good names rest true (case_added r.2.0 blocks) n f k r.2.2 x p e
+parents-good names (defaults ∷ rest) inside blocks n f k r x p e = parents-good names rest true (default_added blocks) n f k r.2 x p e
+parents-good names (closes ∷ rest) inside [] n f k r x p e = parents-good names rest false [] n f k r.1 x p e
+parents-good names (closes ∷ rest) inside (inner ∷ outer) n f k r x p e = parents-good names rest true (block_ended (inner ∷ outer)) n f k r.2 x p e
+
 few-names : (names : Names) (deeds : List Deed) (inside : Bool) (blocks : List OpenBlock) (n f k : ℕ) → Right names inside blocks n f k deeds → n ≤ 4096 → n + length (decls_in deeds) ≤ 4096
 few-names names [] inside blocks n f k r h = omega arith
-few-names names (declares name what ∷ rest) inside blocks n f k r h = omega (arith, few-names names rest false blocks (n + 1) f k r.4 (omega (arith, r.1)))
+few-names names (declares name what ∷ rest) inside blocks n f k r h = omega (arith, few-names names rest false blocks (n + 1) f k r.5 (omega (arith, r.1)))
 few-names names (opens name decl ∷ rest) inside blocks n f k r h = omega (arith, few-names names rest true [] (n + 1) (f + 1) k r.6 (omega (arith, r.1)))
 few-names names (does i ∷ rest) inside blocks n f k r h = few-names names rest true (holding Held.Entered blocks) n f (k + 1) r.3 h
 few-names names (loops count ∷ rest) inside blocks n f k r h = few-names names rest true (opened count blocks) n f k r.3 h
@@ -370,7 +429,7 @@ few-names names (closes ∷ rest) inside (inner ∷ outer) n f k r h = few-names
 
 few-functions : (names : Names) (deeds : List Deed) (inside : Bool) (blocks : List OpenBlock) (n f k : ℕ) → Right names inside blocks n f k deeds → f ≤ 256 → f + length (funcs_in deeds) ≤ 256
 few-functions names [] inside blocks n f k r h = omega arith
-few-functions names (declares name what ∷ rest) inside blocks n f k r h = few-functions names rest false blocks (n + 1) f k r.4 h
+few-functions names (declares name what ∷ rest) inside blocks n f k r h = few-functions names rest false blocks (n + 1) f k r.5 h
 few-functions names (opens name decl ∷ rest) inside blocks n f k r h = omega (arith, few-functions names rest true [] (n + 1) (f + 1) k r.6 (omega (arith, r.2)))
 few-functions names (does i ∷ rest) inside blocks n f k r h = few-functions names rest true (holding Held.Entered blocks) n f (k + 1) r.3 h
 few-functions names (loops count ∷ rest) inside blocks n f k r h = few-functions names rest true (opened count blocks) n f k r.3 h
@@ -399,7 +458,7 @@ few-instructions : (names : Names) (deeds : List Deed) (inside : Bool) (blocks :
 few-instructions names [] true blocks stack at n f k r same h = cc
 few-instructions names [] false blocks stack at n f k r same h = omega arith
 few-instructions names (declares name what ∷ rest) true blocks stack at n f k r same h = let e = r.0 in cc
-few-instructions names (declares name what ∷ rest) false blocks stack at n f k r same h = few-instructions names rest false blocks stack at (n + 1) f k r.4 same h
+few-instructions names (declares name what ∷ rest) false blocks stack at n f k r same h = few-instructions names rest false blocks stack at (n + 1) f k r.5 same h
 few-instructions names (opens name decl ∷ rest) true blocks stack at n f k r same h = let e = r.0 in cc
 few-instructions names (opens name decl ∷ rest) false blocks stack at n f k r same h =
     omega (arith, few-instructions names rest true [] [] 0 (n + 1) (f + 1) k r.6 tt h, sum_by-cons size_of (func_of decl (code_in rest)) (funcs_in rest))
@@ -470,6 +529,7 @@ deeds-good names deeds main are r is function =
       main = func-name script (codes "main") main (known (codes "main") main is) function;
       names = has_names names deeds r places;
       declares = declares-good names script known deeds false [] 0 0 0 r;
+      parents = λ x p e. omega (arith, parents-good names deeds false [] 0 0 0 r x p e);
       functions = functions_are names deeds false [] 0 0 0 r places;
       code = funcs-good names script known deeds false [] 0 0 0 r;
       few_names = omega (arith, few-names names deeds false [] 0 0 0 r (omega arith));

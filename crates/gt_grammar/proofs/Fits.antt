@@ -1,9 +1,9 @@
 -- What a line does fits where it stands, and refers to what is declared.
-use Rattle.std.proofs.Common.{◌≡◌, ℕ, suc, ◌+◌, ◌-◌, ◌≤◌, pos, negsuc, ◌-ℤ◌, Bool, true, false, cond, List, [], ◌∷◌, Option, Some, None, IfSome, Result, Ok, Err, refl, subst, arith, codes, leb, ltb, eqb, length}
+use Rattle.std.proofs.Common.{◌≡◌, ℕ, zero, suc, ◌+◌, ◌-◌, ◌<◌, ◌≤◌, pos, negsuc, ◌-ℤ◌, Bool, true, false, cond, ◌&&◌, List, [], ◌∷◌, Option, Some, None, IfSome, Result, Ok, Err, refl, sym, ap, subst, ◌∙◌, arith, codes, leb, ltb, eqb, length}
 use Rattle.std.specs.Option.{option_map, option_and_then}
 use Rattle.std.specs.Result.{result_ok}
 use Rattle.std.specs.Str.{bytes_eq, is_utf8}
-use Rattle.std.proofs.lemmas.Bool.{leb-true, cond_both}
+use Rattle.std.proofs.lemmas.Bool.{leb-true, ltb-false, cond_both}
 use Rattle.gt_model.specs.Good.{most_capacity, most_added, IsAddable}
 use Rattle.gt_model.specs.Times.{greatest_time}
 use Rattle.gt_model.specs.declared.script.CaseKind.{CaseKind}
@@ -11,17 +11,20 @@ use Rattle.gt_lines.specs.Number.{number_of}
 use Rattle.gt_dur.specs.declared.fault.DurFault.{DurFault}
 use Rattle.gt_dur.specs.Duration.{read_of, capped, outcome_of, begins_with_digit, unmet_place, nanoseconds_of}
 use Rattle.gt_table.specs.declared.form.Arg.{Arg}
+use Rattle.gt_table.specs.declared.form.Form.{Form}
 use Rattle.gt_table.specs.declared.form.Kind.{Kind}
 use Rattle.gt_table.specs.declared.form.Role.{Role}
 use Rattle.gt_table.specs.declared.form.Step.{Step}
+use Rattle.gt_table.specs.declared.form.Values.{Values}
 use Rattle.gt_table.specs.declared.table.Keyword.{Keyword}
-use Rattle.gt_table.specs.Forms.{is_kind_function, is_kind_setting, is_kind_chan, is_kind_source, is_kind_mutex, is_kind_wg, is_kind_cond}
-use Rattle.gt_table.specs.Table.{form_of, step_of}
+use Rattle.gt_table.specs.Forms.{takes, is_parent, is_kind_function, is_kind_source, is_kind_ctx}
+use Rattle.gt_table.specs.Table.{form_of, parent_at, step_of}
 use Rattle.gt_names.specs.declared.names.Declared.{Declared}
 use Rattle.gt_names.specs.Names.{Names, is_free_name}
 use Rattle.gt_grammar.specs.Duration.{duration_of}
-use Rattle.gt_grammar.specs.Statements.{function_place, source_place, number_to, added_of, value_of, is_ticking, awaits_timer, command}
-use Rattle.gt_grammar.proofs.Rightly.{kind_in, Ref, IsPlace, Refers, RefersCase, Starts}
+use Rattle.gt_grammar.specs.Statements.{Command, place_if, function_place, object_of, number_to, added_of, value_of, is_ticking, is_case_recv}
+use Rattle.gt_grammar.specs.Faults.{is_late}
+use Rattle.gt_grammar.proofs.Rightly.{kind_in, Ref, IsPlace, IsFunc, Refers, RefersCase, Starts, parent_in}
 
 -- ---- a duration is at most the greatest time
 
@@ -63,29 +66,28 @@ ref names q d h = record { name = q; declared = d; known = h }
 
 -- an object of the kind that is wanted
 place-by : (names : Names) (holds : Kind → Bool) (q : List ℕ) (v : ℕ) (o : Option Declared) → names q ≡ o
-    → option_and_then (λ (d : Declared). cond (holds d.kind) (Some d.place) None) o ≡ Some v → IsPlace names holds v
+    → option_and_then (place_if holds) o ≡ Some v → IsPlace names holds v
 place-by names holds q v None e h = cc
 place-by names holds q v (Some d) e h = let both = if-Some (holds d.kind) d.place v h in record { ref = ref names q d e; kind = both.0; is = both.1 }
 
-setting-at : (names : Names) (q : List ℕ) (v : ℕ) → value_of names Arg.Setting q ≡ Some v → IsPlace names is_kind_setting v
-setting-at names q v h = place-by names is_kind_setting q v (names q) refl h
+object-at : (names : Names) (arg : Arg) (q : List ℕ) (v : ℕ) → object_of names arg q ≡ Some v → IsPlace names (takes arg) v
+object-at names arg q v h = place-by names (takes arg) q v (names q) refl h
 
-channel-at : (names : Names) (q : List ℕ) (v : ℕ) → value_of names Arg.Channel q ≡ Some v → IsPlace names is_kind_chan v
-channel-at names q v h = place-by names is_kind_chan q v (names q) refl h
+-- a parent is a context, or the root
+parent-by : (names : Names) (q : List ℕ) (v : ℕ) (o : Option ℕ) → object_of names Arg.Parent q ≡ o → option_map suc o ≡ Some v → IfSome (parent_at v) (IsPlace names is_kind_ctx)
+parent-by names q v None e h = cc
+parent-by names q v (Some p) e h =
+    let is : v ≡ suc p = cc in
+    subst (λ n. IfSome (parent_at n) (IsPlace names is_kind_ctx)) (sym is) (object-at names Arg.Parent q p e)
 
-source-at : (names : Names) (q : List ℕ) (v : ℕ) → value_of names Arg.Source q ≡ Some v → IsPlace names is_kind_source v
-source-at names q v h = place-by names is_kind_source q v (names q) refl h
+parent-found : (names : Names) (q : List ℕ) (v : ℕ) → value_of names Arg.Parent q ≡ Some v → IfSome (parent_at v) (IsPlace names is_kind_ctx)
+parent-found names q v h = by (bytes_eq q (codes "root")) h
+  where
+    by : (root : Bool) → cond root (Some 0) (option_map suc (object_of names Arg.Parent q)) ≡ Some v → IfSome (parent_at v) (IsPlace names is_kind_ctx)
+    by true k = let is : v ≡ 0 = cc in subst (λ n. IfSome (parent_at n) (IsPlace names is_kind_ctx)) (sym is) tt
+    by false k = parent-by names q v (object_of names Arg.Parent q) refl k
 
-mutex-at : (names : Names) (q : List ℕ) (v : ℕ) → value_of names Arg.Mutex q ≡ Some v → IsPlace names is_kind_mutex v
-mutex-at names q v h = place-by names is_kind_mutex q v (names q) refl h
-
-wg-at : (names : Names) (q : List ℕ) (v : ℕ) → value_of names Arg.WaitGroup q ≡ Some v → IsPlace names is_kind_wg v
-wg-at names q v h = place-by names is_kind_wg q v (names q) refl h
-
-cond-at : (names : Names) (q : List ℕ) (v : ℕ) → value_of names Arg.Cond q ≡ Some v → IsPlace names is_kind_cond v
-cond-at names q v h = place-by names is_kind_cond q v (names q) refl h
-
-function-by : (names : Names) (q : List ℕ) (v : ℕ) (o : Option Declared) → names q ≡ o → option_and_then function_place o ≡ Some v → (r : Ref names) × (is_kind_function r.declared.kind ≡ true) × (v ≡ r.declared.func)
+function-by : (names : Names) (q : List ℕ) (v : ℕ) (o : Option Declared) → names q ≡ o → option_and_then function_place o ≡ Some v → IsFunc names v
 function-by names q v None e h = cc
 function-by names q v (Some d) e h = let both = if-Some (is_kind_function d.kind) d.func v h in (ref names q d e, both.0, both.1)
 
@@ -158,39 +160,92 @@ FitsRole names Role.Defaults arg a awaits Step.Default = Unit {0}
 FitsRole names _ arg a awaits _ = ⊥
 
 -- a case that receives says by the name of its source whether that is a timer
-ticks-by : (names : Names) (q : List ℕ) (v : ℕ) (o : Option Declared) → names q ≡ o → option_and_then source_place o ≡ Some v → RefersCase names (is_ticking o) (CaseKind.Recv v)
+ticks-by : (names : Names) (q : List ℕ) (v : ℕ) (o : Option Declared) → names q ≡ o → option_and_then (place_if is_kind_source) o ≡ Some v → RefersCase names (is_ticking o) (CaseKind.Recv v)
 ticks-by names q v None e h = cc
 ticks-by names q v (Some d) e h = let both = if-Some (is_kind_source d.kind) d.place v h in (record { ref = ref names q d e; kind = both.0; is = both.1 }, refl)
 
+-- the words of a command have these values
+pub record Heard (names : Names) (form : Form) (c : Command) (v : Values) : Type 0 where
+  pub first : value_of names form.first c.first ≡ Some v.first
+  pub second : value_of names form.second c.second ≡ Some v.second
+  pub third : value_of names form.third c.third ≡ Some v.third
+  pub fourth : value_of names form.fourth c.fourth ≡ Some v.fourth
+
 -- what stands last is of each keyword that sets a timer
-pub fits : (names : Names) (k : Keyword) (w u : List ℕ) (a b : ℕ) → value_of names (form_of k).first w ≡ Some a → value_of names (form_of k).second u ≡ Some b
-    → FitsRole names (form_of k).role (form_of k).first a (awaits_timer names (command k w u)) (step_of k a b)
-fits names Keyword.Timer w u a b first second = (refl, refl, tt)
-fits names Keyword.Ticker w u a b first second = (refl, refl, tt)
-fits names Keyword.AfterFunc w u a b first second = (refl, refl, function-by names u b (names u) refl second)
-fits names Keyword.Chan w u a b first second = (refl, refl, number-most most_capacity u b second)
-fits names Keyword.Mutex w u a b first second = (refl, refl, tt)
-fits names Keyword.Wg w u a b first second = (refl, refl, tt)
-fits names Keyword.Cond w u a b first second = (refl, refl, mutex-at names u b second)
-fits names Keyword.Func w u a b first second = (refl, refl, refl)
-fits names Keyword.Loop w u a b first second = (refl, refl, number-most 1000000 w a first)
-fits names Keyword.CaseRecv w u a b first second = ticks-by names w a (names w) refl first
-fits names Keyword.CaseSend w u a b first second = (channel-at names w a first, refl)
-fits names Keyword.Sleep w u a b first second = duration-value w a first
-fits names Keyword.Go w u a b first second = function-by names w a (names w) refl first
-fits names Keyword.Stop w u a b first second = setting-at names w a first
-fits names Keyword.Recv w u a b first second = source-at names w a first
-fits names Keyword.Make w u a b first second = channel-at names w a first
-fits names Keyword.Send w u a b first second = channel-at names w a first
-fits names Keyword.Close w u a b first second = channel-at names w a first
-fits names Keyword.Lock w u a b first second = mutex-at names w a first
-fits names Keyword.Unlock w u a b first second = mutex-at names w a first
-fits names Keyword.Add w u a b first second = (wg-at names w a first, addable b (added-most u b second))
-fits names Keyword.Done w u a b first second = (wg-at names w a first, omega arith)
-fits names Keyword.Wait w u a b first second = wg-at names w a first
-fits names Keyword.CWait w u a b first second = cond-at names w a first
-fits names Keyword.Signal w u a b first second = cond-at names w a first
-fits names Keyword.Broadcast w u a b first second = cond-at names w a first
-fits names Keyword.New w u a b first second = (setting-at names w a first, duration-value u b second)
-fits names Keyword.Reset w u a b first second = (setting-at names w a first, duration-value u b second)
-fits names _ w u a b first second = tt
+pub fits : (names : Names) (k : Keyword) (c : Command) (v : Values) → Heard names (form_of k) c v
+    → FitsRole names (form_of k).role (form_of k).first v.first (is_case_recv k && is_ticking (names c.first)) (step_of k v)
+fits names Keyword.Timer c v h = (refl, refl, tt)
+fits names Keyword.Ticker c v h = (refl, refl, tt)
+fits names Keyword.AfterFunc c v h = (refl, refl, function-by names c.second v.second (names c.second) refl h.second)
+fits names Keyword.Chan c v h = (refl, refl, number-most most_capacity c.second v.second h.second)
+fits names Keyword.Mutex c v h = (refl, refl, tt)
+fits names Keyword.Wg c v h = (refl, refl, tt)
+fits names Keyword.Cond c v h = (refl, refl, object-at names Arg.Mutex c.second v.second h.second)
+fits names Keyword.Func c v h = (refl, refl, refl)
+fits names Keyword.Loop c v h = (refl, refl, number-most 1000000 c.first v.first h.first)
+fits names Keyword.CaseRecv c v h = ticks-by names c.first v.first (names c.first) refl h.first
+fits names Keyword.CaseSend c v h = (object-at names Arg.Channel c.first v.first h.first, refl)
+fits names Keyword.Sleep c v h = duration-value c.first v.first h.first
+fits names Keyword.Go c v h = function-by names c.first v.first (names c.first) refl h.first
+fits names Keyword.Stop c v h = object-at names Arg.Setting c.first v.first h.first
+fits names Keyword.Recv c v h = object-at names Arg.Source c.first v.first h.first
+fits names Keyword.Make c v h = object-at names Arg.Channel c.first v.first h.first
+fits names Keyword.Send c v h = object-at names Arg.Channel c.first v.first h.first
+fits names Keyword.Close c v h = object-at names Arg.Channel c.first v.first h.first
+fits names Keyword.Lock c v h = object-at names Arg.Mutex c.first v.first h.first
+fits names Keyword.Unlock c v h = object-at names Arg.Mutex c.first v.first h.first
+fits names Keyword.Add c v h = (object-at names Arg.WaitGroup c.first v.first h.first, addable v.second (added-most c.second v.second h.second))
+fits names Keyword.Done c v h = (object-at names Arg.WaitGroup c.first v.first h.first, omega arith)
+fits names Keyword.Wait c v h = object-at names Arg.WaitGroup c.first v.first h.first
+fits names Keyword.CWait c v h = object-at names Arg.Cond c.first v.first h.first
+fits names Keyword.Signal c v h = object-at names Arg.Cond c.first v.first h.first
+fits names Keyword.Broadcast c v h = object-at names Arg.Cond c.first v.first h.first
+fits names Keyword.CtxCancel c v h = (refl, refl, (parent-found names c.second v.second h.second, tt))
+fits names Keyword.CtxCause c v h = (refl, refl, (parent-found names c.second v.second h.second, tt))
+fits names Keyword.CtxTimeout c v h = (refl, refl, (parent-found names c.second v.second h.second, (duration-value c.third v.third h.third, tt)))
+fits names Keyword.CtxTimeoutCause c v h =
+    (refl, refl, (parent-found names c.second v.second h.second, (duration-value c.third v.third h.third, object-at names Arg.Error c.fourth v.fourth h.fourth)))
+fits names Keyword.CtxWithout c v h = (refl, refl, (parent-found names c.second v.second h.second, tt))
+fits names Keyword.Hook c v h = (refl, refl, (object-at names Arg.Context c.second v.second h.second, function-by names c.third v.third (names c.third) refl h.third))
+fits names Keyword.Error c v h = (refl, refl, tt)
+fits names Keyword.With c v h = object-at names Arg.Context c.first v.first h.first
+fits names Keyword.Cancel c v h = object-at names Arg.Endable c.first v.first h.first
+fits names Keyword.CancelCause c v h = (object-at names Arg.Causable c.first v.first h.first, object-at names Arg.Error c.second v.second h.second)
+fits names Keyword.ErrOf c v h = object-at names Arg.Context c.first v.first h.first
+fits names Keyword.CauseOf c v h = object-at names Arg.Context c.first v.first h.first
+fits names Keyword.After c v h = object-at names Arg.Hook c.first v.first h.first
+fits names Keyword.Unhook c v h = object-at names Arg.Hook c.first v.first h.first
+fits names Keyword.New c v h = (object-at names Arg.Setting c.first v.first h.first, duration-value c.second v.second h.second)
+fits names Keyword.Reset c v h = (object-at names Arg.Setting c.first v.first h.first, duration-value c.second v.second h.second)
+fits names _ c v h = tt
+
+-- ---- a parent is declared earlier
+
+-- the context from which a step derives one
+abbrev pub step_parent : Step → Option ℕ
+step_parent (Step.Declare what) = parent_in what
+step_parent _ = None
+
+parent-value : (v p : ℕ) → parent_at v ≡ Some p → v ≡ suc p
+parent-value zero p e = cc
+parent-value (suc v) p e = let same : v ≡ p = cc in ap suc same
+
+-- it is the second word
+parent-second : (k : Keyword) (v : Values) (p : ℕ) → step_parent (step_of k v) ≡ Some p → (is_parent (form_of k).second ≡ true) × (v.second ≡ suc p)
+parent-second Keyword.CtxCancel v p e = (refl, parent-value v.second p e)
+parent-second Keyword.CtxCause v p e = (refl, parent-value v.second p e)
+parent-second Keyword.CtxTimeout v p e = (refl, parent-value v.second p e)
+parent-second Keyword.CtxTimeoutCause v p e = (refl, parent-value v.second p e)
+parent-second Keyword.CtxWithout v p e = (refl, parent-value v.second p e)
+parent-second _ v p e = cc
+
+-- where it is not late, it precedes
+pub precedes : (k : Keyword) (v : Values) (n : ℕ) → (is_parent (form_of k).second && is_late n (Some v.second)) ≡ false → IfSome (step_parent (step_of k v)) (λ p. p < n)
+precedes k v n h = by (step_parent (step_of k v)) refl
+  where
+    by : (o : Option ℕ) → step_parent (step_of k v) ≡ o → IfSome o (λ p. p < n)
+    by None e = tt
+    by (Some p) e =
+        let second = parent-second k v p e in
+        let early : ltb n v.second ≡ false = ap (λ b. b && ltb n v.second) (sym second.0) ∙ h in
+        omega (arith, second.1, ltb-false n v.second early)

@@ -1,5 +1,5 @@
 -- A script that a text spells is good.
-use Rattle.std.proofs.Common.{◌≡◌, ℕ, ◌+◌, ◌<◌, ◌≤◌, Bool, true, false, not, cond, ◌&&◌, ◌||◌, List, [], ◌∷◌, ◌++◌, length, Option, None, Some, Result, Ok, Err, OnOk, IfOk, refl, sym, ap, subst, ◌∙◌, arith, codes, leb, ltb}
+use Rattle.std.proofs.Common.{◌≡◌, ℕ, ◌+◌, ◌<◌, ◌≤◌, Bool, true, false, not, cond, ◌&&◌, ◌||◌, List, [], ◌∷◌, ◌++◌, length, Option, None, Some, IfSome, Result, Ok, Err, OnOk, IfOk, refl, sym, ap, subst, ◌∙◌, arith, codes, leb, ltb}
 use Rattle.std.specs.Option.{option_map, option_and_then, option_to_list, unwrap_or}
 use Rattle.std.specs.Str.{bytes_eq}
 use Rattle.std.proofs.lemmas.Slice.Eq.{bytes_eq-Decides}
@@ -11,25 +11,26 @@ use Rattle.gt_model.specs.declared.script.CaseKind.{CaseKind}
 use Rattle.gt_model.specs.Good.{IsGood}
 use Rattle.gt_lines.specs.Words.{Words, NumberedLine, next, is_end}
 use Rattle.gt_table.specs.declared.form.Arg.{Arg}
+use Rattle.gt_table.specs.declared.form.CtxForm.{CtxForm}
 use Rattle.gt_table.specs.declared.form.Kind.{Kind}
 use Rattle.gt_table.specs.declared.form.Role.{Role}
 use Rattle.gt_table.specs.declared.form.Step.{Step}
 use Rattle.gt_table.specs.declared.table.Keyword.{Keyword}
 use Rattle.gt_table.specs.Forms.{declared_kind, is_wanted, is_kind_function, is_declaration as is_declaring}
-use Rattle.gt_table.specs.Table.{keyword_of, case_keyword_of, form_of}
+use Rattle.gt_table.specs.Table.{keyword_of, case_keyword_of, ctx_form_of, ctx_with, cancel_with, form_of}
 use Rattle.gt_names.specs.declared.names.Declared.{Declared}
-use Rattle.gt_names.specs.Names.{Names, Naming, naming, is_free_name, kind_of, named, naming_of, functions_with, Declaration, declaration, declarations_from, find, names_of}
+use Rattle.gt_names.specs.Names.{Names, Naming, naming, is_free_name, form_told, kind_of, named, naming_of, functions_with, Declaration, declaration, declarations_from, find, names_of}
 use Rattle.gt_grammar.specs.declared.fault.Why.{Why}
 use Rattle.gt_grammar.specs.declared.progress.OpenBlock.{OpenBlock}
 use Rattle.gt_grammar.specs.declared.progress.Held.{Held}
 use Rattle.gt_grammar.specs.Progress.{Progress}
-use Rattle.gt_grammar.specs.Statements.{Command, command, command_by, command_with, command_in, case_of, command_of, awaits_timer, value_of, is_head}
+use Rattle.gt_grammar.specs.Statements.{Command, command, are_two, tail_by, tail_with, command_by, command_with, command_in, case_of, ctx_of, cancel_of, command_of, awaits_timer, value_of, is_head}
 use Rattle.gt_grammar.specs.Deeds.{Deed, declares, opens, does, loops, selects, chooses, defaults, closes, deed_of, deed_with, deed_at, deeds_of, func_place, script_in, script_with, script_of}
 use Rattle.gt_grammar.specs.Faults.{test, stands, is_before, is_function, are_none_open, may_end, ends_wrongly, nests_wrongly, selects_wrongly, in_choice, loop_count, holding, block_ended, case_added, default_added, count_if, count_of, progress_after, progress_with, brings_too_many, lacks_main, fault_from, fault_in_lines, head_cause, no_progress}
-use Rattle.gt_grammar.proofs.Rightly.{kind_in, place_of, is_declared_before, naming_as, names_in, Refers, RefersCase, Starts, IsNew, IsChosen, MayChoose, MayDefault, Right, opened, chosen_in}
+use Rattle.gt_grammar.proofs.Rightly.{kind_in, place_of, is_declared_before, naming_as, names_in, Refers, RefersCase, Starts, Precedes, IsNew, IsChosen, MayChoose, MayDefault, Right, opened, chosen_in}
 use Rattle.gt_grammar.proofs.KindTests.{started, starts_functions}
 use Rattle.gt_grammar.proofs.DeedsGood.{deeds-good}
-use Rattle.gt_grammar.proofs.Fits.{FitsRole, IsFree, new-value}
+use Rattle.gt_grammar.proofs.Fits.{FitsRole, IsFree, new-value, step_parent}
 use Rattle.gt_grammar.proofs.RightLines.{first-None, Doing, doing, RightLine, AllRight, all_right, fault_or-None}
 
 -- ---- what a line declares, by its command
@@ -44,22 +45,40 @@ record CommandIs (k : Keyword) (wanted : Bool) (words : Words) (c : Command) : T
   keyword : c.keyword ≡ k
   first : FirstIs wanted words c.first
 
-command-is : (k : Keyword) (first second : List ℕ) (c : Command) → Some (command k first second) ≡ Some c → (c.keyword ≡ k) × (c.first ≡ first)
-command-is k first second c h = let same : c ≡ command k first second = cc in (ap (λ (d : Command). d.keyword) same, ap (λ (d : Command). d.first) same)
+command-is : (k : Keyword) (first second third fourth : List ℕ) (c : Command) → Some (command k first second third fourth) ≡ Some c → (c.keyword ≡ k) × (c.first ≡ first)
+command-is k first second third fourth c h =
+    let same : c ≡ command k first second third fourth = cc in
+    (ap (λ (d : Command). d.keyword) same, ap (λ (d : Command). d.first) same)
+
+tail-words : (k : Keyword) (x y : Bool) (a b : List ℕ) (words : Words) (c : Command) → tail_by k x y a b words ≡ Some c → (c.keyword ≡ k) × (c.first ≡ a)
+tail-words k false false a b [] c h = command-is k a b [] [] c h
+tail-words k false false a b (w ∷ ws) c h = cc
+tail-words k false true a b [] c h = cc
+tail-words k false true a b (w ∷ []) c h = command-is k a b [] w c h
+tail-words k false true a b (w ∷ v ∷ ws) c h = cc
+tail-words k true false a b [] c h = cc
+tail-words k true false a b (w ∷ []) c h = command-is k a b w [] c h
+tail-words k true false a b (w ∷ v ∷ ws) c h = cc
+tail-words k true true a b [] c h = cc
+tail-words k true true a b (w ∷ []) c h = cc
+tail-words k true true a b (w ∷ v ∷ []) c h = command-is k a b w v c h
+tail-words k true true a b (w ∷ v ∷ u ∷ ws) c h = cc
+
+tail-is : (k : Keyword) (a b : List ℕ) (words : Words) (c : Command) → tail_with k a b words ≡ Some c → (c.keyword ≡ k) × (c.first ≡ a)
+tail-is k a b words c h = tail-words k (is_wanted (form_of k).third) (is_wanted (form_of k).fourth) a b words c h
 
 with-words : (k : Keyword) (x y : Bool) (words : Words) (c : Command) → command_by k x y words ≡ Some c → CommandIs k x words c
-with-words k false false [] c h = let e = command-is k [] [] c h in record { keyword = e.0; first = e.1 }
-with-words k false false (w ∷ ws) c h = cc
+with-words k false false words c h = let e = tail-is k [] [] words c h in record { keyword = e.0; first = e.1 }
 with-words k false true [] c h = cc
-with-words k false true (w ∷ []) c h = let e = command-is k [] w c h in record { keyword = e.0; first = e.1 }
-with-words k false true (w ∷ v ∷ ws) c h = cc
+with-words k false true (w ∷ ws) c h = let e = tail-is k [] w ws c h in record { keyword = e.0; first = e.1 }
 with-words k true false [] c h = cc
-with-words k true false (w ∷ []) c h = let e = command-is k w [] c h in record { keyword = e.0; first = e.1 }
-with-words k true false (w ∷ v ∷ ws) c h = cc
+with-words k true false (w ∷ ws) c h = let e = tail-is k w [] ws c h in record { keyword = e.0; first = e.1 }
 with-words k true true [] c h = cc
 with-words k true true (w ∷ []) c h = cc
-with-words k true true (w ∷ v ∷ []) c h = let e = command-is k w v c h in record { keyword = e.0; first = e.1 }
-with-words k true true (w ∷ v ∷ u ∷ ws) c h = cc
+with-words k true true (w ∷ v ∷ ws) c h = let e = tail-is k w v ws c h in record { keyword = e.0; first = e.1 }
+
+command-keyword : (k : Keyword) (words : Words) (c : Command) → command_with k words ≡ Some c → c.keyword ≡ k
+command-keyword k words c h = let is : CommandIs k (is_wanted (form_of k).first) words c = with-words k (is_wanted (form_of k).first) (is_wanted (form_of k).second) words c h in is.keyword
 
 abbrev role_in : Keyword → Role
 role_in k = (form_of k).role
@@ -96,9 +115,13 @@ naming-command (Some k) words c h none =
     let P : Keyword → Type 0 = λ x. FirstIs (is_wanted (form_of x).first) words c.first in
     naming-first (declared_kind (role_in c.keyword)) (is_wanted (form_of c.keyword).first) (Some k) words c.first (ap (λ x. declared_kind (role_in x)) (sym is.keyword)) none (subst P (sym is.keyword) is.first)
 
-naming-words : (word : List ℕ) (words : Words) → naming_of (word ∷ words) ≡ naming_by (keyword_of word) words
-naming-words word [] = refl
-naming-words word (name ∷ words) = refl
+-- the line of a context tells its form by itself
+abbrev kind_with : Bool → List ℕ → Words → Option Kind
+kind_with ctx word words = cond ctx (Some (Kind.Ctx (form_told words))) (kind_by (keyword_of word))
+
+naming-words : (word : List ℕ) (words : Words) → bytes_eq word (codes "ctx") ≡ false → naming_of (word ∷ words) ≡ naming_by (keyword_of word) words
+naming-words word [] e = refl
+naming-words word (name ∷ words) e = ap (λ b. named name (kind_with b word (name ∷ words))) e
 
 -- a case declares nothing
 case-role : (k : Keyword) (word : List ℕ) → case_keyword_of word ≡ Some k → declared_kind (role_in k) ≡ None
@@ -111,28 +134,63 @@ case-role k word h = by (bytes_eq word (codes "recv")) (bytes_eq word (codes "se
 
 case-declares : (o : Option Keyword) (words : Words) (c : Command) → command_in o words ≡ Some c → ((k : Keyword) → o ≡ Some k → declared_kind (role_in k) ≡ None) → declared_kind (role_in c.keyword) ≡ None
 case-declares None words c h none = cc
-case-declares (Some k) words c h none =
-    let is : CommandIs k (is_wanted (form_of k).first) words c = with-words k (is_wanted (form_of k).first) (is_wanted (form_of k).second) words c h in
-    ap (λ x. declared_kind (role_in x)) is.keyword ∙ none k refl
+case-declares (Some k) words c h none = ap (λ x. declared_kind (role_in x)) (command-keyword k words c h) ∙ none k refl
 
 case-none : (words : Words) (c : Command) → case_of words ≡ Some c → declared_kind (role_in c.keyword) ≡ None
 case-none [] c h = cc
 case-none (word ∷ words) c h = case-declares (case_keyword_of word) words c h (λ k e. case-role k word e)
 
-no-name : (word : List ℕ) (words : Words) → kind_of word ≡ None → naming_of (word ∷ words) ≡ None
-no-name word [] e = refl
-no-name word (name ∷ words) e = ap (named name) e ∙ named-none name
+-- and neither does a cancel
+cancel-none : (words : Words) (c : Command) → cancel_of words ≡ Some c → declared_kind (role_in c.keyword) ≡ None
+cancel-none words c h = ap (λ x. declared_kind (role_in x)) (command-keyword (cancel_with (are_two words)) words c h) ∙ by (are_two words)
+  where
+    by : (caused : Bool) → declared_kind (role_in (cancel_with caused)) ≡ None
+    by true = refl
+    by false = refl
 
-naming-by-case : (word : List ℕ) (words : Words) (c : Command) (b : Bool) → bytes_eq word (codes "case") ≡ b → cond b (case_of words) (command_in (keyword_of word) words) ≡ Some c
+no-name : (word : List ℕ) (words : Words) (first : List ℕ) (kind : Option Kind) → kind_of word words ≡ None → kind ≡ None → naming_of (word ∷ words) ≡ named first kind
+no-name word [] first kind e none = sym (ap (named first) none ∙ named-none first)
+no-name word (name ∷ words) first kind e none = ap (named name) e ∙ named-none name ∙ sym (ap (named first) none ∙ named-none first)
+
+-- a context is declared with the form that its line tells
+ctx-kind : (form : CtxForm) (caused : Bool) → declared_kind (role_in (ctx_with caused form)) ≡ Some (Kind.Ctx (Some form))
+ctx-kind CtxForm.Cancel caused = refl
+ctx-kind CtxForm.Cause caused = refl
+ctx-kind CtxForm.Timeout true = refl
+ctx-kind CtxForm.Timeout false = refl
+ctx-kind CtxForm.Without caused = refl
+
+ctx-named : (name parent : List ℕ) (words : Words) (c : Command) (o : Option CtxForm) → option_and_then (λ (k : Keyword). tail_with k name parent words) (option_map (ctx_with (are_two words)) o) ≡ Some c
+    → named name (Some (Kind.Ctx o)) ≡ named c.first (declared_kind (role_in c.keyword))
+ctx-named name parent words c None h = cc
+ctx-named name parent words c (Some form) h =
+    let is = tail-is (ctx_with (are_two words) form) name parent words c h in
+    let kind : declared_kind (role_in c.keyword) ≡ Some (Kind.Ctx (Some form)) = ap (λ k. declared_kind (role_in k)) is.0 ∙ ctx-kind form (are_two words) in
+    ap (named name) (sym kind) ∙ ap (λ w. named w (declared_kind (role_in c.keyword))) (sym is.1)
+
+ctx-naming : (word : List ℕ) (words : Words) (c : Command) → word ≡ codes "ctx" → ctx_of words ≡ Some c → naming_of (word ∷ words) ≡ named c.first (declared_kind (role_in c.keyword))
+ctx-naming word [] c is h = cc
+ctx-naming word (name ∷ []) c is h = cc
+ctx-naming word (name ∷ parent ∷ []) c is h = cc
+ctx-naming word (name ∷ parent ∷ form ∷ words) c is h =
+    ap (λ w. named name (kind_of w (name ∷ parent ∷ form ∷ words))) is ∙ ctx-named name parent words c (ctx_form_of form) h
+
+naming-by-word : (word : List ℕ) (words : Words) (c : Command) (case ctx cancel : Bool) → bytes_eq word (codes "case") ≡ case → bytes_eq word (codes "ctx") ≡ ctx → bytes_eq word (codes "cancel") ≡ cancel
+    → cond case (case_of words) (cond ctx (ctx_of words) (cond cancel (cancel_of words) (command_in (keyword_of word) words))) ≡ Some c
     → (is_wanted (form_of c.keyword).first ≡ false → declared_kind (role_in c.keyword) ≡ None) → naming_of (word ∷ words) ≡ named c.first (declared_kind (role_in c.keyword))
-naming-by-case word words c true e h none =
+naming-by-word word words c true ctx cancel e f g h none =
     let same : word ≡ codes "case" = (bytes_eq-Decides word (codes "case")).0 e in
-    no-name word words (ap kind_of same) ∙ sym (ap (named c.first) (case-none words c h) ∙ named-none c.first)
-naming-by-case word words c false e h none = naming-words word words ∙ naming-command (keyword_of word) words c h none
+    no-name word words c.first (declared_kind (role_in c.keyword)) (ap (λ w. kind_of w words) same) (case-none words c h)
+naming-by-word word words c false true cancel e f g h none = ctx-naming word words c ((bytes_eq-Decides word (codes "ctx")).0 f) h
+naming-by-word word words c false false true e f g h none =
+    let same : word ≡ codes "cancel" = (bytes_eq-Decides word (codes "cancel")).0 g in
+    no-name word words c.first (declared_kind (role_in c.keyword)) (ap (λ w. kind_of w words) same) (cancel-none words c h)
+naming-by-word word words c false false false e f g h none = naming-words word words f ∙ naming-command (keyword_of word) words c h none
 
 naming-is : (words : Words) (c : Command) → command_of words ≡ Some c → (is_wanted (form_of c.keyword).first ≡ false → declared_kind (role_in c.keyword) ≡ None) → naming_of words ≡ named c.first (declared_kind (role_in c.keyword))
 naming-is [] c h none = cc
-naming-is (word ∷ words) c h none = naming-by-case word words c (bytes_eq word (codes "case")) refl h none
+naming-is (word ∷ words) c h none =
+    naming-by-word word words c (bytes_eq word (codes "case")) (bytes_eq word (codes "ctx")) (bytes_eq word (codes "cancel")) refl refl refl h none
 
 -- a line that declares wants a name
 wants-name : (names : Names) (role : Role) (arg : Arg) (a : ℕ) (awaits : Bool) (step : Step) → FitsRole names role arg a awaits step → is_wanted arg ≡ false → declared_kind role ≡ None
@@ -212,15 +270,15 @@ none-outside p Role.Selects count awaits here none = λ e. absurd (both_ways p.i
 none-outside p Role.Chooses count awaits here none = λ e. ap (case_added awaits) (none e)
 none-outside p Role.Defaults count awaits here none = λ e. ap default_added (none e)
 
-done-declares : (names : Names) (inside : Bool) (blocks : List OpenBlock) (n f k : ℕ) (line : NumberedLine) (rest : List NumberedLine) (name : List ℕ) (what : What) → Says names line (declares name what) (Some (naming_as name (kind_in what))) → not inside ≡ true → n < 4096 → IsNew names name n → Starts names what → Done names (progress inside blocks (n + 1) f k) rest → Done names (progress inside blocks n f k) (line ∷ rest)
-done-declares names true blocks n f k line rest name what says here room new starts ih = cc
-done-declares names false blocks n f k line rest name what says here room new starts ih =
+done-declares : (names : Names) (inside : Bool) (blocks : List OpenBlock) (n f k : ℕ) (line : NumberedLine) (rest : List NumberedLine) (name : List ℕ) (what : What) → Says names line (declares name what) (Some (naming_as name (kind_in what))) → not inside ≡ true → n < 4096 → IsNew names name n → Starts names what → Precedes n what → Done names (progress inside blocks (n + 1) f k) rest → Done names (progress inside blocks n f k) (line ∷ rest)
+done-declares names true blocks n f k line rest name what says here room new starts early ih = cc
+done-declares names false blocks n f k line rest name what says here room new starts early ih =
     let x : Naming = naming_as name (kind_in what) in
     by-deed names (progress false blocks n f k) line rest (declares name what) (Some x) says
     (ap (λ m. declaration x n f ∷ declarations_from m (functions_with (kind_in what) f) rest) (next-is n room)
     ∙ ap (λ m. declaration x n f ∷ declarations_from (n + 1) m rest) (starts_functions names what f starts)
     ∙ ap (λ ds. declaration x n f ∷ ds) ih.are)
-    (refl, room, new, starts, ih.right)
+    (refl, room, new, starts, early, ih.right)
 
 done-opens : (names : Names) (inside : Bool) (blocks : List OpenBlock) (n f k : ℕ) (line : NumberedLine) (rest : List NumberedLine) (name : List ℕ) (decl : ℕ) → Says names line (opens name decl) (Some (naming_as name Kind.Function)) → not inside ≡ true → n < 4096 → f < 256 → IsNew names name n → decl ≡ place_of (names name) → NoneOutside inside blocks → Done names (progress true blocks (n + 1) (f + 1) k) rest → Done names (progress inside blocks n f k) (line ∷ rest)
 done-opens names true blocks n f k line rest name decl says here room few new place none ih = cc
@@ -309,14 +367,14 @@ passes-are names arg name a count e is h = ap (λ o. unwrap_or o 0) (ap (λ x. v
 -- a declaration that opens nothing, and one that opens a function. They take a kind and an equation, so that no pair of a kind and a declaration needs a clause
 done-declared : (names : Names) (inside : Bool) (blocks : List OpenBlock) (n f k : ℕ) (line : NumberedLine) (rest : List NumberedLine) (name : List ℕ) (kind : Kind) (a : ℕ) (awaits : Bool) (what : What)
     → deed_at names line ≡ Some (declares name what) → naming_of line.words ≡ named name (Some kind) → not inside ≡ true → ltb a n ≡ false → brings_too_many (progress inside blocks n f k) (Role.Declares kind) ≡ false
-    → IsFree names name a → kind ≡ kind_in what → Starts names what → Done names (progress_with (progress inside blocks n f k) (Role.Declares kind) (count_of name) awaits) rest → Done names (progress inside blocks n f k) (line ∷ rest)
-done-declared names inside blocks n f k line rest name kind a awaits what d m here late room free is starts ih =
+    → IsFree names name a → kind ≡ kind_in what → Starts names what → Precedes n what → Done names (progress_with (progress inside blocks n f k) (Role.Declares kind) (count_of name) awaits) rest → Done names (progress inside blocks n f k) (line ∷ rest)
+done-declared names inside blocks n f k line rest name kind a awaits what d m here late room free is starts early ih =
     let none : is_kind_function kind ≡ false = ap is_kind_function is ∙ started names what starts in
     let P : Bool → Type 0 = λ b. Done names (progress (b || inside) blocks (n + 1) (count_if b f) k) rest in
     done-declares names inside blocks n f k line rest name what
     (says names line name (Some kind) (Step.Declare what) (Some (naming_as name (kind_in what))) d m (naming-free name kind free.free ∙ ap (λ x. Some (naming_as name x)) is))
     here (leb-false 4096 n (or-first (leb 4096 n) (is_kind_function kind && leb 256 f) (or-first (leb 4096 n || (is_kind_function kind && leb 256 f)) false room)))
-    (new-name names name n a free late) starts (subst P none ih)
+    (new-name names name n a free late) starts early (subst P none ih)
 
 done-opened : (names : Names) (inside : Bool) (blocks : List OpenBlock) (n f k : ℕ) (line : NumberedLine) (rest : List NumberedLine) (name : List ℕ) (kind : Kind) (a : ℕ) (awaits : Bool) (decl : ℕ)
     → deed_at names line ≡ Some (opens name decl) → naming_of line.words ≡ named name (Some kind) → not inside ≡ true → ltb a n ≡ false → brings_too_many (progress inside blocks n f k) (Role.Declares kind) ≡ false
@@ -332,26 +390,26 @@ done-opened names inside blocks n f k line rest name kind a awaits decl d m here
 done-role : (names : Names) (inside : Bool) (blocks : List OpenBlock) (n f k : ℕ) (line : NumberedLine) (rest : List NumberedLine) (name : List ℕ) (role : Role) (arg : Arg) (a : ℕ) (awaits : Bool) (step : Step)
     → deed_at names line ≡ Some (deed_of name step) → naming_of line.words ≡ named name (declared_kind role) → value_of names arg name ≡ Some a
     → stands inside role ≡ true → (is_declaring role && ltb a n) ≡ false → nests_wrongly (progress inside blocks n f k) role ≡ false → selects_wrongly blocks role ≡ false → brings_too_many (progress inside blocks n f k) role ≡ false
-    → FitsRole names role arg a awaits step → NoneOutside inside blocks → (role ≡ Role.Selects → IsChosen (deeds_of names rest)) → Done names (progress_with (progress inside blocks n f k) role (count_of name) awaits) rest → Done names (progress inside blocks n f k) (line ∷ rest)
-done-role names inside blocks n f k line rest name (Role.Declares kind) arg a awaits (Step.Declare what) d m v here late nested chosen room fit none next ih =
-    done-declared names inside blocks n f k line rest name kind a awaits what d m here late room (as-new names arg name a fit.0 v) fit.1 fit.2 ih
-done-role names inside blocks n f k line rest name (Role.Declares kind) arg a awaits (Step.Open decl) d m v here late nested chosen room fit none next ih =
+    → FitsRole names role arg a awaits step → IfSome (step_parent step) (λ p. p < n) → NoneOutside inside blocks → (role ≡ Role.Selects → IsChosen (deeds_of names rest)) → Done names (progress_with (progress inside blocks n f k) role (count_of name) awaits) rest → Done names (progress inside blocks n f k) (line ∷ rest)
+done-role names inside blocks n f k line rest name (Role.Declares kind) arg a awaits (Step.Declare what) d m v here late nested chosen room fit early none next ih =
+    done-declared names inside blocks n f k line rest name kind a awaits what d m here late room (as-new names arg name a fit.0 v) fit.1 fit.2 early ih
+done-role names inside blocks n f k line rest name (Role.Declares kind) arg a awaits (Step.Open decl) d m v here late nested chosen room fit early none next ih =
     done-opened names inside blocks n f k line rest name kind a awaits decl d m here late room (as-new names arg name a fit.0 v) fit.1 fit.2 none ih
-done-role names inside blocks n f k line rest name Role.Closes arg a awaits Step.Close d m v here late nested chosen room fit none next ih =
+done-role names inside blocks n f k line rest name Role.Closes arg a awaits Step.Close d m v here late nested chosen room fit early none next ih =
     done-closes names inside blocks n f k line rest (says names line name None Step.Close None d m (named-none name)) nested none ih
-done-role names inside blocks n f k line rest name Role.Acts arg a awaits (Step.Do instr) d m v here late nested chosen room fit none next ih =
+done-role names inside blocks n f k line rest name Role.Acts arg a awaits (Step.Do instr) d m v here late nested chosen room fit early none next ih =
     done-does names inside blocks n f k line rest instr (says names line name None (Step.Do instr) None d m (named-none name)) here (leb-false 100000 k room) fit ih
-done-role names inside blocks n f k line rest name Role.Loops arg a awaits (Step.Loop count) d m v here late nested chosen room fit none next ih =
+done-role names inside blocks n f k line rest name Role.Loops arg a awaits (Step.Loop count) d m v here late nested chosen room fit early none next ih =
     let P : ℕ → Type 0 = λ passes. Done names (progress inside (opened passes blocks) n f k) rest in
     done-loops names inside blocks n f k line rest count (says names line name None (Step.Loop count) None d m (named-none name))
     here fit.2 (leb-false 4 (loop_count blocks) (or-first (leb 4 (loop_count blocks)) (leb 16 (length blocks)) nested)) (subst P (passes-are names arg name a count fit.0 fit.1 v) ih)
-done-role names inside blocks n f k line rest name Role.Selects arg a awaits Step.Select d m v here late nested chosen room fit none next ih =
+done-role names inside blocks n f k line rest name Role.Selects arg a awaits Step.Select d m v here late nested chosen room fit early none next ih =
     done-selects names inside blocks n f k line rest (says names line name None Step.Select None d m (named-none name)) here (leb-false 100000 k room) (next refl) ih
-done-role names inside blocks n f k line rest name Role.Chooses arg a awaits (Step.Case kind) d m v here late nested chosen room fit none next ih =
+done-role names inside blocks n f k line rest name Role.Chooses arg a awaits (Step.Case kind) d m v here late nested chosen room fit early none next ih =
     done-chooses names inside blocks n f k line rest kind awaits (says names line name None (Step.Case kind) None d m (named-none name)) nested chosen fit none ih
-done-role names inside blocks n f k line rest name Role.Defaults arg a awaits Step.Default d m v here late nested chosen room fit none next ih =
+done-role names inside blocks n f k line rest name Role.Defaults arg a awaits Step.Default d m v here late nested chosen room fit early none next ih =
     done-defaults names inside blocks n f k line rest (says names line name None Step.Default None d m (named-none name)) nested chosen none ih
-done-role names inside blocks n f k line rest name role arg a awaits step d m v here late nested chosen room fit none next ih = absurd fit
+done-role names inside blocks n f k line rest name role arg a awaits step d m v here late nested chosen room fit early none next ih = absurd fit
 
 abbrev progress_by : Names → Progress → Option Command → Progress
 progress_by names p o = elim o [ None ↦ p | Some c ↦ progress_with p (role_in c.keyword) (count_of c.first) (awaits_timer names c) ]
@@ -448,7 +506,7 @@ done names p (line ∷ lines) r none =
     (naming-is line.words c r.0.is (wants-name names (role_in c.keyword) (form_of c.keyword).first what.first (awaits_timer names c) what.step what.fits))
     what.first_is right.stands_here
     (late-is names (role_in c.keyword) p.names what.first (value_of names (form_of c.keyword).first c.first) what.first_is right.first)
-    right.nested right.chosen right.room what.fits none
+    right.nested right.chosen right.room what.fits (what.parent p right.early) none
     (λ is. let after = behind ∙ ap (λ role. progress_with p role (count_of c.first) (awaits_timer names c)) is in
     first-case names (progress_after names p line) (holding Held.Entered p.blocks) lines r.1
     (ap (λ (q : Progress). q.inside) after ∙ (ap (stands p.inside) (sym is) ∙ right.stands_here))
@@ -486,7 +544,7 @@ head-naming (a ∷ b ∷ c ∷ []) h =
     let parts = and_parts (bytes_eq a (codes "gotime") && bytes_eq b (codes "script")) (bytes_eq c (codes "1")) h in
     let first = and_parts (bytes_eq a (codes "gotime")) (bytes_eq b (codes "script")) parts.0 in
     let same : a ≡ codes "gotime" = (bytes_eq-Decides a (codes "gotime")).0 first.0 in
-    ap (λ (w : List ℕ). named b (kind_of w)) same ∙ named-none b
+    ap (λ (w : List ℕ). named b (kind_of w (b ∷ c ∷ []))) same ∙ named-none b
 
 script-good : (names : Names) (lines : List NumberedLine) → Done names no_progress lines → names ≡ find (declarations_from 0 0 lines) → is_function (names (codes "main")) ≡ true → IsGood (script_with names lines)
 script-good names lines d are main =

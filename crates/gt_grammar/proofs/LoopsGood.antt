@@ -50,27 +50,7 @@ refers-at names code i x y there r e = let same : x ≡ y = cc in subst (Refers 
 leads-nowhere : (names : Names) (x : Instr) (to : ℕ) → Refers names x → leads x to → ⊥
 leads-nowhere names (Instr.Jump other) to r l = absurd r
 leads-nowhere names (Instr.Select cases default_to) to r l = absurd r
-leads-nowhere names (Instr.Say n) to r l = absurd l
-leads-nowhere names Instr.Now to r l = absurd l
-leads-nowhere names (Instr.Sleep d) to r l = absurd l
-leads-nowhere names (Instr.Go f) to r l = absurd l
-leads-nowhere names (Instr.New t d) to r l = absurd l
-leads-nowhere names (Instr.Stop t) to r l = absurd l
-leads-nowhere names (Instr.Reset t d) to r l = absurd l
-leads-nowhere names (Instr.Recv o) to r l = absurd l
-leads-nowhere names (Instr.Make c) to r l = absurd l
-leads-nowhere names (Instr.Send c v) to r l = absurd l
-leads-nowhere names (Instr.Close c) to r l = absurd l
-leads-nowhere names (Instr.Lock m) to r l = absurd l
-leads-nowhere names (Instr.Unlock m) to r l = absurd l
-leads-nowhere names (Instr.Add w n) to r l = absurd l
-leads-nowhere names (Instr.Wait w) to r l = absurd l
-leads-nowhere names (Instr.CWait k) to r l = absurd l
-leads-nowhere names (Instr.Signal k) to r l = absurd l
-leads-nowhere names (Instr.Broadcast k) to r l = absurd l
-leads-nowhere names (Instr.LoopTop depth count past) to r l = absurd l
-leads-nowhere names (Instr.LoopEnd depth top) to r l = absurd l
-leads-nowhere names Instr.Finish to r l = absurd l
+leads-nowhere names _ to r l = absurd l
 
 plain-refers : (names : Names) (code : List Instr) (i most : ℕ) (x : Instr) → slice_get code i ≡ Some x → Refers names x → Plain code i most
 plain-refers names code i most x there r = record {

@@ -1,18 +1,21 @@
 -- Lines with nothing wrong.
-use Rattle.std.proofs.Common.{◌≡◌, ℕ, Bool, true, false, not, ◌&&◌, ◌||◌, List, [], ◌∷◌, Option, None, Some, refl, ◌∙◌}
+use Rattle.std.proofs.Common.{◌≡◌, ℕ, Bool, true, false, not, ◌&&◌, ◌||◌, List, [], ◌∷◌, Option, None, Some, IfSome, refl, sym, ap, ◌<◌, ◌∙◌}
 use Rattle.std.specs.Option.{option_map, is_some}
+use Rattle.std.proofs.lemmas.Bool.{and_parts}
 use Rattle.gt_lines.specs.Words.{NumberedLine, is_end}
 use Rattle.gt_table.specs.declared.form.Step.{Step}
-use Rattle.gt_table.specs.Forms.{is_amount}
+use Rattle.gt_table.specs.declared.form.Values.{Values}
+use Rattle.gt_table.specs.Forms.{is_amount, is_parent}
+use Rattle.gt_table.specs.declared.table.Keyword.{Keyword}
 use Rattle.gt_table.specs.Table.{form_of, step_of}
 use Rattle.gt_names.specs.Names.{Names}
 use Rattle.gt_grammar.specs.declared.fault.Why.{Why}
 use Rattle.gt_grammar.specs.declared.fault.ScriptFault.{ScriptFault}
 use Rattle.gt_grammar.specs.Progress.{Progress}
 use Rattle.gt_grammar.specs.declared.statement.Statement.{Statement}
-use Rattle.gt_grammar.specs.Statements.{Command, command_of, awaits_timer, statement_of, value_of, step_by, step_with}
-use Rattle.gt_grammar.specs.Faults.{Test, test, first_cause, causes, role_of, stands, is_named, is_counted, names_rightly, declares_twice, inside_after, counts_rightly, nests_wrongly, selects_wrongly, brings_too_many, progress_after, progress_with, count_of, cause_with, cause_at, lacks_main, fault_or, fault_from}
-use Rattle.gt_grammar.proofs.Fits.{FitsRole, fits}
+use Rattle.gt_grammar.specs.Statements.{Command, command_of, awaits_timer, statement_of, value_of, values, step_by, step_with}
+use Rattle.gt_grammar.specs.Faults.{Test, test, first_cause, causes, role_of, stands, is_named, is_counted, names_rightly, declares_twice, derives_late, is_late, inside_after, counts_rightly, nests_wrongly, selects_wrongly, brings_too_many, progress_after, progress_with, count_of, cause_with, cause_at, lacks_main, fault_or, fault_from}
+use Rattle.gt_grammar.proofs.Fits.{FitsRole, fits, step_parent, precedes}
 
 -- the first cause is none: no cause applies
 pub first-None : (b : Bool) (why : Why) (ts : List Test) → first_cause (test b why ∷ ts) ≡ None → (b ≡ false) × (first_cause ts ≡ None)
@@ -28,6 +31,10 @@ none-apply : (ts : List Test) → first_cause ts ≡ None → NoneApplies ts
 none-apply [] h = tt
 none-apply (t ∷ ts) h = let both = first-None t.applies t.why ts h in (both.0, none-apply ts both.1)
 
+neither : (a b : Bool) → (a || b) ≡ false → (a ≡ false) × (b ≡ false)
+neither true b h = cc
+neither false b h = (refl, h)
+
 holds : (b : Bool) → not b ≡ false → b ≡ true
 holds true h = refl
 holds false h = cc
@@ -36,6 +43,7 @@ holds false h = cc
 pub record IsRight (is_last lacks_main : Bool) (p : Progress) (s : Statement) : Type 0 where
   pub stands_here : stands p.inside (role_of s) ≡ true
   pub names : names_rightly s ≡ true
+  pub early : derives_late p s ≡ false
   pub first : declares_twice p s ≡ false
   pub ends : (is_last && inside_after p (role_of s)) ≡ false
   pub counts : counts_rightly s ≡ true
@@ -49,7 +57,8 @@ is_right is_last lacks_main p s h =
     let none : NoneApplies (causes is_last lacks_main p s) = none-apply (causes is_last lacks_main p s) h in
     record {
       stands_here = holds (stands p.inside (role_of s)) none.0;
-      names = holds (names_rightly s) none.1.0;
+      names = holds (names_rightly s) (neither (not (names_rightly s)) (derives_late p s) none.1.0).0;
+      early = (neither (not (names_rightly s)) (derives_late p s) none.1.0).1;
       first = none.1.1.0;
       ends = none.1.1.1.0;
       counts = holds (counts_rightly s) none.1.1.1.1.0;
@@ -61,14 +70,6 @@ is_right is_last lacks_main p s h =
 
 -- ---- a right statement does something
 
-and-first : (a b : Bool) → (a && b) ≡ true → a ≡ true
-and-first true b h = refl
-and-first false b h = cc
-
-and-second : (a b : Bool) → (a && b) ≡ true → b ≡ true
-and-second true b h = h
-and-second false b h = cc
-
 -- a value that is there
 pub record Valued (o : Option ℕ) : Type 0 where
   pub value : ℕ
@@ -79,41 +80,68 @@ valued-by amount (Some v) h c = record { value = v; is = refl }
 valued-by true None h c = cc
 valued-by false None h c = cc
 
-pub first-value : (s : Statement) → names_rightly s ≡ true → counts_rightly s ≡ true → Valued s.first
-first-value s h c =
-    valued-by (is_amount (form_of s.keyword).first) s.first
-    (and-first (is_named (form_of s.keyword).first s.first) (is_named (form_of s.keyword).second s.second) h)
-    (and-first (is_counted (form_of s.keyword).first s.first) (is_counted (form_of s.keyword).second s.second) c)
+-- each of four tests holds
+record AllFour (a b c d : Bool) : Type 0 where
+  first : a ≡ true
+  second : b ≡ true
+  third : c ≡ true
+  fourth : d ≡ true
 
-pub second-value : (s : Statement) → names_rightly s ≡ true → counts_rightly s ≡ true → Valued s.second
-second-value s h c =
-    valued-by (is_amount (form_of s.keyword).second) s.second
-    (and-second (is_named (form_of s.keyword).first s.first) (is_named (form_of s.keyword).second s.second) h)
-    (and-second (is_counted (form_of s.keyword).first s.first) (is_counted (form_of s.keyword).second s.second) c)
+all-four : (a b c d : Bool) → (a && b && c && d) ≡ true → AllFour a b c d
+all-four a b c d h =
+    let last = and_parts (a && b && c) d h in
+    let more = and_parts (a && b) c last.0 in
+    let both = and_parts a b more.0 in
+    record { first = both.0; second = both.1; third = more.1; fourth = last.1 }
 
--- what a right statement does
+-- the words of a right statement have values
+record AreValued (s : Statement) : Type 0 where
+  first : Valued s.first
+  second : Valued s.second
+  third : Valued s.third
+  fourth : Valued s.fourth
+
+are_valued : (s : Statement) → names_rightly s ≡ true → counts_rightly s ≡ true → AreValued s
+are_valued s h c =
+    let f = form_of s.keyword in
+    let n = all-four (is_named f.first s.first) (is_named f.second s.second) (is_named f.third s.third) (is_named f.fourth s.fourth) h in
+    let m = all-four (is_counted f.first s.first) (is_counted f.second s.second) (is_counted f.third s.third) (is_counted f.fourth s.fourth) c in
+    record {
+      first = valued-by (is_amount f.first) s.first n.first m.first;
+      second = valued-by (is_amount f.second) s.second n.second m.second;
+      third = valued-by (is_amount f.third) s.third n.third m.third;
+      fourth = valued-by (is_amount f.fourth) s.fourth n.fourth m.fourth;
+    }
+
+-- what a right statement does; the context from which it derives one is declared earlier, where it is not late
 pub record Doing (names : Names) (c : Command) : Type 0 where
   pub first : ℕ
   pub first_is : value_of names (form_of c.keyword).first c.first ≡ Some first
   pub step : Step
   pub step_is : step_with (statement_of names c) ≡ Some step
   pub fits : FitsRole names (form_of c.keyword).role (form_of c.keyword).first first (awaits_timer names c) step
+  pub parent : (p : Progress) → derives_late p (statement_of names c) ≡ false → IfSome (step_parent step) (λ q. q < p.names)
 
-step-is : (names : Names) (c : Command) (a b : ℕ) (o u : Option ℕ) → o ≡ Some a → u ≡ Some b → step_by c.keyword o u ≡ Some (step_of c.keyword a b)
-step-is names c a b (Some x) (Some y) e h = cc
-step-is names c a b (Some x) None e h = cc
-step-is names c a b None u e h = cc
+step-is : (k : Keyword) (a b c d : ℕ) (o p q r : Option ℕ) → o ≡ Some a → p ≡ Some b → q ≡ Some c → r ≡ Some d → step_by k o p q r ≡ Some (step_of k (values a b c d))
+step-is k a b c d (Some x) (Some y) (Some z) (Some u) e f g h = cc
+step-is k a b c d (Some x) (Some y) (Some z) None e f g h = cc
+step-is k a b c d (Some x) (Some y) None r e f g h = cc
+step-is k a b c d (Some x) None q r e f g h = cc
+step-is k a b c d None p q r e f g h = cc
 
 pub doing : (names : Names) (c : Command) → names_rightly (statement_of names c) ≡ true → counts_rightly (statement_of names c) ≡ true → Doing names c
 doing names c h k =
-    let a : Valued (value_of names (form_of c.keyword).first c.first) = first-value (statement_of names c) h k in
-    let b : Valued (value_of names (form_of c.keyword).second c.second) = second-value (statement_of names c) h k in
+    let f = form_of c.keyword in
+    let s : Statement = statement_of names c in
+    let are : AreValued s = are_valued s h k in
+    let v : Values = values are.first.value are.second.value are.third.value are.fourth.value in
     record {
-      first = a.value;
-      first_is = a.is;
-      step = step_of c.keyword a.value b.value;
-      step_is = step-is names c a.value b.value (value_of names (form_of c.keyword).first c.first) (value_of names (form_of c.keyword).second c.second) a.is b.is;
-      fits = fits names c.keyword c.first c.second a.value b.value a.is b.is;
+      first = v.first;
+      first_is = are.first.is;
+      step = step_of c.keyword v;
+      step_is = step-is c.keyword v.first v.second v.third v.fourth s.first s.second s.third s.fourth are.first.is are.second.is are.third.is are.fourth.is;
+      fits = fits names c.keyword c v (record { first = are.first.is; second = are.second.is; third = are.third.is; fourth = are.fourth.is });
+      parent = λ p late. precedes c.keyword v p.names (ap (λ o. is_parent f.second && is_late p.names o) (sym are.second.is) ∙ late);
     }
 
 -- ---- right lines

@@ -1,18 +1,27 @@
 -- When the deeds of lines follow one another rightly.
-use Rattle.std.proofs.Common.{◌≡◌, ℕ, ◌+◌, ◌<◌, ◌≤◌, Bool, true, false, List, [], ◌∷◌, Option, None, Some, ltb as nat_lt}
+use Rattle.std.proofs.Common.{◌≡◌, ℕ, ◌+◌, ◌<◌, ◌≤◌, Bool, true, false, List, [], ◌∷◌, Option, None, Some, IfSome, ltb as nat_lt}
 use Rattle.gt_model.specs.declared.script.What.{What}
 use Rattle.gt_model.specs.declared.script.Instr.{Instr}
 use Rattle.gt_model.specs.declared.script.CaseKind.{CaseKind}
+use Rattle.gt_model.specs.declared.context.Form.{Form}
 use Rattle.gt_model.specs.Good.{most_capacity, IsAddable}
 use Rattle.gt_model.specs.Times.{greatest_time}
+use Rattle.gt_table.specs.declared.form.CtxForm.{CtxForm}
 use Rattle.gt_table.specs.declared.form.Kind.{Kind}
-use Rattle.gt_table.specs.Forms.{is_kind_function, is_kind_setting, is_kind_timer, is_kind_chan, is_kind_source, is_kind_mutex, is_kind_wg, is_kind_cond}
+use Rattle.gt_table.specs.Forms.{is_kind_function, is_kind_setting, is_kind_timer, is_kind_chan, is_kind_source, is_kind_mutex, is_kind_wg, is_kind_cond, is_kind_ctx, is_kind_endable, is_kind_causable, is_kind_hook, is_kind_error}
 use Rattle.gt_names.specs.declared.names.Declared.{Declared}
 use Rattle.gt_names.specs.Names.{Names, Naming, is_free_name, Declaration, declaration}
 use Rattle.gt_grammar.specs.declared.progress.OpenBlock.{OpenBlock}
 use Rattle.gt_grammar.specs.declared.progress.Held.{Held}
 use Rattle.gt_grammar.specs.Faults.{holding, may_end, loop_count, block_ended, case_added, default_added}
 use Rattle.gt_grammar.specs.Deeds.{Deed, declares, opens, does, loops, selects, chooses, defaults, closes}
+
+-- the word of a form
+abbrev pub ctx_form : Form → CtxForm
+ctx_form Form.Cancel = CtxForm.Cancel
+ctx_form Form.Cause = CtxForm.Cause
+ctx_form (Form.Timeout d cause) = CtxForm.Timeout
+ctx_form Form.Without = CtxForm.Without
 
 abbrev pub kind_in : What → Kind
 kind_in What.Timer = Kind.Timer
@@ -22,6 +31,9 @@ kind_in (What.Chan cap) = Kind.Chan
 kind_in What.Mutex = Kind.Mutex
 kind_in What.Wg = Kind.Wg
 kind_in (What.Cond mutex) = Kind.Cond
+kind_in (What.Ctx parent form) = Kind.Ctx (Some (ctx_form form))
+kind_in (What.Hook ctx func) = Kind.Hook
+kind_in What.Error = Kind.Error
 kind_in What.Function = Kind.Function
 
 -- the place of a declared name, and whether it is among the first ones
@@ -59,10 +71,14 @@ pub record IsPlace (names : Names) (holds : Kind → Bool) (place : ℕ) : Type 
   pub kind : holds ref.declared.kind ≡ true
   pub is : place ≡ ref.declared.place
 
+-- the place of a function that is declared
+abbrev pub IsFunc : Names → ℕ → Type 0
+IsFunc names f = (r : Ref names) × (is_kind_function r.declared.kind ≡ true) × (f ≡ r.declared.func)
+
 -- what an instruction names is declared as such
 abbrev pub Refers : Names → Instr → Type 0
 Refers names (Instr.Sleep d) = d ≤ greatest_time
-Refers names (Instr.Go f) = (r : Ref names) × (is_kind_function r.declared.kind ≡ true) × (f ≡ r.declared.func)
+Refers names (Instr.Go f) = IsFunc names f
 Refers names (Instr.New t d) = IsPlace names is_kind_setting t × (d ≤ greatest_time)
 Refers names (Instr.Stop t) = IsPlace names is_kind_setting t
 Refers names (Instr.Reset t d) = IsPlace names is_kind_setting t × (d ≤ greatest_time)
@@ -77,6 +93,13 @@ Refers names (Instr.Wait w) = IsPlace names is_kind_wg w
 Refers names (Instr.CWait k) = IsPlace names is_kind_cond k
 Refers names (Instr.Signal k) = IsPlace names is_kind_cond k
 Refers names (Instr.Broadcast k) = IsPlace names is_kind_cond k
+Refers names (Instr.With x) = IsPlace names is_kind_ctx x
+Refers names (Instr.Cancel x None) = IsPlace names is_kind_endable x
+Refers names (Instr.Cancel x (Some e)) = IsPlace names is_kind_causable x × IsPlace names is_kind_error e
+Refers names (Instr.ErrOf x) = IsPlace names is_kind_ctx x
+Refers names (Instr.CauseOf x) = IsPlace names is_kind_ctx x
+Refers names (Instr.After s) = IsPlace names is_kind_hook s
+Refers names (Instr.Unhook s) = IsPlace names is_kind_hook s
 Refers names (Instr.LoopTop depth count past) = ⊥
 Refers names (Instr.LoopEnd depth top) = ⊥
 Refers names (Instr.Select cases default_to) = ⊥
@@ -89,16 +112,35 @@ abbrev pub RefersCase : Names → Bool → CaseKind → Type 0
 RefersCase names awaits (CaseKind.Recv o) = (p : IsPlace names is_kind_source o) × (awaits ≡ is_kind_timer p.ref.declared.kind)
 RefersCase names awaits (CaseKind.Send c v) = IsPlace names is_kind_chan c × (awaits ≡ false)
 
--- what a declaration starts or locks is declared as such, and its capacity is in range
+-- the cause of a timeout is declared as an error, and its time is at most the greatest
+abbrev pub StartsForm : Names → Form → Type 0
+StartsForm names Form.Cancel = Unit {0}
+StartsForm names Form.Cause = Unit {0}
+StartsForm names (Form.Timeout d cause) = (d ≤ greatest_time) × IfSome cause (IsPlace names is_kind_error)
+StartsForm names Form.Without = Unit {0}
+
+-- what a declaration starts, locks or is derived from is declared as such, and its capacity is in range
 abbrev pub Starts : Names → What → Type 0
 Starts names What.Timer = Unit {0}
 Starts names What.Ticker = Unit {0}
-Starts names (What.AfterFunc f) = (r : Ref names) × (is_kind_function r.declared.kind ≡ true) × (f ≡ r.declared.func)
+Starts names (What.AfterFunc f) = IsFunc names f
 Starts names (What.Chan cap) = cap ≤ most_capacity
 Starts names What.Mutex = Unit {0}
 Starts names What.Wg = Unit {0}
 Starts names (What.Cond mutex) = IsPlace names is_kind_mutex mutex
+Starts names (What.Ctx parent form) = IfSome parent (IsPlace names is_kind_ctx) × StartsForm names form
+Starts names (What.Hook ctx func) = IsPlace names is_kind_ctx ctx × IsFunc names func
+Starts names What.Error = Unit {0}
 Starts names What.Function = ⊥
+
+-- the context from which a declaration is derived
+abbrev pub parent_in : What → Option ℕ
+parent_in (What.Ctx parent form) = parent
+parent_in _ = None
+
+-- it is one of the first n declarations
+abbrev pub Precedes : ℕ → What → Type 0
+Precedes n what = IfSome (parent_in what) (λ p. p < n)
 
 -- a name that is spelled rightly and declared by none of the first n declarations
 pub record IsNew (names : Names) (name : List ℕ) (n : ℕ) : Type 0 where
@@ -137,7 +179,7 @@ MayDefault (OpenBlock.Choice cases timers has_default ∷ outer) = (has_default 
 abbrev pub Right : Names → Bool → List OpenBlock → ℕ → ℕ → ℕ → List Deed → Type 0
 Right names inside blocks n f k [] = inside ≡ false
 Right names inside blocks n f k (declares name what ∷ rest) =
-    (inside ≡ false) × (n < 4096) × IsNew names name n × Starts names what × Right names false blocks (n + 1) f k rest
+    (inside ≡ false) × (n < 4096) × IsNew names name n × Starts names what × Precedes n what × Right names false blocks (n + 1) f k rest
 Right names inside blocks n f k (opens name decl ∷ rest) =
     (inside ≡ false) × (n < 4096) × (f < 256) × IsNew names name n × (decl ≡ place_of (names name)) × (blocks ≡ []) × Right names true [] (n + 1) (f + 1) k rest
 Right names inside blocks n f k (does instr ∷ rest) =

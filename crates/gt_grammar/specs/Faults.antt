@@ -7,7 +7,7 @@ use Rattle.gt_model.specs.Good.{most_names, most_functions, most_instructions, m
 use Rattle.gt_lines.specs.Words.{NumberedLine, is_end}
 use Rattle.gt_table.specs.declared.form.Arg.{Arg}
 use Rattle.gt_table.specs.declared.form.Role.{Role}
-use Rattle.gt_table.specs.Forms.{is_declaration, opens, acts, is_amount, is_kind_function}
+use Rattle.gt_table.specs.Forms.{is_declaration, opens, acts, is_amount, is_parent, is_kind_function}
 use Rattle.gt_table.specs.Table.{form_of}
 use Rattle.gt_names.specs.declared.names.Declared.{Declared}
 use Rattle.gt_names.specs.Names.{Names, names_of}
@@ -55,11 +55,15 @@ is_counted arg value = not (is_amount arg) || is_some value
 
 -- whether the names of a statement are spelled rightly, declared, and of the right kind
 abbrev pub names_rightly : Statement → Bool
-names_rightly s = is_named (form_of s.keyword).first s.first && is_named (form_of s.keyword).second s.second
+names_rightly s =
+    is_named (form_of s.keyword).first s.first && is_named (form_of s.keyword).second s.second
+    && is_named (form_of s.keyword).third s.third && is_named (form_of s.keyword).fourth s.fourth
 
 -- whether the amounts of a statement are spelled rightly and in their ranges
 abbrev pub counts_rightly : Statement → Bool
-counts_rightly s = is_counted (form_of s.keyword).first s.first && is_counted (form_of s.keyword).second s.second
+counts_rightly s =
+    is_counted (form_of s.keyword).first s.first && is_counted (form_of s.keyword).second s.second
+    && is_counted (form_of s.keyword).third s.third && is_counted (form_of s.keyword).fourth s.fourth
 
 -- whether a place is among the first ones
 abbrev pub is_before : ℕ → Option ℕ → Bool
@@ -69,6 +73,15 @@ is_before names (Some place) = nat_lt place names
 -- whether a statement declares a name anew: so many declarations precede it
 abbrev pub declares_twice : Progress → Statement → Bool
 declares_twice p s = is_declaration (role_of s) && is_before p.names s.first
+
+-- whether a parent is none of the first ones: it counts from 1, and the root is 0
+abbrev pub is_late : ℕ → Option ℕ → Bool
+is_late names None = false
+is_late names (Some value) = nat_lt names value
+
+-- whether a statement derives a context from one that is not declared on an earlier line
+abbrev pub derives_late : Progress → Statement → Bool
+derives_late p s = is_parent (form_of s.keyword).second && is_late p.names s.second
 
 -- whether no block is open
 abbrev pub are_none_open : List OpenBlock → Bool
@@ -155,7 +168,7 @@ brings_too_many p role =
 abbrev pub causes : Bool → Bool → Progress → Statement → List Test
 causes is_last lacks_main p s =
     test (not (stands p.inside (role_of s))) Why.Word
-    ∷ test (not (names_rightly s)) Why.Name
+    ∷ test (not (names_rightly s) || derives_late p s) Why.Name
     ∷ test (declares_twice p s) Why.Twice
     ∷ test (is_last && inside_after p (role_of s)) Why.Missing
     ∷ test (not (counts_rightly s)) Why.Number

@@ -15,9 +15,10 @@ pub enum Why {
     Utf8,
     /// The first line with words is not `gotime script 1`.
     Head,
-    /// The first word is unknown or cannot stand here, or the number of words is wrong.
+    /// The first word is unknown or cannot stand here, the number of words is wrong, or the fourth word of a context tells no form.
     Word,
-    /// A name is spelled wrongly, is undeclared, or is of the wrong kind.
+    /// A name is spelled wrongly, is undeclared, or is of the wrong kind; a parent is not declared on an earlier line; a context of the form `without` is canceled or
+    /// received from; or one is canceled with a cause that is not of the form `cause`.
     Name,
     /// The name was declared on an earlier line.
     Twice,

@@ -2,7 +2,7 @@
 
 ghost use Rattle.std.specs.Prelude.{◌≡◌, ◌<◌, true};
 ghost use Rattle.std.specs.List.{count_by};
-ghost use Rattle.gt_grammar.specs.Faults.{is_before, stands, may_end, held_with, count_if, chooses_wrongly, is_loop};
+ghost use Rattle.gt_grammar.specs.Faults.{is_before, is_late, stands, may_end, held_with, count_if, chooses_wrongly, is_loop};
 
 use crate::fault::Why;
 use crate::statement::Statement;
@@ -98,6 +98,15 @@ fn is_before(names: usize, place: Option<u64>) -> bool
     }
 }
 
+fn is_late(names: usize, parent: Option<u64>) -> bool
+    ensures { result ≡ is_late names parent }
+{
+    match parent {
+        None => false,
+        Some(value) => value > names as u64,
+    }
+}
+
 // Whether a line may stand here.
 fn stands(inside: bool, role: Role) -> bool
     ensures { result ≡ stands inside role }
@@ -166,7 +175,7 @@ impl Progress {
     ghost use Rattle.gt_table.specs.declared.form.Role.{Role};
     ghost use Rattle.gt_grammar.specs.declared.progress.OpenBlock.{OpenBlock};
     ghost use Rattle.gt_grammar.specs.declared.progress.Held.{Held};
-    ghost use Rattle.gt_grammar.specs.Faults.{role_of, declares_twice, inside_after, nests_wrongly, selects_wrongly, ends_wrongly, brings_too_many, in_choice, loop_count, causes, first_cause, holding, block_ended, case_added, default_added, progress_with, no_progress};
+    ghost use Rattle.gt_grammar.specs.Faults.{role_of, declares_twice, derives_late, inside_after, nests_wrongly, selects_wrongly, ends_wrongly, brings_too_many, in_choice, loop_count, causes, first_cause, holding, block_ended, case_added, default_added, progress_with, no_progress};
 
     /// In front of the first declaration.
     pub fn new() -> Progress
@@ -186,6 +195,13 @@ impl Progress {
         ensures { result ≡ declares_twice self.now s.now }
     {
         s.keyword.form().role.is_declaration() && is_before(self.names, s.first)
+    }
+
+    // Whether it derives a context from one that is not declared on an earlier line.
+    fn derives_late(&self, s: &Statement) -> bool
+        ensures { result ≡ derives_late self.now s.now }
+    {
+        s.keyword.form().second.is_parent() && is_late(self.names, s.second)
     }
 
     /// Whether the next line stands inside a function.
@@ -292,7 +308,7 @@ impl Progress {
         if !stands(self.inside, role) {
             return Some(Why::Word);
         }
-        if !s.names_rightly() {
+        if !s.names_rightly() || self.derives_late(s) {
             return Some(Why::Name);
         }
         if self.declares_twice(s) {

@@ -11,8 +11,10 @@ pub struct Statement {
     pub keyword: Keyword,
     /// 0 where no word is wanted; `None` where the word is wrong.
     pub first: Option<u64>,
-    /// The same for the second word.
+    /// The same for the words behind it.
     pub second: Option<u64>,
+    pub third: Option<u64>,
+    pub fourth: Option<u64>,
     /// Whether it is a case that receives from a timer.
     pub awaits: bool,
 }
@@ -38,7 +40,10 @@ impl Statement {
         ensures { result ≡ names_rightly self.now }
     {
         let form = self.keyword.form();
-        is_named(form.first, self.first) && is_named(form.second, self.second)
+        is_named(form.first, self.first)
+            && is_named(form.second, self.second)
+            && is_named(form.third, self.third)
+            && is_named(form.fourth, self.fourth)
     }
 
     /// Whether its amounts are spelled rightly and in their ranges.
@@ -46,6 +51,9 @@ impl Statement {
         ensures { result ≡ counts_rightly self.now }
     {
         let form = self.keyword.form();
-        is_counted(form.first, self.first) && is_counted(form.second, self.second)
+        is_counted(form.first, self.first)
+            && is_counted(form.second, self.second)
+            && is_counted(form.third, self.third)
+            && is_counted(form.fourth, self.fourth)
     }
 }

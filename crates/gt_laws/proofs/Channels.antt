@@ -96,12 +96,12 @@ none-opened show (d ∷ ds) (suc k) = none-opened show ds k
 pub opened-told : (script : Script) (limits : Limits) (k : ℕ) (h : List Entry) → IsGood script → AllLegal script limits (first_state script) h
     → is_some (channel_at (state_after script (first_state script) h) k) ≡ opened_told k h
 opened-told script limits k = shown-told script limits (λ (s : State). is_some (channel_at s k)) (opened_by k) false
-    (λ s e formed fits two. says-opened script s (change_of e).mover k (change_of e).channel fits.channel) (none-opened is_some script.decls k)
+    (λ s e step. says-opened script s (change_of e).mover k (change_of e).channel step.fits.channel) (none-opened is_some script.decls k)
 
 pub closed-told : (script : Script) (limits : Limits) (k : ℕ) (h : List Entry) → IsGood script → AllLegal script limits (first_state script) h
     → is_closed (state_after script (first_state script) h) k ≡ closed_told k h
 closed-told script limits k = shown-told script limits (λ (s : State). is_closed s k) (closed_by k) false
-    (λ s e formed fits two. says-closed script s (change_of e).mover k (change_of e).channel fits.channel) (none-opened closed_in script.decls k)
+    (λ s e step. says-closed script s (change_of e).mover k (change_of e).channel step.fits.channel) (none-opened closed_in script.decls k)
 
 -- ---- what it keeps
 

@@ -12,11 +12,12 @@ use Rattle.gt_rules.specs.History.{AllLegal, History}
 use Rattle.gt_facts.proofs.Histories.{AllLegal-append}
 use Rattle.gt_facts.proofs.Still.{still-IsIdle}
 use Rattle.gt_laws.specs.Told.{ending_told}
-use Rattle.gt_laws.specs.Laws.{AtEach, InOrder, InTime, IsFresh, PassesOn, UsesRightly, ChoosesRightly, IsAlone, AddsUp, IsSignalled}
+use Rattle.gt_laws.specs.Laws.{AtEach, InOrder, InTime, IsFresh, PassesOn, UsesRightly, ChoosesRightly, IsAlone, AddsUp, IsSignalled, KeepsFirstCause, HooksOnce}
 use Rattle.gt_laws.specs.Ends.{IsOn, SaysRightly, EndsRightly}
 use Rattle.gt_laws.proofs.Shown.{ending-told, entries-told}
 use Rattle.gt_laws.proofs.GoesOn.{reached, told-stuck}
-use Rattle.gt_laws.proofs.Rows.{Behind, Obeys, Rule, row}
+use Rattle.gt_laws.proofs.Behind.{Behind, Obeys, Rule}
+use Rattle.gt_laws.proofs.Rows.{row}
 
 -- the laws at an entry, behind entries that are legal
 record Keeps (script : Script) (limits : Limits) (front : List Entry) (e : Entry) : Type 0 where
@@ -68,6 +69,8 @@ pub record Lawful (script : Script) (limits : Limits) (h : List Entry) : Type 0 
   pub alone : AtEach (IsAlone script) h
   pub adds_up : AtEach AddsUp h
   pub signals : AtEach (IsSignalled script) h
+  pub keeps : AtEach (KeepsFirstCause script) h
+  pub hooks : AtEach (HooksOnce script) h
   pub ends : AtEach (EndsRightly script limits) h
 
 legal-on : (script : Script) (limits : Limits) (h front rest : List Entry) → Lawful script limits h → h ≡ front ++ rest → AllLegal script limits (first_state script) front
@@ -87,6 +90,8 @@ legal-on script limits h front (e ∷ rest) l is before =
         alone = l.alone front e rest is;
         adds_up = l.adds_up front e rest is;
         signals = l.signals front e rest is;
+        keeps = l.keeps front e rest is;
+        hooks = l.hooks front e rest is;
       };
       ends = l.ends front e rest is;
     } in

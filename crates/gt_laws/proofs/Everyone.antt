@@ -1,5 +1,6 @@
--- The goroutines and the timers that a history tells are those of the state after it.
-use Rattle.std.proofs.Common.{◌≡◌, ◌≢◌, ℕ, zero, suc, ◌+◌, ◌==◌, List, [], ◌∷◌, ◌++◌, map, set, slice_get, refl, sym, ap, subst, ◌∙◌, cond, if◌then◌else◌, Option, None, Some, Bool, true, false, IfSome, option_map, append_assoc, append-nil, count_by}
+-- The goroutines, the timers, the contexts and the hooks that a history tells are those of the state after it.
+use Rattle.std.proofs.Common.{◌≡◌, ◌≢◌, ℕ, zero, suc, ◌+◌, ◌==◌, List, [], ◌∷◌, ◌++◌, map, set, slice_get, slice_index, slice_index_or, unwrap_or, refl, sym, ap, subst, ◌∙◌, cond, if◌then◌else◌, Option, None, Some, Bool, true, false, IfSome, option_map, append_assoc, append-nil, count_by}
+use Rattle.std.specs.List.{enumerate_from}
 use Rattle.std.proofs.lemmas.List.{map-append, map-set}
 use Rattle.std.proofs.lemmas.List.Sums.{sum_by-cons}
 use Rattle.gt_model.specs.declared.script.Script.{Script}
@@ -11,22 +12,30 @@ use Rattle.gt_model.specs.declared.entry.Limits.{Limits}
 use Rattle.gt_model.specs.declared.state.Goroutine.{Goroutine}
 use Rattle.gt_model.specs.declared.state.Mode.{Mode}
 use Rattle.gt_model.specs.declared.state.Timer.{Timer}
+use Rattle.gt_model.specs.declared.context.Context.{Context}
+use Rattle.gt_model.specs.declared.context.End.{End}
+use Rattle.gt_model.specs.declared.context.HookState.{HookState}
 use Rattle.gt_model.specs.Good.{IsGood}
-use Rattle.gt_model.specs.Script.{instr_at, func_of}
+use Rattle.gt_model.specs.Script.{instr_at, func_of, ctx_of, hook_func}
 use Rattle.gt_model.specs.Tables.{at, numbered, change, change_numbered}
 use Rattle.gt_model.proofs.Items.{numbered-change_other}
-use Rattle.gt_rules.specs.State.{State, clock_of, goroutine_at, mode_of, world_of, until_of, sleeps_until, stands, stands_at, period_at, suspended_at, is_suspended, suspended_count}
+use Rattle.gt_rules.specs.State.{State, clock_of, goroutine_at, mode_of, world_of, until_of, sleeps_until, stands, stands_at, period_at, suspended_at, is_suspended, suspended_count, context_at, hook_at, next_number}
 use Rattle.gt_rules.specs.declared.change.Move.{Move}
 use Rattle.gt_rules.specs.declared.change.Setting.{Setting}
 use Rattle.gt_rules.specs.declared.change.Start.{Start}
-use Rattle.gt_rules.specs.Change.{change_of}
+use Rattle.gt_rules.specs.declared.change.TreeStep.{TreeStep}
+use Rattle.gt_rules.specs.Change.{change_of, by_hook}
+use Rattle.gt_rules.specs.Contexts.{made_below, made_context, ended_by, is_reached, cut_one, cancel_end, named_by, expiry_end, end_above, starting, hook_is_due, hook_world, registered}
 use Rattle.gt_rules.specs.Places.{place_after}
-use Rattle.gt_rules.specs.After.{after, first_state, in_mode, moved, number_of, duration_of, period_of, new_period, set_due, set_again, timer_world, retimed, with_mover, with_signalled, started_by, with_starts, with_retimed}
+use Rattle.gt_rules.specs.After.{after, first_state, in_mode, moved, number_of, duration_of, period_of, new_period, set_due, set_again, timer_world, retimed, with_mover, with_signalled, started_by, with_starts, with_retimed, grown, hooked, with_grown, with_hooked}
 use Rattle.gt_rules.specs.After as rules
+use Rattle.gt_rules.specs.Finish.{Legal}
 use Rattle.gt_rules.specs.History.{AllLegal, state_after}
-use Rattle.gt_facts.proofs.Fits.{Fits, IsLive}
-use Rattle.gt_laws.specs.Told.{clock_told, beginner, Wait, awake, asleep, suspended, signalled, ToldGoroutine, ToldTimer, Everyone, world_in, owner_in, period_in, led, with_led, waken, with_woken, begun_by, mover_world, period_by, with_period, timed, with_timed, everyone_by, everyone_first, everyone_told, goroutine_told, world_told, owner_told, period_told, now_told, wait_of, wait_told, until_in, until_told, waits_in, suspended_told, stands_in, stands_of, stands_told}
-use Rattle.gt_laws.proofs.Shown.{AreTwo, shown-told, clock-told}
+use Rattle.gt_facts.specs.Formed.{IsFormed}
+use Rattle.gt_facts.proofs.Fits.{IsLive}
+use Rattle.gt_laws.specs.Told.{clock_told, beginner, Wait, awake, asleep, suspended, signalled, ToldGoroutine, ToldTimer, Everyone, world_in, owner_in, period_in, led, with_led, waken, with_woken, begun_by, mover_world, period_by, with_period, timed, with_timed, everyone_by, everyone_first, everyone_told, goroutine_told, world_told, owner_told, period_told, now_told, wait_of, wait_told, until_in, until_told, waits_in, suspended_told, stands_in, stands_of, stands_told, owner_of, begun_hook, hooks_started, derive_in, with_derived, registered_as, hooks_in, with_hooks, ctx_world_told, hook_told, starts_told}
+use Rattle.gt_laws.proofs.Shown.{AreTwo, Step, shown-told, clock-told, tree-reached, formed-reached}
+use Rattle.gt_laws.proofs.Trees.{IsTree, starting-started, cut-at_end}
 
 -- ---- what is shown of a state
 
@@ -51,8 +60,12 @@ abbrev pub timer_in : Option Timer → Option ToldTimer
 timer_in None = None
 timer_in (Some r) = Some (record { owner = r.world; period = r.period })
 
+abbrev pub ctx_in : Option Context → Option ℕ
+ctx_in None = None
+ctx_in (Some r) = Some r.world
+
 abbrev pub show : State → Everyone
-show s = record { goroutines = map shown s.goroutines; timers = map timer_in s.timers }
+show s = record { goroutines = map shown s.goroutines; timers = map timer_in s.timers; contexts = map ctx_in s.contexts; hooks = s.hooks }
 
 -- ---- lists
 
@@ -160,6 +173,22 @@ at-shown [] t = refl
 at-shown (o ∷ timers) zero = refl
 at-shown (o ∷ timers) (suc t) = at-shown timers t
 
+at-ctx : (contexts : List (Option Context)) (x : ℕ) → at (map ctx_in contexts) x ≡ ctx_in (at contexts x)
+at-ctx [] x = refl
+at-ctx (o ∷ contexts) zero = refl
+at-ctx (o ∷ contexts) (suc x) = at-ctx contexts x
+
+ctx-owner : (contexts : List (Option Context)) (o : Option ℕ)
+    → (elim o as (λ o. ℕ) [ None ↦ 0 | Some x ↦ elim (at contexts x) as (λ o. ℕ) [ None ↦ 0 | Some r ↦ r.world ] ]) ≡ owner_of (map ctx_in contexts) o
+ctx-owner contexts None = refl
+ctx-owner contexts (Some x) =
+    elim (at contexts x) as (λ o. (elim o as (λ o. ℕ) [ None ↦ 0 | Some r ↦ r.world ]) ≡ unwrap_or (ctx_in o) 0) [ None ↦ refl | Some r ↦ refl ]
+    ∙ sym (ap (λ (o : Option ℕ). unwrap_or o 0) (at-ctx contexts x))
+
+-- the world of a context
+pub shown-ctx : (s : State) (x : ℕ) → (elim (context_at s x) as (λ o. ℕ) [ None ↦ 0 | Some r ↦ r.world ]) ≡ owner_of (map ctx_in s.contexts) (Some x)
+shown-ctx s x = ctx-owner s.contexts (Some x)
+
 shown-owner : (s : State) (t : ℕ) → timer_world s t ≡ owner_in (at (map timer_in s.timers) t)
 shown-owner s t =
     elim (at s.timers t) as (λ o. (elim o as (λ o. ℕ) [ None ↦ 0 | Some r ↦ r.world ]) ≡ owner_in (timer_in o)) [ None ↦ refl | Some r ↦ refl ]
@@ -170,16 +199,22 @@ shown-period s t =
     elim (at s.timers t) as (λ o. (elim o as (λ o. ℕ) [ None ↦ 0 | Some r ↦ r.period ]) ≡ period_in (timer_in o)) [ None ↦ refl | Some r ↦ refl ]
     ∙ sym (ap period_in (at-shown s.timers t))
 
-begun : (script : Script) (s : State) (x : Start) → shown (started_by script s x) ≡ begun_by script (show s) x
-begun script s (Start.ByGoroutine g f) = ap (λ w. beginner script w f) (shown-world s g)
-begun script s (Start.ByTimer t) = ap (λ w. beginner script w (func_of script t)) (shown-owner s t)
+hook-begun : (script : Script) (s : State) (k : ℕ) → shown (rules.begun script (hook_world script s k) (hook_func script k)) ≡ begun_hook script (show s) k
+hook-begun script s k = ap (λ w. beginner script w (hook_func script k)) (ctx-owner s.contexts (ctx_of script k))
 
-says-begun : (script : Script) (s : State) (gs : List Goroutine) (xs : List Start)
+begun : (script : Script) (s : State) (x : Start) → IsFormed script s → IsTree script s → shown (started_by script s x) ≡ begun_by script (show s) x
+begun script s (Start.ByGoroutine g f) formed tree = ap (λ w. beginner script w f) (shown-world s g)
+begun script s (Start.ByTimer t) formed tree = ap (λ w. beginner script w (func_of script t)) (shown-owner s t)
+begun script s (Start.ByHook k) formed tree = hook-begun script s k
+begun script s (Start.ByEnd x i) formed tree =
+    hook-begun script s (slice_index (starting script s x) i) ∙ ap (λ ks. begun_hook script (show s) (slice_index ks i)) (starting-started script s x formed tree)
+
+says-begun : (script : Script) (s : State) (gs : List Goroutine) (xs : List Start) → IsFormed script s → IsTree script s
     → map shown (with_starts script s gs xs) ≡ map shown gs ++ map (begun_by script (show s)) xs
-says-begun script s gs [] = sym (append-nil (map shown gs))
-says-begun script s gs (x ∷ xs) =
-    says-begun script s (gs ++ started_by script s x ∷ []) xs
-    ∙ (ap (λ rs. rs ++ map (begun_by script (show s)) xs) (map-append shown gs (started_by script s x ∷ []) ∙ ap (λ r. map shown gs ++ r ∷ []) (begun script s x))
+says-begun script s gs [] formed tree = sym (append-nil (map shown gs))
+says-begun script s gs (x ∷ xs) formed tree =
+    says-begun script s (gs ++ started_by script s x ∷ []) xs formed tree
+    ∙ (ap (λ rs. rs ++ map (begun_by script (show s)) xs) (map-append shown gs (started_by script s x ∷ []) ∙ ap (λ r. map shown gs ++ r ∷ []) (begun script s x formed tree))
     ∙ append_assoc (map shown gs) (begun_by script (show s) x ∷ []) (map (begun_by script (show s)) xs))
 
 -- ---- what becomes of a timer
@@ -232,32 +267,106 @@ says-timed : (script : Script) (s : State) (m : Option (ℕ × Move)) (o : Optio
 says-timed script s m None = refl
 says-timed script s m (Some x) = setting-timed script s m x.0 x.1
 
+-- ---- what becomes of a context
+
+made-world : (w : ℕ) (above : Option End) (own : Option ℕ) (expiry : End) (now : ℕ) → (made_below w above own expiry now).world ≡ w
+made-world w (Some end) own expiry now = refl
+made-world w None own expiry now = refl
+
+-- what no end changes
+pub cut-unseen : {V : Type 0} (show : Option Context → V) → ((end : End) (r : Context) → show (Some (ended_by end r)) ≡ show (Some r)) → (script : Script) (s : State) (x n : ℕ) (end : End)
+    (contexts : List (Option Context)) → map show (map (cut_one script s x end) (enumerate_from n contexts)) ≡ map show contexts
+cut-unseen show same script s x n end [] = refl
+cut-unseen show same script s x n end (o ∷ contexts) =
+    ap (λ y. y ∷ map show (map (cut_one script s x end) (enumerate_from (n + 1) contexts))) (unseen (is_reached script s x n) o)
+    ∙ ap (λ ys. show o ∷ ys) (cut-unseen show same script s x (n + 1) end contexts)
+  where
+    unseen : (b : Bool) (o : Option Context) → show (cond b (option_map (ended_by end) o) o) ≡ show o
+    unseen true None = refl
+    unseen true (Some r) = same end r
+    unseen false o = refl
+
+grown-shown : (script : Script) (s : State) (w : ℕ) (i : Option Instr) (x : ℕ) (step : TreeStep)
+    → map ctx_in (grown script s w i x step) ≡ derive_in w (map ctx_in s.contexts) x step
+grown-shown script s w i x TreeStep.Derived =
+    map-set ctx_in s.contexts x (Some (made_context script s w x))
+    ∙ ap (λ v. set (map ctx_in s.contexts) x (Some v)) (made-world w (end_above script s x) _ _ _)
+grown-shown script s w i x TreeStep.Canceled = cut-unseen ctx_in (λ end r. refl) script s x 0 (cancel_end (named_by i)) s.contexts
+grown-shown script s w i x TreeStep.Expired = cut-unseen ctx_in (λ end r. refl) script s x 0 (expiry_end script x) s.contexts
+grown-shown script s w i x TreeStep.Registered = refl
+grown-shown script s w i x TreeStep.Unhooked = refl
+
+says-derived : (script : Script) (s : State) (m : Option (ℕ × Move)) (o : Option (ℕ × TreeStep))
+    → map ctx_in (with_grown script s m o) ≡ with_derived (mover_world (map shown s.goroutines) m) (map ctx_in s.contexts) o
+says-derived script s m None = refl
+says-derived script s m (Some x) =
+    grown-shown script s (world_of s (number_of m)) (stands_at script s (number_of m)) x.0 x.1
+    ∙ ap (λ w. derive_in w (map ctx_in s.contexts) x.0 x.1) (says-mover s m)
+
+-- ---- and of a hook
+
+-- what becomes of a hook that is registered is told by who is started
+abbrev StartsBy : Script → State → List Start → ℕ → TreeStep → Type 0
+StartsBy script s starts x TreeStep.Derived = Unit {0}
+StartsBy script s starts x TreeStep.Canceled = Unit {0}
+StartsBy script s starts x TreeStep.Expired = Unit {0}
+StartsBy script s starts x TreeStep.Registered = registered script s x ≡ registered_as starts
+StartsBy script s starts x TreeStep.Unhooked = Unit {0}
+
+due-starts : (b : Bool) (k n : ℕ) (child : Option ℕ) → child ≡ cond b (Some n) None → cond b HookState.Started HookState.Waiting ≡ registered_as (by_hook k child)
+due-starts true k n child e = sym (ap (λ o. registered_as (by_hook k o)) e)
+due-starts false k n child e = sym (ap (λ o. registered_as (by_hook k o)) e)
+
+starts-by : (script : Script) (limits : Limits) (s : State) (e : Entry) → Legal script limits s e
+    → IfSome (change_of e).tree (λ (x : ℕ × TreeStep). StartsBy script s (change_of e).starts x.0 x.1)
+starts-by script limits s (Entry.CtxAfter g k child) legal = due-starts (hook_is_due script s k) k (next_number s) child legal.1.1
+starts-by script limits s (Entry.Cancel g x true starts) legal = tt
+starts-by script limits s (Entry.Cancel g x false starts) legal = tt
+starts-by script limits s _ legal = tt
+
+hooked-shown : (script : Script) (s : State) (starts : List Start) (x : ℕ) (step : TreeStep) → IsFormed script s → IsTree script s → StartsBy script s starts x step
+    → hooked script s x step ≡ hooks_in script starts s.hooks x step
+hooked-shown script s starts x TreeStep.Derived formed tree by = refl
+hooked-shown script s starts x TreeStep.Canceled formed tree by = cut-at_end script s x formed tree
+hooked-shown script s starts x TreeStep.Expired formed tree by = cut-at_end script s x formed tree
+hooked-shown script s starts x TreeStep.Registered formed tree by = ap (λ hook. change s.hooks x (λ was. hook)) by
+hooked-shown script s starts x TreeStep.Unhooked formed tree by = refl
+
+says-hooked : (script : Script) (s : State) (starts : List Start) (o : Option (ℕ × TreeStep)) → IsFormed script s → IsTree script s
+    → IfSome o (λ (x : ℕ × TreeStep). StartsBy script s starts x.0 x.1) → with_hooked script s o ≡ with_hooks script starts s.hooks o
+says-hooked script s starts None formed tree by = refl
+says-hooked script s starts (Some x) formed tree by = hooked-shown script s starts x.0 x.1 formed tree by
+
 -- ---- everyone
 
-abbrev together : List ToldGoroutine → List (Option ToldTimer) → Everyone
-together rs os = record { goroutines = rs; timers = os }
+abbrev together : List ToldGoroutine → List (Option ToldTimer) → List (Option ℕ) → List HookState → Everyone
+together rs os cs ks = record { goroutines = rs; timers = os; contexts = cs; hooks = ks }
 
-both : (rs qs : List ToldGoroutine) (os ps : List (Option ToldTimer)) → rs ≡ qs → os ≡ ps → together rs os ≡ together qs ps
-both rs qs os ps same alike = ap (λ rs. together rs os) same ∙ ap (λ os. together qs os) alike
+all-four : (rs qs : List ToldGoroutine) (os ps : List (Option ToldTimer)) (cs ds : List (Option ℕ)) (ks js : List HookState) → rs ≡ qs → os ≡ ps → cs ≡ ds → ks ≡ js
+    → together rs os cs ks ≡ together qs ps ds js
+all-four rs qs os ps cs ds ks js same alike made kept =
+    ap (λ rs. together rs os cs ks) same ∙ (ap (λ os. together qs os cs ks) alike ∙ (ap (λ cs. together qs ps cs ks) made ∙ ap (λ ks. together qs ps ds ks) kept))
 
-one-everyone : (script : Script) (s : State) (e : Entry) → Fits script s (change_of e) → AreTwo (change_of e).mover (change_of e).partner
-    → show (after script s e) ≡ everyone_by script (show s) (change_of e)
-one-everyone script s e fits two =
-    both _ _ _ _
+one-everyone : (script : Script) (limits : Limits) (s : State) (e : Entry) → Step script limits s e → show (after script s e) ≡ everyone_by script (show s) (change_of e)
+one-everyone script limits s e step =
+    all-four _ _ _ _ _ _ _ _
     (says-begun script s (with_signalled (with_mover script (with_mover script s.goroutines (change_of e).mover) (change_of e).partner) (change_of e).broadcast) (change_of e).starts
+    step.formed step.tree
     ∙ ap (λ rs. rs ++ map (begun_by script (show s)) (change_of e).starts)
     (says-woken (with_mover script (with_mover script s.goroutines (change_of e).mover) (change_of e).partner) (change_of e).broadcast
-    ∙ ap (λ rs. with_woken rs (change_of e).broadcast) (says-both script s (change_of e).mover (change_of e).partner fits.mover fits.partner two)))
+    ∙ ap (λ rs. with_woken rs (change_of e).broadcast) (says-both script s (change_of e).mover (change_of e).partner step.fits.mover step.fits.partner step.two)))
     (says-timed script s (change_of e).mover (change_of e).timer)
+    (says-derived script s (change_of e).mover (change_of e).tree)
+    (says-hooked script s (change_of e).starts (change_of e).tree step.formed step.tree (starts-by script limits s e step.legal))
 
-none-timed : (decls : List Decl) → map timer_in (map (λ (d : Decl). None) decls) ≡ map (λ (d : Decl). None) decls
-none-timed [] = refl
-none-timed (d ∷ ds) = ap (λ os. None ∷ os) (none-timed ds)
+pub none-map : {X Y : Type 0} (f : Option X → Option Y) (decls : List Decl) → f None ≡ None → map f (map (λ (d : Decl). None) decls) ≡ map (λ (d : Decl). None) decls
+none-map f [] none = refl
+none-map f (d ∷ ds) none = ap (λ o. o ∷ map f (map (λ (d : Decl). None) ds)) none ∙ ap (λ os. None ∷ os) (none-map f ds none)
 
 pub everyone-told : (script : Script) (limits : Limits) (h : List Entry) → IsGood script → AllLegal script limits (first_state script) h
     → show (state_after script (first_state script) h) ≡ everyone_told script h
-everyone-told script limits = shown-told script limits show (everyone_by script) (everyone_first script) (λ s e formed fits two. one-everyone script s e fits two)
-    (both _ _ _ _ refl (none-timed script.decls))
+everyone-told script limits = shown-told script limits show (everyone_by script) (everyone_first script) (one-everyone script limits)
+    (all-four _ _ _ _ _ _ _ _ refl (none-map timer_in script.decls refl) (none-map ctx_in script.decls refl) refl)
 
 -- ---- and of each of them
 
@@ -271,6 +380,22 @@ pub owner-told : (script : Script) (limits : Limits) (t : ℕ) (h : List Entry) 
     → timer_world (state_after script (first_state script) h) t ≡ owner_told script t h
 owner-told script limits t h good legal =
     shown-owner (state_after script (first_state script) h) t ∙ ap (λ (all : Everyone). owner_in (at all.timers t)) (everyone-told script limits h good legal)
+
+-- the world of a context, what has become of a hook, and which hooks an end starts
+pub ctx_world-told : (script : Script) (limits : Limits) (x : ℕ) (h : List Entry) → IsGood script → AllLegal script limits (first_state script) h
+    → (elim (context_at (state_after script (first_state script) h) x) as (λ o. ℕ) [ None ↦ 0 | Some r ↦ r.world ]) ≡ ctx_world_told script x h
+ctx_world-told script limits x h good legal =
+    shown-ctx (state_after script (first_state script) h) x ∙ ap (λ (all : Everyone). owner_of all.contexts (Some x)) (everyone-told script limits h good legal)
+
+pub hook-told : (script : Script) (limits : Limits) (k : ℕ) (h : List Entry) → IsGood script → AllLegal script limits (first_state script) h
+    → hook_at (state_after script (first_state script) h) k ≡ hook_told script k h
+hook-told script limits k h good legal = ap (λ (all : Everyone). slice_index_or all.hooks k HookState.Unregistered) (everyone-told script limits h good legal)
+
+pub starts-told : (script : Script) (limits : Limits) (x : ℕ) (h : List Entry) → IsGood script → AllLegal script limits (first_state script) h
+    → starting script (state_after script (first_state script) h) x ≡ starts_told script x h
+starts-told script limits x h good legal =
+    starting-started script (state_after script (first_state script) h) x (formed-reached script limits h good legal) (tree-reached script limits h good legal)
+    ∙ ap (λ (all : Everyone). hooks_started script all.hooks x) (everyone-told script limits h good legal)
 
 pub period-told : (script : Script) (limits : Limits) (t : ℕ) (h : List Entry) → IsGood script → AllLegal script limits (first_state script) h
     → period_at (state_after script (first_state script) h) t ≡ period_told script t h

@@ -13,26 +13,28 @@ use Rattle.gt_model.specs.declared.entry.Reason.{Reason}
 use Rattle.gt_model.specs.declared.state.Goroutine.{Goroutine}
 use Rattle.gt_model.specs.declared.state.Mode.{Mode}
 use Rattle.gt_model.specs.declared.state.Timer.{Timer}
+use Rattle.gt_model.specs.declared.context.Context.{Context}
+use Rattle.gt_model.specs.declared.context.End.{End}
 use Rattle.gt_model.specs.Good.{IsGood}
-use Rattle.gt_model.specs.Script.{instr_at, what_at, is_func, is_chan, mutex_of, capacity_of}
+use Rattle.gt_model.specs.Script.{instr_at, what_at, is_func, is_chan, mutex_of, capacity_of, parent_of, ctx_of}
 use Rattle.gt_model.specs.Tables.{flatten}
-use Rattle.gt_rules.specs.State.{State, clock, goroutine_at, timer_at, due_of, stands, channel_at, item_count, is_closed, is_made}
-use Rattle.gt_rules.specs.Panics.{fault, fault_at, fault_case, falls_below, case_fault, choice_fault, faulty_case, open_fault, or_else, when, zero_ticker}
+use Rattle.gt_rules.specs.State.{State, clock, goroutine_at, timer_at, due_of, stands, channel_at, item_count, is_closed, is_made, context_at}
+use Rattle.gt_rules.specs.Panics.{fault, fault_at, fault_case, falls_below, case_fault, choice_fault, faulty_case, open_fault, or_else, when, zero_ticker, unmade_parent}
 use Rattle.gt_rules.specs.Ready.{is_due, is_ready, is_ready_in, is_ready_at, is_ready_instr, is_ready_case, is_ready_alone, is_ready_recv, is_partner, partner_waits, has_partner, has_come, everyone}
 use Rattle.gt_rules.specs.Operations.{receives_from, sends_to, offers, polls}
-use Rattle.gt_rules.specs.Counted.{sleep_of, awaits, is_awaited, counted_timer, counted}
+use Rattle.gt_rules.specs.Counted.{sleep_of, awaits, is_awaited, counted_timer, deadline_in, counted}
 use Rattle.gt_rules.specs.After.{first_state, timer_world}
-use Rattle.gt_rules.specs.History.{AllLegal, state_after}
+use Rattle.gt_rules.specs.History.{AllLegal}
 use Rattle.gt_facts.specs.Still.{IsStill}
-use Rattle.gt_laws.specs.Told.{world_in, place_of, wait_of, ToldGoroutine, Everyone, clock_told, due_told, made_told, opened_told, closed_told, sent_told, taken_told, owner_told, stands_in}
-use Rattle.gt_laws.specs.GoesOn.{case_misuse, choice_misuse, misused_from, misuse_told, misused_case, meets_at, is_partner_told, partner_told, gives_told, alone_told, meets_told, can_operate, can_be_done, goes_on_at, goes_on_in, goes_on_told, IsStillTold, waits_at, waited_told, sleep_in, due_counted, counted_told, IsStuckTold}
-use Rattle.gt_laws.proofs.Shown.{clock-told, due-told, made-told}
+use Rattle.gt_laws.specs.Told.{world_in, place_of, wait_of, ToldGoroutine, Everyone, clock_told, due_told, made_told, opened_told, closed_told, sent_told, taken_told, owner_told, stands_in, derived_told, registered_told}
+use Rattle.gt_laws.specs.Contexts.{end_told, ended_told, own_told}
+use Rattle.gt_laws.specs.GoesOn.{has_told, underived, own_counted, case_misuse, choice_misuse, misused_from, misuse_told, misused_case, meets_at, is_partner_told, partner_told, gives_told, alone_told, meets_told, can_operate, can_be_done, goes_on_at, goes_on_in, goes_on_told, IsStillTold, waits_at, waited_told, sleep_in, due_counted, counted_told, IsStuckTold}
+pub use Rattle.gt_laws.proofs.Shown.{reached}
+use Rattle.gt_laws.proofs.Shown.{clock-told, due-told, made-told, derived-told, registered-told}
 use Rattle.gt_laws.proofs.Channels.{opened-told, closed-told, count-told}
 use Rattle.gt_laws.proofs.Syncs.{held-told, counter-told}
-use Rattle.gt_laws.proofs.Everyone.{shown, place_in, wait_in, timer_in, until-shown, stands-shown, everyone-told, goroutine-told, owner-told}
-
-abbrev pub reached : Script → List Entry → State
-reached script h = state_after script (first_state script) h
+use Rattle.gt_laws.proofs.Everyone.{shown, place_in, wait_in, timer_in, until-shown, stands-shown, everyone-told, goroutine-told, owner-told, ctx_in}
+use Rattle.gt_laws.proofs.FirstEnds.{end_of, end-told, ended-told, own-told, own_due-told}
 
 -- ---- an instruction
 
@@ -54,10 +56,17 @@ unopened-told script limits h c good legal =
     ∙ ap (λ b. or_else (when (not (opened_told c h)) Reason.Unmade) (when b Reason.Closed)) (closed-told script limits c h good legal)
 
 has-told : (script : Script) (limits : Limits) (h : List Entry) (o : ℕ) → IsGood script → AllLegal script limits (first_state script) h
-    → is_made (reached script h) o ≡ (made_told o h || opened_told o h)
+    → is_made (reached script h) o ≡ has_told h o
 has-told script limits h o good legal =
-    ap (λ b. b || is_some (channel_at (reached script h) o)) (made-told script limits o h good legal)
-    ∙ ap (λ b. made_told o h || b) (opened-told script limits o h good legal)
+    ap (λ b. b || is_some (channel_at (reached script h) o) || is_some (context_at (reached script h) o)) (made-told script limits o h good legal)
+    ∙ (ap (λ b. made_told o h || b || is_some (context_at (reached script h) o)) (opened-told script limits o h good legal)
+    ∙ ap (λ b. made_told o h || opened_told o h || b) (derived-told script limits o h good legal))
+
+underived-told : (script : Script) (limits : Limits) (h : List Entry) (o : Option ℕ) → IsGood script → AllLegal script limits (first_state script) h
+    → unmade_parent (reached script h) o ≡ underived h o
+underived-told script limits h None good legal = refl
+underived-told script limits h (Some x) good legal =
+    ap (λ b. when b Reason.Unmade) (none-not (context_at (reached script h) x) ∙ ap not (derived-told script limits x h good legal))
 
 case-told : (script : Script) (limits : Limits) (h : List Entry) (kind : CaseKind) → IsGood script → AllLegal script limits (first_state script) h
     → case_fault (reached script h) kind ≡ case_misuse h kind
@@ -92,6 +101,16 @@ misuse-told script limits h (Instr.Close c) good legal = unopened-told script li
 misuse-told script limits h (Instr.Unlock m) good legal = ap (λ b. when (not b) Reason.Unlocked) (held-told script limits m h good legal)
 misuse-told script limits h (Instr.CWait k) good legal = ap (λ b. when (not b) Reason.Unlocked) (held-told script limits (mutex_of script k) h good legal)
 misuse-told script limits h (Instr.Add w n) good legal = ap (λ counter. when (falls_below counter n) Reason.Negative) (counter-told script limits w h good legal)
+misuse-told script limits h (Instr.With x) good legal =
+    ap (λ b. or_else (when b Reason.Twice) (unmade_parent (reached script h) (parent_of script x))) (derived-told script limits x h good legal)
+    ∙ ap (or_else (when (derived_told x h) Reason.Twice)) (underived-told script limits h (parent_of script x) good legal)
+misuse-told script limits h (Instr.Cancel x cause) good legal = underived-told script limits h (Some x) good legal
+misuse-told script limits h (Instr.ErrOf x) good legal = underived-told script limits h (Some x) good legal
+misuse-told script limits h (Instr.CauseOf x) good legal = underived-told script limits h (Some x) good legal
+misuse-told script limits h (Instr.After s) good legal =
+    ap (λ b. or_else (when b Reason.Twice) (unmade_parent (reached script h) (ctx_of script s))) (registered-told script limits s h good legal)
+    ∙ ap (or_else (when (registered_told s h) Reason.Twice)) (underived-told script limits h (ctx_of script s) good legal)
+misuse-told script limits h (Instr.Unhook s) good legal = ap (λ b. when (not b) Reason.Unmade) (registered-told script limits s h good legal)
 misuse-told script limits h (Instr.Select cases default_to) good legal = choice-told script limits h cases good legal
 misuse-told script limits h _ good legal = refl
 
@@ -186,12 +205,15 @@ gives-told script limits h w o (Some What.Ticker) good legal =
     ap (λ (due : Option ℕ). is_due due (clock (reached script h) w)) (due-told script limits o h good legal)
     ∙ ap (λ now. is_due (due_told o h) now) (clock-told script limits w h good legal)
 gives-told script limits h w o (Some (What.AfterFunc func)) good legal = refl
-gives-told script limits h w o (Some (What.Chan cap)) good legal =
+gives-told script limits h w o (Some (What.Chan room)) good legal =
     ap (λ b. b || is_closed (reached script h) o) (some-told script limits h o good legal)
     ∙ ap (λ b. nat_lt (taken_told o h) (length (sent_told o h)) || b) (closed-told script limits o h good legal)
 gives-told script limits h w o (Some What.Mutex) good legal = ap not (held-told script limits o h good legal)
 gives-told script limits h w o (Some What.Wg) good legal = ap (λ n. n == 0) (counter-told script limits o h good legal)
 gives-told script limits h w o (Some (What.Cond mutex)) good legal = refl
+gives-told script limits h w o (Some (What.Ctx parent form)) good legal = ended-told script limits o h good legal
+gives-told script limits h w o (Some (What.Hook ctx func)) good legal = refl
+gives-told script limits h w o (Some What.Error) good legal = refl
 gives-told script limits h w o (Some What.Function) good legal = refl
 
 pub alone-told : (script : Script) (limits : Limits) (h : List Entry) (w : ℕ) (kind : CaseKind) → IsGood script → AllLegal script limits (first_state script) h
@@ -277,6 +299,14 @@ come-told script limits h t good legal =
 abbrev come_in : State → Option Timer → Bool
 come_in s o = is_due (elim o as (λ o. Option ℕ) [ None ↦ None | Some r ↦ r.due ]) (clock s (elim o as (λ o. ℕ) [ None ↦ 0 | Some r ↦ r.world ]))
 
+-- and contexts
+abbrev own_due_in : State → Option Context → Bool
+own_due_in s o = is_due (elim o as (λ o. Option ℕ) [ None ↦ None | Some r ↦ r.own ]) (clock s (elim o as (λ o. ℕ) [ None ↦ 0 | Some r ↦ r.world ]))
+
+some-none : (o : Option End) → is_some o ≡ false → o ≡ None
+some-none None h = refl
+some-none (Some end) h = cc
+
 -- ---- the program stands still
 
 pub still-told : (script : Script) (limits : Limits) (h : List Entry) → IsGood script → AllLegal script limits (first_state script) h
@@ -292,6 +322,13 @@ still-told script limits h good legal still = record {
         | None ↦ λ e. refl
         | Some r ↦ λ e. still.no_func_due t r e func
       ] refl;
+  no_deadline = λ x going. sym (own_due-told script limits x h good legal)
+      ∙ elim (context_at (reached script h) x) as (λ o. context_at (reached script h) x ≡ o → own_due_in (reached script h) o ≡ false) [
+        | None ↦ λ e. refl
+        | Some r ↦ λ e.
+            let end : r.end ≡ end_told script x h = sym (ap end_of e) ∙ end-told script limits x h good legal (ap is_some e) in
+            still.no_deadline_due x r e (end ∙ some-none (end_told script x h) going)
+      ] refl;
 }
 
 pub told-still : (script : Script) (limits : Limits) (h : List Entry) → IsGood script → AllLegal script limits (first_state script) h
@@ -299,6 +336,9 @@ pub told-still : (script : Script) (limits : Limits) (h : List Entry) → IsGood
 told-still script limits h good legal still = record {
   nobody_ready = λ g r e. sym (ap (λ (o : Option Goroutine). ready_in script (reached script h) g o) e) ∙ (goes-on script limits h g good legal ∙ still.nobody g);
   no_func_due = λ t r e func. sym (ap (λ (o : Option Timer). come_in (reached script h) o) e) ∙ (come-told script limits h t good legal ∙ still.no_func t func);
+  no_deadline_due = λ x r e none.
+      let going : ended_told script x h ≡ false = ap is_some (sym (end-told script limits x h good legal (ap is_some e)) ∙ (ap end_of e ∙ none)) in
+      sym (ap (λ (o : Option Context). own_due_in (reached script h) o) e) ∙ (own_due-told script limits x h good legal ∙ still.no_deadline x going);
 }
 
 -- ---- the counted times
@@ -352,16 +392,42 @@ timer-counted script limits h w t (Some r) good legal there =
     ap (λ b. cond (r.world == w && (is_func script t || b)) r.due None) (waited-told script limits h w t good legal)
     ∙ ap (λ (o : Option ℕ). cond (r.world == w && (is_func script t || waited_told script w t h)) o None) due
 
+given-numbered : {X Y : Type 0} (f : X → Option ℕ) (k : ℕ × Y → Option ℕ) (m : X → Y) (n : ℕ) (xs : List X)
+    → ((i : ℕ) (x : X) → slice_get xs i ≡ Some x → f x ≡ k (n + i, m x)) → filter_map f xs ≡ filter_map k (enumerate_from n (map m xs))
+given-numbered f k m n [] same = refl
+given-numbered f k m n (x ∷ xs) same =
+    let here : n + 0 ≡ n = omega arith in
+    ap (λ (o : Option ℕ). cons_option o (filter_map f xs)) (subst (λ j. f x ≡ k (j, m x)) here (same 0 x refl))
+    ∙ ap (λ times. cons_option (k (n, m x)) times)
+    (given-numbered f k m (n + 1) xs (λ i y e. subst (λ j. f y ≡ k (j, m y)) (next n i) (same (suc i) y e)))
+  where
+    next : (n i : ℕ) → n + suc i ≡ (n + 1) + i
+    next n i = omega arith
+
+deadline-counted : (script : Script) (limits : Limits) (h : List Entry) (w x : ℕ) (o : Option Context) → IsGood script → AllLegal script limits (first_state script) h
+    → slice_get (reached script h).contexts x ≡ Some o → deadline_in w o ≡ own_counted script w h (x, ctx_in o)
+deadline-counted script limits h w x None good legal there = refl
+deadline-counted script limits h w x (Some r) good legal there =
+    let is : context_at (reached script h) x ≡ Some r = ap (λ (o : Option (Option Context)). flatten o) there in
+    let end : r.end ≡ end_told script x h = sym (ap end_of is) ∙ end-told script limits x h good legal (ap is_some is) in
+    let own : r.own ≡ own_told script x h = sym (ap (λ (o : Option Context). elim o as (λ o. Option ℕ) [ None ↦ None | Some r ↦ r.own ]) is) ∙ own-told script limits x h good legal in
+    ap (λ b. cond (r.world == w && b) r.own None) (none-not r.end ∙ ap (λ o. not (is_some o)) end)
+    ∙ ap (λ (o : Option ℕ). cond (r.world == w && not (ended_told script x h)) o None) own
+
 pub counted-told : (script : Script) (limits : Limits) (h : List Entry) (w : ℕ) → IsGood script → AllLegal script limits (first_state script) h
     → counted script (reached script h) w ≡ counted_told script w h
 counted-told script limits h w good legal =
-    ap (λ times. times ++ filter_map (counted_timer script (reached script h) w) (enumerate_from 0 (reached script h).timers))
-    (given-map (sleep_of w) (sleep_in w) shown (reached script h).goroutines (sleep-told w))
-    ∙ (ap (λ times. filter_map (sleep_in w) (map shown (reached script h).goroutines) ++ times)
-    (given-enumerated (counted_timer script (reached script h) w) (due_counted script w h) timer_in 0 (reached script h).timers
-    (λ t o e. subst (λ j. counted_timer script (reached script h) w (j, o) ≡ due_counted script w h (j, timer_in o)) (zero-more t) (timer-counted script limits h w t o good legal e)))
-    ∙ ap (λ (all : Everyone). filter_map (sleep_in w) all.goroutines ++ filter_map (due_counted script w h) (enumerate_from 0 all.timers))
-    (everyone-told script limits h good legal))
+    let s : State = reached script h in
+    ap (λ times. times ++ filter_map (counted_timer script s w) (enumerate_from 0 s.timers) ++ filter_map (deadline_in w) s.contexts)
+    (given-map (sleep_of w) (sleep_in w) shown s.goroutines (sleep-told w))
+    ∙ (ap (λ times. filter_map (sleep_in w) (map shown s.goroutines) ++ times ++ filter_map (deadline_in w) s.contexts)
+    (given-enumerated (counted_timer script s w) (due_counted script w h) timer_in 0 s.timers
+    (λ t o e. subst (λ j. counted_timer script s w (j, o) ≡ due_counted script w h (j, timer_in o)) (zero-more t) (timer-counted script limits h w t o good legal e)))
+    ∙ (ap (λ times. filter_map (sleep_in w) (map shown s.goroutines) ++ filter_map (due_counted script w h) (enumerate_from 0 (map timer_in s.timers)) ++ times)
+    (given-numbered (deadline_in w) (own_counted script w h) ctx_in 0 s.contexts
+    (λ x o e. subst (λ j. deadline_in w o ≡ own_counted script w h (j, ctx_in o)) (zero-more x) (deadline-counted script limits h w x o good legal e)))
+    ∙ ap (λ (all : Everyone). filter_map (sleep_in w) all.goroutines ++ filter_map (due_counted script w h) (enumerate_from 0 all.timers)
+    ++ filter_map (own_counted script w h) (enumerate_from 0 all.contexts)) (everyone-told script limits h good legal)))
   where
     zero-more : (t : ℕ) → t ≡ 0 + t
     zero-more t = omega arith

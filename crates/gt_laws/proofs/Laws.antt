@@ -8,9 +8,10 @@ use Rattle.gt_model.specs.Good.{IsGood}
 use Rattle.gt_rules.specs.State.{State}
 use Rattle.gt_rules.specs.Finish.{Legal}
 use Rattle.gt_rules.specs.History.{History}
-use Rattle.gt_laws.specs.Laws.{AtEach, InOrder, InTime, IsFresh, PassesOn, UsesRightly, ChoosesRightly, IsAlone, AddsUp, IsSignalled}
+use Rattle.gt_laws.specs.Laws.{AtEach, InOrder, InTime, IsFresh, PassesOn, UsesRightly, ChoosesRightly, IsAlone, AddsUp, IsSignalled, KeepsFirstCause, HooksOnce}
 use Rattle.gt_laws.proofs.GoesOn.{reached}
-use Rattle.gt_laws.proofs.Rows.{Behind, Obeys, Rule, row}
+use Rattle.gt_laws.proofs.Behind.{Behind, Obeys, Rule}
+use Rattle.gt_laws.proofs.Rows.{row}
 use Rattle.gt_laws.proofs.Comes.{Comes, each}
 
 rule-Legal : (script : Script) (limits : Limits) (s : State) (e : Entry) → Legal script limits s e → Rule script s e
@@ -54,3 +55,11 @@ each-adds_up = each (λ script limits. AddsUp) (λ script limits front e c. (obe
 pub each-signalled : (script : Script) (limits : Limits) (h : List Entry) (outcome : Outcome) → IsGood script → History script limits h outcome
     → AtEach (IsSignalled script) h
 each-signalled = each (λ script limits. IsSignalled script) (λ script limits front e c. (obeys script limits front e c).signals)
+
+pub each-keeps : (script : Script) (limits : Limits) (h : List Entry) (outcome : Outcome) → IsGood script → History script limits h outcome
+    → AtEach (KeepsFirstCause script) h
+each-keeps = each (λ script limits. KeepsFirstCause script) (λ script limits front e c. (obeys script limits front e c).keeps)
+
+pub each-hooks : (script : Script) (limits : Limits) (h : List Entry) (outcome : Outcome) → IsGood script → History script limits h outcome
+    → AtEach (HooksOnce script) h
+each-hooks = each (λ script limits. HooksOnce script) (λ script limits front e c. (obeys script limits front e c).hooks)

@@ -88,7 +88,7 @@ says-held script s m k (Some x) fits = locked-stepped script s (world_of s (numb
 pub held-told : (script : Script) (limits : Limits) (m : ℕ) (h : List Entry) → IsGood script → AllLegal script limits (first_state script) h
     → is_locked (state_after script (first_state script) h) m ≡ held_told script m h
 held-told script limits m = shown-told script limits (λ (s : State). is_locked s m) (held_by script m) false
-    (λ s e formed fits two. says-held script s (change_of e).mover m (change_of e).sync fits.sync) (ap locked (none-used script.decls m))
+    (λ s e step. says-held script s (change_of e).mover m (change_of e).sync step.fits.sync) (ap locked (none-used script.decls m))
 
 -- ---- the counter of a WaitGroup
 
@@ -116,4 +116,4 @@ says-counter script s m k (Some x) fits = count-stepped script s (world_of s (nu
 pub counter-told : (script : Script) (limits : Limits) (w : ℕ) (h : List Entry) → IsGood script → AllLegal script limits (first_state script) h
     → counter_of (state_after script (first_state script) h) w ≡ counter_told w h
 counter-told script limits w = shown-told script limits (λ (s : State). counter_of s w) (counter_by w) 0
-    (λ s e formed fits two. says-counter script s (change_of e).mover w (change_of e).sync fits.sync) (ap count (none-used script.decls w))
+    (λ s e step. says-counter script s (change_of e).mover w (change_of e).sync step.fits.sync) (ap count (none-used script.decls w))

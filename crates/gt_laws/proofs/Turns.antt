@@ -1,5 +1,5 @@
 -- Each goroutine is where its moves lead through its function's code.
-use Rattle.std.proofs.Common.{◌≡◌, ◌≢◌, ℕ, zero, suc, ◌+◌, ◌<◌, List, [], ◌∷◌, ◌++◌, append-nil, length, refl, sym, ap, subst, ◌∙◌, arith, cond, if◌then◌else◌, slice_get, ◌==◌, Option, None, Some, IfSome, option_map, true, false, eqb}
+use Rattle.std.proofs.Common.{◌≡◌, ◌≢◌, ℕ, zero, suc, ◌+◌, ◌<◌, List, [], ◌∷◌, ◌++◌, append-nil, length, slice_index, refl, sym, ap, subst, ◌∙◌, arith, cond, if◌then◌else◌, slice_get, ◌==◌, Option, None, Some, IfSome, option_map, true, false, eqb}
 use Rattle.std.proofs.lemmas.Bool.{eqb-true, eqb-false}
 use Rattle.std.proofs.lemmas.Option.{slice_get_past}
 use Rattle.gt_model.specs.declared.script.Script.{Script}
@@ -12,12 +12,13 @@ use Rattle.gt_model.specs.declared.entry.Outcome.{Outcome}
 use Rattle.gt_model.specs.declared.state.Goroutine.{Goroutine}
 use Rattle.gt_model.specs.declared.state.Mode.{Mode}
 use Rattle.gt_model.specs.Good.{IsGood, IsGoodCode}
-use Rattle.gt_model.specs.Script.{code_of, instr_at, func_of}
+use Rattle.gt_model.specs.Script.{code_of, instr_at, func_of, hook_func}
 use Rattle.gt_model.specs.Tables.{numbered}
 use Rattle.gt_model.proofs.GoodCode.{all_at}
 use Rattle.gt_model.proofs.Items.{numbered-change_same, numbered-change_other, numbered-push_same, numbered-push_other}
 use Rattle.gt_rules.specs.Places.{silent_at, first_place, go_on, next_index, next_of, place_after}
 use Rattle.gt_rules.specs.State.{State, goroutine_at}
+use Rattle.gt_rules.specs.Contexts.{starting}
 use Rattle.gt_rules.specs.declared.change.Move.{Move}
 use Rattle.gt_rules.specs.declared.change.Start.{Start}
 use Rattle.gt_rules.specs.Change.{change_of}
@@ -194,6 +195,8 @@ push-done script n gs r new all g =
 started-done : (script : Script) (s : State) (x : Start) → HasDone script [] (Some (started_by script s x))
 started-done script s (Start.ByGoroutine g f) = turn-first script f
 started-done script s (Start.ByTimer t) = turn-first script (func_of script t)
+started-done script s (Start.ByHook k) = turn-first script (hook_func script k)
+started-done script s (Start.ByEnd x i) = turn-first script (hook_func script (slice_index (starting script s x) i))
 
 starts-done : (script : Script) (s : State) (n : ℕ → List ℕ) (gs : List Goroutine) (xs : List Start) → AllDone script n gs → AllDone script n (with_starts script s gs xs)
 starts-done script s n gs [] all = all

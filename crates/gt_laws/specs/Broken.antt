@@ -5,6 +5,8 @@ use Rattle.gt_model.specs.declared.script.Script.{Script}
 use Rattle.gt_model.specs.declared.script.Instr.{Instr}
 use Rattle.gt_model.specs.declared.script.CaseKind.{CaseKind}
 use Rattle.gt_model.specs.declared.script.What.{What}
+use Rattle.gt_model.specs.declared.context.Form.{Form}
+use Rattle.gt_model.specs.declared.context.CauseVal.{CauseVal}
 use Rattle.gt_model.specs.declared.entry.Entry.{Entry}
 use Rattle.gt_model.specs.declared.entry.Outcome.{Outcome}
 use Rattle.gt_model.specs.declared.entry.Reason.{Reason}
@@ -427,3 +429,146 @@ above_zero = Entry.Add 1 1 (pos 1) ∷ Entry.WgWait 1 1 ∷ []
 
 abbrev pub below_zero : List Entry
 below_zero = Entry.Add 1 1 (pos 1) ∷ Entry.Add 1 1 (negsuc 0) ∷ Entry.Add 1 1 (negsuc 0) ∷ []
+
+-- ---- contexts
+
+-- error e / error f / ctx x root cause / func main / with x / cancel x e / cancel x f / cause x / end
+abbrev pub two_causes : Script
+two_causes = record {
+  decls = (record { name = codes "e"; what = What.Error }) ∷ (record { name = codes "f"; what = What.Error }) ∷ (record { name = codes "x"; what = What.Ctx None Form.Cause })
+      ∷ (record { name = codes "main"; what = What.Function }) ∷ [];
+  funcs = (record { decl = 3; code = Instr.With 2 ∷ Instr.Cancel 2 (Some 0) ∷ Instr.Cancel 2 (Some 1) ∷ Instr.CauseOf 2 ∷ Instr.Finish ∷ [] }) ∷ [];
+  main = 0;
+}
+
+-- x is canceled twice; the second cancellation says that it brought the end; or its cause overwrites the first one
+abbrev pub is_canceled : List Entry
+is_canceled = Entry.CtxMake 1 2 false ∷ Entry.Cancel 1 2 true 0 ∷ []
+
+abbrev pub ends_twice : List Entry
+ends_twice = is_canceled ++ Entry.Cancel 1 2 true 0 ∷ []
+
+abbrev pub canceled_twice : List Entry
+canceled_twice = is_canceled ++ Entry.Cancel 1 2 false 0 ∷ []
+
+abbrev pub overwritten : List Entry
+overwritten = canceled_twice ++ Entry.Cause 1 2 (Some (CauseVal.Named 1)) ∷ []
+
+-- a look that shows nothing of an end that came; one that shows a cause before the end; a wait that ends before it; two looks that show two causes
+abbrev pub shows_nothing : List Entry
+shows_nothing = is_canceled ++ Entry.CtxErr 1 2 None ∷ []
+
+abbrev pub shows_early : List Entry
+shows_early = Entry.CtxMake 1 2 false ∷ Entry.Cause 1 2 (Some (CauseVal.Named 0)) ∷ []
+
+abbrev pub found_early : List Entry
+found_early = Entry.CtxMake 1 2 false ∷ Entry.CtxDone (record { g = 1; case_no = 0 }) 2 ∷ []
+
+abbrev pub shows_two : List Entry
+shows_two = canceled_twice ++ Entry.Cause 1 2 (Some (CauseVal.Named 0)) ∷ Entry.Cause 1 2 (Some (CauseVal.Named 1)) ∷ []
+
+-- ctx x root timeout 5ns / ctx y x timeout 9ns / func main / with x / with y / sleep 9ns / cancel x / end
+abbrev pub two_deadlines : Script
+two_deadlines = record {
+  decls = (record { name = codes "x"; what = What.Ctx None (Form.Timeout 5 None) }) ∷ (record { name = codes "y"; what = What.Ctx (Some 0) (Form.Timeout 9 None) })
+      ∷ (record { name = codes "main"; what = What.Function }) ∷ [];
+  funcs = (record { decl = 2; code = Instr.With 0 ∷ Instr.With 1 ∷ Instr.Sleep 9 ∷ Instr.Cancel 0 None ∷ Instr.Finish ∷ [] }) ∷ [];
+  main = 0;
+}
+
+abbrev pub both_made : List Entry
+both_made = Entry.CtxMake 1 0 false ∷ Entry.CtxMake 1 1 false ∷ Entry.Sleep 1 (Some 9) ∷ []
+
+-- x expires before its deadline; y expires by its own, though that of x is earlier; and x expires twice
+abbrev pub almost_due : List Entry
+almost_due = both_made ++ Entry.Clock 0 4 ∷ []
+
+abbrev pub expires_early : List Entry
+expires_early = almost_due ++ Entry.Expire 0 0 ∷ []
+
+abbrev pub slept_past : List Entry
+slept_past = both_made ++ Entry.Clock 0 9 ∷ []
+
+abbrev pub expires_below : List Entry
+expires_below = slept_past ++ Entry.Expire 1 0 ∷ []
+
+abbrev pub has_expired : List Entry
+has_expired = slept_past ++ Entry.Expire 0 0 ∷ []
+
+abbrev pub expires_twice : List Entry
+expires_twice = has_expired ++ Entry.Expire 0 0 ∷ []
+
+-- below x, which was canceled, y is made without an end
+abbrev pub ended_above : List Entry
+ended_above = Entry.CtxMake 1 0 false ∷ Entry.Cancel 1 0 true 0 ∷ []
+
+abbrev pub made_live : List Entry
+made_live = ended_above ++ Entry.CtxMake 1 1 false ∷ []
+
+-- y is made before its parent; and x is made twice
+abbrev pub made_above : List Entry
+made_above = Entry.CtxMake 1 1 false ∷ []
+
+abbrev pub context_twice : List Entry
+context_twice = Entry.CtxMake 1 0 false ∷ Entry.CtxMake 1 0 false ∷ []
+
+-- ---- hooks
+
+-- ctx x root cancel / hook s x f / func main / with x / after s / unhook s / cancel x / end; func f / end
+abbrev pub one_hook : Script
+one_hook = record {
+  decls = (record { name = codes "x"; what = What.Ctx None Form.Cancel }) ∷ (record { name = codes "s"; what = What.Hook 0 1 }) ∷ (record { name = codes "main"; what = What.Function })
+      ∷ (record { name = codes "f"; what = What.Function }) ∷ [];
+  funcs = (record { decl = 2; code = Instr.With 0 ∷ Instr.After 1 ∷ Instr.Unhook 1 ∷ Instr.Cancel 0 None ∷ Instr.Finish ∷ [] })
+      ∷ (record { decl = 3; code = Instr.Finish ∷ [] }) ∷ [];
+  main = 0;
+}
+
+-- s waits; it was taken back; its context ends and starts it
+abbrev pub hook_waits : List Entry
+hook_waits = Entry.CtxMake 1 0 false ∷ Entry.CtxAfter 1 1 None ∷ []
+
+abbrev pub hook_stopped : List Entry
+hook_stopped = hook_waits ++ Entry.CtxStop 1 1 true ∷ []
+
+abbrev pub hook_started : List Entry
+hook_started = hook_waits ++ Entry.Cancel 1 0 true 1 ∷ []
+
+-- a hook that was taken back starts; one that waits is left out, and its taking back is denied; one that was started starts again, and is taken back
+abbrev pub starts_stopped : List Entry
+starts_stopped = hook_stopped ++ Entry.Cancel 1 0 true 1 ∷ []
+
+abbrev pub hook_left_out : List Entry
+hook_left_out = hook_waits ++ Entry.Cancel 1 0 true 0 ∷ []
+
+abbrev pub stop_denied : List Entry
+stop_denied = hook_waits ++ Entry.CtxStop 1 1 false ∷ []
+
+abbrev pub starts_again : List Entry
+starts_again = hook_started ++ Entry.Cancel 1 0 false 1 ∷ []
+
+abbrev pub stopped_late : List Entry
+stopped_late = hook_started ++ Entry.CtxStop 1 1 true ∷ []
+
+-- one that is registered starts before the end, or waits after it; one that was taken back is registered again
+abbrev pub starts_early : List Entry
+starts_early = Entry.CtxMake 1 0 false ∷ Entry.CtxAfter 1 1 (Some 2) ∷ []
+
+abbrev pub waits_late : List Entry
+waits_late = Entry.CtxMake 1 0 false ∷ Entry.Cancel 1 0 true 0 ∷ Entry.CtxAfter 1 1 None ∷ []
+
+abbrev pub registered_again : List Entry
+registered_again = hook_stopped ++ Entry.CtxAfter 1 1 None ∷ []
+
+-- one is taken back that was not registered
+abbrev pub stopped_unregistered : List Entry
+stopped_unregistered = Entry.CtxMake 1 0 false ∷ Entry.CtxStop 1 1 false ∷ []
+
+-- the same, with another call: func main / with x / after s / cancel x / go f / end. Who is started next has the number of the one that the hook started
+abbrev pub hook_and_start : Script
+hook_and_start = record one_hook {
+  funcs = (record { decl = 2; code = Instr.With 0 ∷ Instr.After 1 ∷ Instr.Cancel 0 None ∷ Instr.Go 1 ∷ Instr.Finish ∷ [] }) ∷ (record { decl = 3; code = Instr.Finish ∷ [] }) ∷ [];
+}
+
+abbrev pub number_of_a_hook : List Entry
+number_of_a_hook = hook_started ++ Entry.Go 1 2 1 ∷ []

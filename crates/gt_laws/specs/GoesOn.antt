@@ -10,17 +10,22 @@ use Rattle.gt_model.specs.declared.script.Place.{Place}
 use Rattle.gt_model.specs.declared.script.What.{What}
 use Rattle.gt_model.specs.declared.entry.Entry.{Entry}
 use Rattle.gt_model.specs.declared.entry.Reason.{Reason}
-use Rattle.gt_model.specs.Script.{is_func, is_chan, instr_at, what_at, mutex_of, capacity_of}
+use Rattle.gt_model.specs.Script.{is_func, is_chan, instr_at, what_at, mutex_of, capacity_of, parent_of, ctx_of}
 use Rattle.gt_model.specs.declared.script.Case.{Case}
 use Rattle.gt_model.specs.declared.script.CaseKind.{CaseKind}
 use Rattle.gt_rules.specs.Operations.{offers, polls, receives_from, sends_to}
 use Rattle.gt_rules.specs.Panics.{when, or_else, zero_ticker, falls_below}
 use Rattle.gt_rules.specs.Ready.{is_due}
-use Rattle.gt_laws.specs.Told.{ToldGoroutine, ToldTimer, Wait, awake, asleep, suspended, signalled, clock_told, due_told, made_told, opened_told, closed_told, sent_told, taken_told, held_told, counter_told, everyone_told, now_told, place_told, wait_told, owner_told, until_in, stands_in}
+use Rattle.gt_laws.specs.Told.{ToldGoroutine, ToldTimer, Wait, awake, asleep, suspended, signalled, clock_told, due_told, made_told, opened_told, closed_told, sent_told, taken_told, held_told, counter_told, derived_told, registered_told, everyone_told, now_told, place_told, wait_told, owner_told, until_in, stands_in}
+use Rattle.gt_laws.specs.Contexts.{ended_told, own_told, own_is_due}
+
+-- whether a timer, a channel or a context was made
+abbrev pub has_told : List Entry → ℕ → Bool
+has_told front o = made_told o front || opened_told o front || derived_told o front
 
 -- the misuse of a case's object, which was not made. That a channel is closed is none before its send is chosen
 abbrev pub case_misuse : List Entry → CaseKind → Option Reason
-case_misuse front (CaseKind.Recv o) = when (not (made_told o front || opened_told o front)) Reason.Unmade
+case_misuse front (CaseKind.Recv o) = when (not (has_told front o)) Reason.Unmade
 case_misuse front (CaseKind.Send c v) = when (not (opened_told c front)) Reason.Unmade
 
 -- that of the first case with a misuse, and the number of that case, where the first one has the number n
@@ -32,8 +37,14 @@ abbrev pub misused_from : List Entry → ℕ → List Case → ℕ
 misused_from front n [] = n
 misused_from front n (c ∷ cases) = cond (is_some (case_misuse front c.kind)) n (misused_from front (n + 1) cases)
 
--- the misuse of an instruction here: a timer or a channel is made once, and used where it was made; a ticker has a time between its ticks; nothing is sent to
--- a channel that was closed, and it is closed once; a mutex is unlocked where it is locked, and who waits at a Cond unlocks one; nothing brings a counter below 0
+-- the use of a context that was not made; the root, which nobody makes, is none of the declared ones
+abbrev pub underived : List Entry → Option ℕ → Option Reason
+underived front None = None
+underived front (Some x) = when (not (derived_told x front)) Reason.Unmade
+
+-- the misuse of an instruction here: a timer, a channel or a context is made once, and used where it was made; a ticker has a time between its ticks; nothing is
+-- sent to a channel that was closed, and it is closed once; a mutex is unlocked where it is locked, and who waits at a Cond unlocks one; nothing brings a counter
+-- below 0; a context is made where its parent was, and a hook is registered once, where its context was made, and taken back where it was registered
 abbrev pub misuse_told : Script → List Entry → Instr → Option Reason
 misuse_told script front (Instr.Say n) = None
 misuse_told script front Instr.Now = None
@@ -42,7 +53,7 @@ misuse_told script front (Instr.Go f) = None
 misuse_told script front (Instr.New t d) = or_else (when (made_told t front) Reason.Twice) (zero_ticker script t d)
 misuse_told script front (Instr.Stop t) = when (not (made_told t front)) Reason.Unmade
 misuse_told script front (Instr.Reset t d) = or_else (when (not (made_told t front)) Reason.Unmade) (zero_ticker script t d)
-misuse_told script front (Instr.Recv o) = when (not (made_told o front || opened_told o front)) Reason.Unmade
+misuse_told script front (Instr.Recv o) = when (not (has_told front o)) Reason.Unmade
 misuse_told script front (Instr.Make c) = when (opened_told c front) Reason.Twice
 misuse_told script front (Instr.Send c v) = or_else (when (not (opened_told c front)) Reason.Unmade) (when (closed_told c front) Reason.Closed)
 misuse_told script front (Instr.Close c) = or_else (when (not (opened_told c front)) Reason.Unmade) (when (closed_told c front) Reason.Closed)
@@ -53,6 +64,12 @@ misuse_told script front (Instr.Signal k) = None
 misuse_told script front (Instr.Broadcast k) = None
 misuse_told script front (Instr.Add w n) = when (falls_below (counter_told w front) n) Reason.Negative
 misuse_told script front (Instr.Wait w) = None
+misuse_told script front (Instr.With x) = or_else (when (derived_told x front) Reason.Twice) (underived front (parent_of script x))
+misuse_told script front (Instr.Cancel x cause) = underived front (Some x)
+misuse_told script front (Instr.ErrOf x) = underived front (Some x)
+misuse_told script front (Instr.CauseOf x) = underived front (Some x)
+misuse_told script front (Instr.After s) = or_else (when (registered_told s front) Reason.Twice) (underived front (ctx_of script s))
+misuse_told script front (Instr.Unhook s) = when (not (registered_told s front)) Reason.Unmade
 misuse_told script front (Instr.Select cases default_to) = choice_misuse front cases
 misuse_told script front (Instr.LoopTop depth count past) = None
 misuse_told script front (Instr.LoopEnd depth top) = None
@@ -93,7 +110,7 @@ partner_told script front g test = list_any (is_partner_told script front g test
 -- ---- who goes on
 
 -- whether a receive gives something by itself at this time: of a timer its due value, of a channel the next value, or nothing more where it was closed.
--- A mutex gives itself where nobody has it, and a WaitGroup where its counter is 0
+-- A mutex gives itself where nobody has it, a WaitGroup where its counter is 0, and a context where it was made and has ended
 abbrev pub gives_told : Script → List Entry → ℕ → ℕ → Option What → Bool
 gives_told script front now o None = false
 gives_told script front now o (Some What.Timer) = is_due (due_told o front) now
@@ -103,6 +120,9 @@ gives_told script front now o (Some (What.Chan cap)) = nat_lt (taken_told o fron
 gives_told script front now o (Some What.Mutex) = not (held_told script o front)
 gives_told script front now o (Some What.Wg) = counter_told o front == 0
 gives_told script front now o (Some (What.Cond mutex)) = false
+gives_told script front now o (Some (What.Ctx parent form)) = derived_told o front && ended_told script o front
+gives_told script front now o (Some (What.Hook ctx func)) = false
+gives_told script front now o (Some What.Error) = false
 gives_told script front now o (Some What.Function) = false
 
 -- whether an operation can go on by itself at this time, with a partner, and at all, by goroutine g
@@ -137,6 +157,12 @@ can_be_done script front g now (Instr.Signal k) = true
 can_be_done script front g now (Instr.Broadcast k) = true
 can_be_done script front g now (Instr.Add w n) = true
 can_be_done script front g now (Instr.Wait w) = can_operate script front g now (CaseKind.Recv w)
+can_be_done script front g now (Instr.With x) = true
+can_be_done script front g now (Instr.Cancel x cause) = true
+can_be_done script front g now (Instr.ErrOf x) = true
+can_be_done script front g now (Instr.CauseOf x) = true
+can_be_done script front g now (Instr.After s) = true
+can_be_done script front g now (Instr.Unhook s) = true
 can_be_done script front g now (Instr.LoopTop depth count past) = false
 can_be_done script front g now (Instr.LoopEnd depth top) = false
 can_be_done script front g now (Instr.Jump to) = false
@@ -158,10 +184,11 @@ goes_on_in script front g now place (signalled k) = not (held_told script (mutex
 abbrev pub goes_on_told : Script → ℕ → List Entry → Bool
 goes_on_told script g front = goes_on_in script front g (now_told script g front) (place_told script g front) (wait_told script g front)
 
--- nobody goes on, and no AfterFunc timer has come to its time
+-- nobody goes on, and no AfterFunc timer and no context that has not ended has come to its time
 pub record IsStillTold (script : Script) (front : List Entry) : Type 0 where
   pub nobody : (g : ℕ) → goes_on_told script g front ≡ false
   pub no_func : (t : ℕ) → IsTrue (is_func script t) → is_due (due_told t front) (clock_told (owner_told script t front) front) ≡ false
+  pub no_deadline : (x : ℕ) → ended_told script x front ≡ false → own_is_due script x front ≡ false
 
 -- ---- the times that are still to come
 
@@ -184,11 +211,19 @@ due_counted script w front e = elim e.1 [
   | Some r ↦ cond (r.owner == w && (is_func script e.0 || waited_told script w e.0 front)) (due_told e.0 front) None
 ]
 
--- the counted times of world w: the ends of its sleeps, and the due times of its timers that count
+-- the own deadline of a context of world w counts where that has not ended
+abbrev pub own_counted : Script → ℕ → List Entry → ℕ × Option ℕ → Option ℕ
+own_counted script w front e = elim e.1 [
+  | None ↦ None
+  | Some owner ↦ cond (owner == w && not (ended_told script e.0 front)) (own_told script e.0 front) None
+]
+
+-- the counted times of world w: the ends of its sleeps, the due times of its timers that count, and the deadlines of its contexts that have not ended
 abbrev pub counted_told : Script → ℕ → List Entry → List ℕ
 counted_told script w front =
     filter_map (sleep_in w) (everyone_told script front).goroutines
     ++ filter_map (due_counted script w front) (enumerate_from 0 (everyone_told script front).timers)
+    ++ filter_map (own_counted script w front) (enumerate_from 0 (everyone_told script front).contexts)
 
 -- nothing can go on: the program stands still, and no time is still to come
 pub record IsStuckTold (script : Script) (front : List Entry) : Type 0 where

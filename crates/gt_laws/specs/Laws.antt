@@ -1,16 +1,22 @@
 -- What each complete history keeps, read from its entries and its script alone. Each law says of each kind of entry, or of call, what it asks: Unit {0}
 -- where nothing.
-use Rattle.std.specs.Prelude.{ℕ, ℤ, zero, suc, ◌+◌, ◌≡◌, ◌≢◌, ◌<◌, ◌≤◌, List, ◌∷◌, ◌++◌, length, slice_get, Bool, true, false, ◌&&◌, cond, is_some, IsTrue, IsSome, IsSomeAnd}
+use Rattle.std.specs.Prelude.{ℕ, ℤ, zero, suc, ◌+◌, ◌≡◌, ◌≢◌, ◌<◌, ◌≤◌, List, [], ◌∷◌, ◌++◌, length, slice_get, Bool, true, false, not, ◌&&◌, cond, is_some, IsTrue, IsSome, IfSome, IsSomeAnd}
+use Rattle.std.specs.List.{Contains}
 use Rattle.std.specs.declared.option.Option.{Option}
 use Rattle.std.specs.declared.option.Option.TheVariants.{None, Some}
 use Rattle.gt_model.specs.declared.script.Script.{Script}
 use Rattle.gt_model.specs.declared.script.Instr.{Instr}
 use Rattle.gt_model.specs.declared.entry.Entry.{Entry}
 use Rattle.gt_model.specs.declared.entry.Party.{Party}
-use Rattle.gt_model.specs.Script.{is_timer, is_ticker, is_func, is_chan, is_mutex, is_wg, mutex_of, capacity_of}
+use Rattle.gt_model.specs.declared.context.ErrVal.{ErrVal}
+use Rattle.gt_model.specs.declared.context.CauseVal.{CauseVal}
+use Rattle.gt_model.specs.declared.context.HookState.{HookState}
+use Rattle.gt_model.specs.Script.{is_timer, is_ticker, is_func, is_chan, is_mutex, is_wg, is_ctx, mutex_of, capacity_of, parent_of, ctx_of}
 use Rattle.gt_model.specs.Times.{greatest_time}
+use Rattle.gt_rules.specs.Contexts.{is_waiting_hook}
 use Rattle.gt_rules.specs.Legal.{due_at, sleep_end, LeavesBy}
-use Rattle.gt_laws.specs.Told.{suspended, signalled, clock_told, due_told, made_told, opened_told, closed_told, sent_told, taken_told, held_told, counter_told, now_told, owner_told, period_told, stands_told, operation_told, polls_told, started_told, until_told, wait_told, suspended_told}
+use Rattle.gt_laws.specs.Told.{suspended, signalled, clock_told, due_told, made_told, opened_told, closed_told, sent_told, taken_told, held_told, counter_told, derived_told, registered_told, now_told, owner_told, period_told, stands_told, operation_told, polls_told, started_told, until_told, wait_told, suspended_told, hook_told, starts_told}
+use Rattle.gt_laws.specs.Contexts.{ended_told, error_told, cause_told, hook_due_told, ends_at_once, own_is_due}
 use Rattle.gt_model.specs.declared.entry.Reason.{Reason}
 use Rattle.gt_model.specs.declared.script.CaseKind.{CaseKind}
 use Rattle.gt_rules.specs.Operations.{operation, offers}
@@ -21,7 +27,8 @@ use Rattle.gt_laws.specs.GoesOn.{misuse_in, misuse_told, misused_case, alone_tol
 abbrev pub AtEach : (List Entry → Entry → Type 0) → List Entry → Type 0
 AtEach P h = (front : List Entry) (e : Entry) (rest : List Entry) → h ≡ front ++ e ∷ rest → P front e
 
--- Nothing comes before its time: a goroutine wakes, a timer fires and its value is received where the clock of their world has come to that time.
+-- Nothing comes before its time: a goroutine wakes, a timer fires and its value is received, and a context comes to its own deadline, where the clock of their
+-- world has come to that time.
 -- Who looks at the clock sees it. The program's clock rises, never past the greatest time, and there is no other
 abbrev pub InTime : Script → List Entry → Entry → Type 0
 InTime script front (Entry.Say g n) = Unit {0}
@@ -49,6 +56,14 @@ InTime script front (Entry.Signal g k woken) = Unit {0}
 InTime script front (Entry.Broadcast g k count) = Unit {0}
 InTime script front (Entry.Add g w n) = Unit {0}
 InTime script front (Entry.WgWait g w) = Unit {0}
+InTime script front (Entry.CtxMake g x ended) = Unit {0}
+InTime script front (Entry.Cancel g x newly starts) = Unit {0}
+InTime script front (Entry.Expire x starts) = IsTrue (own_is_due script x front)
+InTime script front (Entry.CtxErr g x err) = Unit {0}
+InTime script front (Entry.Cause g x cause) = Unit {0}
+InTime script front (Entry.CtxDone p x) = Unit {0}
+InTime script front (Entry.CtxAfter g s child) = Unit {0}
+InTime script front (Entry.CtxStop g s stopped) = Unit {0}
 InTime script front (Entry.Clock zero to) = (clock_told 0 front < to) × (to ≤ greatest_time)
 InTime script front (Entry.Clock (suc world) to) = ⊥
 InTime script front (Entry.Panic p reason) = Unit {0}
@@ -88,6 +103,14 @@ IsFresh script front (Entry.Signal g k woken) = Unit {0}
 IsFresh script front (Entry.Broadcast g k count) = Unit {0}
 IsFresh script front (Entry.Add g w n) = Unit {0}
 IsFresh script front (Entry.WgWait g w) = Unit {0}
+IsFresh script front (Entry.CtxMake g x ended) = Unit {0}
+IsFresh script front (Entry.Cancel g x newly starts) = Unit {0}
+IsFresh script front (Entry.Expire x starts) = Unit {0}
+IsFresh script front (Entry.CtxErr g x err) = Unit {0}
+IsFresh script front (Entry.Cause g x cause) = Unit {0}
+IsFresh script front (Entry.CtxDone p x) = Unit {0}
+IsFresh script front (Entry.CtxAfter g s child) = Unit {0}
+IsFresh script front (Entry.CtxStop g s stopped) = Unit {0}
 IsFresh script front (Entry.Clock world to) = Unit {0}
 IsFresh script front (Entry.Panic p reason) = Unit {0}
 IsFresh script front (Entry.Finish outcome) = Unit {0}
@@ -97,7 +120,8 @@ IsFresh script front (Entry.Finish outcome) = Unit {0}
 -- and a setting is due, as long after the goroutine's clock as the instruction says. A plain call has the case number 0, and the call of a case the number
 -- of the case, from 1. A default is that of a choice. The value of a timer comes from a timer, that of a channel from a channel; what is locked is a mutex, and
 -- what is waited for a WaitGroup. Where a value passes from one goroutine to another, these are two, who stand at the send and at the receive. Who waits at a
--- Cond goes on once it was signalled there: so each wake-up answers one signal or broadcast that came after its wait
+-- Cond goes on once it was signalled there: so each wake-up answers one signal or broadcast that came after its wait. Who finds a context ended waits for a
+-- context, and who starts by a hook at once has the next number
 abbrev pub InOrder : Script → List Entry → Entry → Type 0
 InOrder script front (Entry.Say g n) = stands_told script g front ≡ Some (Instr.Say n)
 InOrder script front (Entry.Now g at) = stands_told script g front ≡ Some Instr.Now
@@ -125,6 +149,14 @@ InOrder script front (Entry.Signal g k woken) = stands_told script g front ≡ S
 InOrder script front (Entry.Broadcast g k count) = stands_told script g front ≡ Some (Instr.Broadcast k)
 InOrder script front (Entry.Add g w n) = stands_told script g front ≡ Some (Instr.Add w n)
 InOrder script front (Entry.WgWait g w) = (stands_told script g front ≡ Some (Instr.Wait w)) × IsTrue (is_wg script w)
+InOrder script front (Entry.CtxMake g x ended) = stands_told script g front ≡ Some (Instr.With x)
+InOrder script front (Entry.Cancel g x newly starts) = (named : Option ℕ) × (stands_told script g front ≡ Some (Instr.Cancel x named))
+InOrder script front (Entry.Expire x starts) = Unit {0}
+InOrder script front (Entry.CtxErr g x err) = stands_told script g front ≡ Some (Instr.ErrOf x)
+InOrder script front (Entry.Cause g x cause) = stands_told script g front ≡ Some (Instr.CauseOf x)
+InOrder script front (Entry.CtxDone p x) = (operation_told script p front ≡ Some (CaseKind.Recv x)) × IsTrue (is_ctx script x)
+InOrder script front (Entry.CtxAfter g s child) = (stands_told script g front ≡ Some (Instr.After s)) × IfSome child (λ k. k ≡ started_told front + 1)
+InOrder script front (Entry.CtxStop g s stopped) = stands_told script g front ≡ Some (Instr.Unhook s)
 InOrder script front (Entry.Clock world to) = Unit {0}
 InOrder script front (Entry.Panic p reason) = IsSome (stands_told script p.g front)
 InOrder script front (Entry.Finish outcome) = Unit {0}
@@ -144,10 +176,15 @@ IsMisuse front i case_no reason None = ChoosesMisuse front (operation i case_no)
 abbrev pub IsNoMisuse : Script → List Entry → ℕ → Type 0
 IsNoMisuse script front g = misuse_in script front (stands_told script g front) ≡ None
 
+-- the context was made that is named, if one is: a declared parent, or the context of a hook
+abbrev pub AreDerived : List Entry → Option ℕ → Type 0
+AreDerived front o = IfSome o (λ x. derived_told x front ≡ true)
+
 -- A call is no misuse, and a panic is one: its goroutine stands at an instruction that is a misuse for this reason, or chooses a case that sends to a
 -- closed channel. So a timer and a channel are made once, and used where they were made; a ticker has a time between its ticks; a channel is closed once, and
 -- nothing is sent to it then; a mutex is unlocked where it is locked, be it by a wait at a Cond, and nothing brings the counter of a WaitGroup below 0. Where a
--- choice goes on, each of its cases names what was made
+-- choice goes on, each of its cases names what was made. A context is made once, where its parent was made, and used where it was; a hook is registered once,
+-- where its context was made, and taken back where it was registered
 abbrev pub UsesRightly : Script → List Entry → Entry → Type 0
 UsesRightly script front (Entry.Say g n) = Unit {0}
 UsesRightly script front (Entry.Now g at) = Unit {0}
@@ -175,10 +212,36 @@ UsesRightly script front (Entry.Signal g k woken) = Unit {0}
 UsesRightly script front (Entry.Broadcast g k count) = Unit {0}
 UsesRightly script front (Entry.Add g w n) = falls_below (counter_told w front) n ≡ false
 UsesRightly script front (Entry.WgWait g w) = Unit {0}
+UsesRightly script front (Entry.CtxMake g x ended) = (derived_told x front ≡ false) × AreDerived front (parent_of script x)
+UsesRightly script front (Entry.Cancel g x newly starts) = derived_told x front ≡ true
+UsesRightly script front (Entry.Expire x starts) = derived_told x front ≡ true
+UsesRightly script front (Entry.CtxErr g x err) = derived_told x front ≡ true
+UsesRightly script front (Entry.Cause g x cause) = derived_told x front ≡ true
+UsesRightly script front (Entry.CtxDone p x) = (derived_told x front ≡ true) × IsNoMisuse script front p.g
+UsesRightly script front (Entry.CtxAfter g s child) = (registered_told s front ≡ false) × AreDerived front (ctx_of script s)
+UsesRightly script front (Entry.CtxStop g s stopped) = registered_told s front ≡ true
 UsesRightly script front (Entry.Clock world to) = Unit {0}
 UsesRightly script front (Entry.Panic p reason) =
     (i : Instr) × (stands_told script p.g front ≡ Some i) × IsMisuse front i p.case_no reason (misuse_told script front i)
 UsesRightly script front (Entry.Finish outcome) = Unit {0}
+
+-- what an entry does to a context or a hook
+pub data TreeCall : Type 0 where
+  -- a goroutine makes a context; whether it has ended at once
+  derives : ℕ → ℕ → Bool → TreeCall
+  -- a context is canceled; whether it had not ended before, and how many hooks are started by its end
+  cancels : ℕ → Bool → ℕ → TreeCall
+  -- a context comes to its deadline; how many hooks are started by its end
+  expires : ℕ → ℕ → TreeCall
+  -- the error of a context, or the cause of its end, is looked at; none before its end
+  shows_error : ℕ → Option ErrVal → TreeCall
+  shows_cause : ℕ → Option CauseVal → TreeCall
+  -- a context is found ended
+  finds_ended : ℕ → TreeCall
+  -- a hook is registered; who was started at once, where its context has ended
+  hangs : ℕ → Option ℕ → TreeCall
+  -- a hook is taken back; whether that kept it from being started
+  takes_back : ℕ → Bool → TreeCall
 
 -- what an entry does to an object that is no timer, as far as the laws below ask for it; and that a default is taken
 pub data Call : Type 0 where
@@ -205,6 +268,8 @@ pub data Call : Type 0 where
   adds_to : ℕ → ℤ → Call
   -- a goroutine goes on behind its wait for a WaitGroup
   ends_wait : ℕ → Call
+  -- something is done to a context or a hook
+  of_tree : TreeCall → Call
   -- none of these
   other : Call
 
@@ -234,6 +299,14 @@ call_of (Entry.Signal g k woken) = signals_one k woken
 call_of (Entry.Broadcast g k count) = signals_all k count
 call_of (Entry.Add g w n) = adds_to w n
 call_of (Entry.WgWait g w) = ends_wait w
+call_of (Entry.CtxMake g x ended) = of_tree (derives g x ended)
+call_of (Entry.Cancel g x newly starts) = of_tree (cancels x newly starts)
+call_of (Entry.Expire x starts) = of_tree (expires x starts)
+call_of (Entry.CtxErr g x err) = of_tree (shows_error x err)
+call_of (Entry.Cause g x cause) = of_tree (shows_cause x cause)
+call_of (Entry.CtxDone p x) = of_tree (finds_ended x)
+call_of (Entry.CtxAfter g s child) = of_tree (hangs s child)
+call_of (Entry.CtxStop g s stopped) = of_tree (takes_back s stopped)
 call_of (Entry.Clock world to) = other
 call_of (Entry.Panic p reason) = other
 call_of (Entry.Finish outcome) = other
@@ -256,6 +329,7 @@ CallPassesOn script front (signals_one k woken) = Unit {0}
 CallPassesOn script front (signals_all k count) = Unit {0}
 CallPassesOn script front (adds_to w n) = Unit {0}
 CallPassesOn script front (ends_wait w) = Unit {0}
+CallPassesOn script front (of_tree c) = Unit {0}
 CallPassesOn script front other = Unit {0}
 
 abbrev pub PassesOn : Script → List Entry → Entry → Type 0
@@ -281,6 +355,7 @@ CallChoosesRightly script front (signals_one k woken) = Unit {0}
 CallChoosesRightly script front (signals_all k count) = Unit {0}
 CallChoosesRightly script front (adds_to w n) = Unit {0}
 CallChoosesRightly script front (ends_wait w) = Unit {0}
+CallChoosesRightly script front (of_tree c) = Unit {0}
 CallChoosesRightly script front other = Unit {0}
 
 abbrev pub ChoosesRightly : Script → List Entry → Entry → Type 0
@@ -302,6 +377,7 @@ CallIsAlone script front (signals_one k woken) = Unit {0}
 CallIsAlone script front (signals_all k count) = Unit {0}
 CallIsAlone script front (adds_to w n) = Unit {0}
 CallIsAlone script front (ends_wait w) = Unit {0}
+CallIsAlone script front (of_tree c) = Unit {0}
 CallIsAlone script front other = Unit {0}
 
 abbrev pub IsAlone : Script → List Entry → Entry → Type 0
@@ -322,6 +398,7 @@ CallAddsUp front (signals_one k woken) = Unit {0}
 CallAddsUp front (signals_all k count) = Unit {0}
 CallAddsUp front (adds_to w n) = falls_below (counter_told w front) n ≡ false
 CallAddsUp front (ends_wait w) = counter_told w front ≡ 0
+CallAddsUp front (of_tree c) = Unit {0}
 CallAddsUp front other = Unit {0}
 
 abbrev pub AddsUp : List Entry → Entry → Type 0
@@ -344,7 +421,90 @@ CallIsSignalled script front (signals_one k (Some g)) = wait_told script g front
 CallIsSignalled script front (signals_all k count) = count ≡ suspended_told script k front
 CallIsSignalled script front (adds_to w n) = Unit {0}
 CallIsSignalled script front (ends_wait w) = Unit {0}
+CallIsSignalled script front (of_tree c) = Unit {0}
 CallIsSignalled script front other = Unit {0}
 
 abbrev pub IsSignalled : Script → List Entry → Entry → Type 0
 IsSignalled script front e = CallIsSignalled script front (call_of e)
+
+-- A context keeps the first cause of its end. Its end is the first one that reaches it: its own, or that of a context above it, be it canceled or come to its
+-- deadline; what its error and its cause show is of that end, and nothing before it. It is found ended only after it. One that is made has ended at once exactly
+-- where an end has reached it, or its own deadline has come; a cancellation says whether it brought the end; and a deadline ends only a context whose own it is,
+-- not before, and that has no end yet. So no context ends twice
+abbrev pub TreeKeepsFirstCause : Script → List Entry → TreeCall → Type 0
+TreeKeepsFirstCause script front (derives g x ended) = ended ≡ ends_at_once script g x front
+TreeKeepsFirstCause script front (cancels x newly starts) = newly ≡ not (ended_told script x front)
+TreeKeepsFirstCause script front (expires x starts) = (ended_told script x front ≡ false) × IsTrue (own_is_due script x front)
+TreeKeepsFirstCause script front (shows_error x err) = err ≡ error_told script x front
+TreeKeepsFirstCause script front (shows_cause x cause) = cause ≡ cause_told script x front
+TreeKeepsFirstCause script front (finds_ended x) = ended_told script x front ≡ true
+TreeKeepsFirstCause script front (hangs s child) = Unit {0}
+TreeKeepsFirstCause script front (takes_back s stopped) = Unit {0}
+
+abbrev pub CallKeepsFirstCause : Script → List Entry → Call → Type 0
+CallKeepsFirstCause script front (sends c v) = Unit {0}
+CallKeepsFirstCause script front (receives c v) = Unit {0}
+CallKeepsFirstCause script front (hands_over from to c v) = Unit {0}
+CallKeepsFirstCause script front (closes c) = Unit {0}
+CallKeepsFirstCause script front (defaults g) = Unit {0}
+CallKeepsFirstCause script front (locks m) = Unit {0}
+CallKeepsFirstCause script front (unlocks m) = Unit {0}
+CallKeepsFirstCause script front (releases k) = Unit {0}
+CallKeepsFirstCause script front (retakes k) = Unit {0}
+CallKeepsFirstCause script front (signals_one k woken) = Unit {0}
+CallKeepsFirstCause script front (signals_all k count) = Unit {0}
+CallKeepsFirstCause script front (adds_to w n) = Unit {0}
+CallKeepsFirstCause script front (ends_wait w) = Unit {0}
+CallKeepsFirstCause script front (of_tree c) = TreeKeepsFirstCause script front c
+CallKeepsFirstCause script front other = Unit {0}
+
+abbrev pub KeepsFirstCause : Script → List Entry → Entry → Type 0
+KeepsFirstCause script front e = CallKeepsFirstCause script front (call_of e)
+
+-- A hook starts once: with the end of its context, or at once where that has ended. An end starts as many as wait on the contexts that it reaches, and a
+-- cancellation that brings no end starts none. Who takes a hook back keeps it from being started exactly where it waits
+abbrev pub TreeHooksOnce : Script → List Entry → TreeCall → Type 0
+TreeHooksOnce script front (derives g x ended) = Unit {0}
+TreeHooksOnce script front (cancels x newly starts) = starts ≡ cond newly (length (starts_told script x front)) 0
+TreeHooksOnce script front (expires x starts) = starts ≡ length (starts_told script x front)
+TreeHooksOnce script front (shows_error x err) = Unit {0}
+TreeHooksOnce script front (shows_cause x cause) = Unit {0}
+TreeHooksOnce script front (finds_ended x) = Unit {0}
+TreeHooksOnce script front (hangs s child) = is_some child ≡ hook_due_told script s front
+TreeHooksOnce script front (takes_back s stopped) = stopped ≡ is_waiting_hook (hook_told script s front)
+
+abbrev pub CallHooksOnce : Script → List Entry → Call → Type 0
+CallHooksOnce script front (sends c v) = Unit {0}
+CallHooksOnce script front (receives c v) = Unit {0}
+CallHooksOnce script front (hands_over from to c v) = Unit {0}
+CallHooksOnce script front (closes c) = Unit {0}
+CallHooksOnce script front (defaults g) = Unit {0}
+CallHooksOnce script front (locks m) = Unit {0}
+CallHooksOnce script front (unlocks m) = Unit {0}
+CallHooksOnce script front (releases k) = Unit {0}
+CallHooksOnce script front (retakes k) = Unit {0}
+CallHooksOnce script front (signals_one k woken) = Unit {0}
+CallHooksOnce script front (signals_all k count) = Unit {0}
+CallHooksOnce script front (adds_to w n) = Unit {0}
+CallHooksOnce script front (ends_wait w) = Unit {0}
+CallHooksOnce script front (of_tree c) = TreeHooksOnce script front c
+CallHooksOnce script front other = Unit {0}
+
+abbrev pub HooksOnce : Script → List Entry → Entry → Type 0
+HooksOnce script front e = CallHooksOnce script front (call_of e)
+
+-- a hook that was started, or kept from it
+abbrev pub is_settled : HookState → Bool
+is_settled HookState.Unregistered = false
+is_settled HookState.Waiting = false
+is_settled HookState.Started = true
+is_settled HookState.Stopped = true
+
+-- A hook that was started stays so, and one that was kept from it is never started
+abbrev pub HooksStay : Script → List Entry → Entry → Type 0
+HooksStay script front e = (s : ℕ) → is_settled (hook_told script s front) ≡ true → hook_told script s (front ++ e ∷ []) ≡ hook_told script s front
+
+-- All looks at one context show the same cause, and the same error, where they show one
+pub record HasOneCause (h : List Entry) : Type 0 where
+  pub causes : (g k x : ℕ) (a b : CauseVal) → Contains h (Entry.Cause g x (Some a)) → Contains h (Entry.Cause k x (Some b)) → a ≡ b
+  pub errors : (g k x : ℕ) (a b : ErrVal) → Contains h (Entry.CtxErr g x (Some a)) → Contains h (Entry.CtxErr k x (Some b)) → a ≡ b

@@ -1,4 +1,5 @@
 pub mod Told
+pub mod Contexts
 pub mod GoesOn
 pub mod Laws
 pub mod Ends

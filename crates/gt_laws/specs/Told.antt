@@ -1,6 +1,6 @@
 -- What the entries of a history tell so far, by what each changes: the machine's state is not named here.
-use Rattle.std.specs.Prelude.{ℕ, ◌+◌, ◌==◌, if◌then◌else◌, Bool, true, false, List, [], ◌∷◌, ◌++◌, length, map, set, count_by}
-use Rattle.std.specs.List.{fold}
+use Rattle.std.specs.Prelude.{ℕ, ◌+◌, ◌==◌, ◌&&◌, cond, if◌then◌else◌, Bool, true, false, List, [], ◌∷◌, ◌++◌, length, map, filter, set, count_by, slice_index, slice_index_or}
+use Rattle.std.specs.List.{fold, list_any, enumerate_from}
 use Rattle.std.specs.declared.option.Option.{Option}
 use Rattle.std.specs.declared.option.Option.TheVariants.{None, Some}
 use Rattle.std.specs.Option.{option_map, option_and_then, unwrap_or}
@@ -10,18 +10,21 @@ use Rattle.gt_model.specs.declared.script.Instr.{Instr}
 use Rattle.gt_model.specs.declared.script.Place.{Place}
 use Rattle.gt_model.specs.declared.entry.Entry.{Entry}
 use Rattle.gt_model.specs.declared.state.Ending.{Ending}
+use Rattle.gt_model.specs.declared.context.HookState.{HookState}
 use Rattle.gt_model.specs.Tables.{numbered, at, change, change_numbered}
-use Rattle.gt_model.specs.Script.{instr_at, func_of, mutex_of}
+use Rattle.gt_model.specs.Script.{instr_at, func_of, mutex_of, ctx_of, hook_func}
 use Rattle.gt_model.specs.declared.script.CaseKind.{CaseKind}
 use Rattle.gt_model.specs.declared.entry.Party.{Party}
 use Rattle.gt_rules.specs.Places.{first_place, place_after}
 use Rattle.gt_rules.specs.After.{added, duration_of, period_of}
+use Rattle.gt_rules.specs.Contexts.{heeded, above, is_waiting_hook, unhooked}
 use Rattle.gt_rules.specs.Operations.{operation, polls}
 use Rattle.gt_rules.specs.declared.change.Move.{Move}
 use Rattle.gt_rules.specs.declared.change.Setting.{Setting}
 use Rattle.gt_rules.specs.declared.change.Start.{Start}
 use Rattle.gt_rules.specs.declared.change.SyncStep.{SyncStep}
 use Rattle.gt_rules.specs.declared.change.Trade.{Trade}
+use Rattle.gt_rules.specs.declared.change.TreeStep.{TreeStep}
 use Rattle.gt_rules.specs.Change.{Change, change_of}
 
 -- what these entries make of v, each by its change
@@ -147,6 +150,34 @@ counter_by w counter c = elim c.sync [ None ↦ counter | Some x ↦ if x.0 == w
 abbrev pub counter_told : ℕ → List Entry → ℕ
 counter_told w h = told (counter_by w) 0 h
 
+-- whether context x was made
+abbrev pub derives : TreeStep → Bool → Bool
+derives TreeStep.Derived was = true
+derives TreeStep.Canceled was = was
+derives TreeStep.Expired was = was
+derives TreeStep.Registered was = was
+derives TreeStep.Unhooked was = was
+
+abbrev pub derived_by : ℕ → Bool → Change → Bool
+derived_by x was c = elim c.tree [ None ↦ was | Some y ↦ if y.0 == x then derives y.1 was else was ]
+
+abbrev pub derived_told : ℕ → List Entry → Bool
+derived_told x h = told (derived_by x) false h
+
+-- whether hook k was registered
+abbrev pub registers : TreeStep → Bool → Bool
+registers TreeStep.Derived was = was
+registers TreeStep.Canceled was = was
+registers TreeStep.Expired was = was
+registers TreeStep.Registered was = true
+registers TreeStep.Unhooked was = was
+
+abbrev pub registered_by : ℕ → Bool → Change → Bool
+registered_by k was c = elim c.tree [ None ↦ was | Some y ↦ if y.0 == k then registers y.1 was else was ]
+
+abbrev pub registered_told : ℕ → List Entry → Bool
+registered_told k h = told (registered_by k) false h
+
 -- how a run ends: with main's function, with a panic, or with a finish that gives its outcome
 abbrev pub ending_by : Ending → Change → Ending
 ending_by ending c = unwrap_or c.ending ending
@@ -188,10 +219,12 @@ pub record ToldTimer : Type 0 where
   pub owner : ℕ
   pub period : ℕ
 
--- the goroutines by number, from 1, and the timers that were made, by declaration
+-- the goroutines by number, from 1; and by declaration the timers that were made, the worlds of the contexts that were, and what has become of the hooks
 pub record Everyone : Type 0 where
   pub goroutines : List ToldGoroutine
   pub timers : List (Option ToldTimer)
+  pub contexts : List (Option ℕ)
+  pub hooks : List HookState
 
 abbrev pub place_of : Option ToldGoroutine → Option Place
 place_of None = None
@@ -254,9 +287,35 @@ with_woken rs (Some k) = map (waken k) rs
 abbrev pub beginner : Script → ℕ → ℕ → ToldGoroutine
 beginner script world f = record { world = world; place = Some (first_place script f); wait = awake }
 
+-- whether the end of context x reaches context y: it is y, or one above it
+abbrev pub reaches : Script → ℕ → ℕ → Bool
+reaches script x y = list_any (λ z. z == x) (above (heeded script) y)
+
+abbrev pub reaches_some : Script → ℕ → Option ℕ → Bool
+reaches_some script x None = false
+reaches_some script x (Some y) = reaches script x y
+
+-- whether hook e.0, of which e.1 has become, waits on a context that the end of x reaches. A hook waits no more once its context has ended
+abbrev pub is_hook_started : Script → ℕ → ℕ × HookState → Bool
+is_hook_started script x e = is_waiting_hook e.1 && reaches_some script x (ctx_of script e.0)
+
+-- the hooks that the end of x starts, in the order of their declarations
+abbrev pub hooks_started : Script → List HookState → ℕ → List ℕ
+hooks_started script hooks x = map (λ (e : ℕ × HookState). e.0) (filter (is_hook_started script x) (enumerate_from 0 hooks))
+
+-- the world of a hook: that of its context
+abbrev pub owner_of : List (Option ℕ) → Option ℕ → ℕ
+owner_of contexts None = 0
+owner_of contexts (Some x) = unwrap_or (at contexts x) 0
+
+abbrev pub begun_hook : Script → Everyone → ℕ → ToldGoroutine
+begun_hook script all k = beginner script (owner_of all.contexts (ctx_of script k)) (hook_func script k)
+
 abbrev pub begun_by : Script → Everyone → Start → ToldGoroutine
 begun_by script all (Start.ByGoroutine g f) = beginner script (world_in (numbered all.goroutines g)) f
 begun_by script all (Start.ByTimer t) = beginner script (owner_in (at all.timers t)) (func_of script t)
+begun_by script all (Start.ByHook k) = begun_hook script all k
+begun_by script all (Start.ByEnd x i) = begun_hook script all (slice_index (hooks_started script all.hooks x) i)
 
 -- a timer that somebody makes is of that one's world, and has the period of that one's instruction
 abbrev pub mover_world : List ToldGoroutine → Option (ℕ × Move) → ℕ
@@ -282,14 +341,57 @@ abbrev pub with_timed : Script → List ToldGoroutine → Option (ℕ × Move) �
 with_timed script rs m timers None = timers
 with_timed script rs m timers (Some x) = timed script rs m x.0 timers x.1
 
+-- a context that somebody makes is of that one's world
+abbrev pub derive_in : ℕ → List (Option ℕ) → ℕ → TreeStep → List (Option ℕ)
+derive_in w contexts x TreeStep.Derived = set contexts x (Some w)
+derive_in w contexts x TreeStep.Canceled = contexts
+derive_in w contexts x TreeStep.Expired = contexts
+derive_in w contexts x TreeStep.Registered = contexts
+derive_in w contexts x TreeStep.Unhooked = contexts
+
+abbrev pub with_derived : ℕ → List (Option ℕ) → Option (ℕ × TreeStep) → List (Option ℕ)
+with_derived w contexts None = contexts
+with_derived w contexts (Some x) = derive_in w contexts x.0 x.1
+
+-- a hook that somebody registers waits, or somebody starts by it at once
+abbrev pub registered_as : List Start → HookState
+registered_as [] = HookState.Waiting
+registered_as (x ∷ xs) = HookState.Started
+
+-- the end of context x starts the hooks that wait on it and on those that it reaches
+abbrev pub at_end : Script → ℕ → ℕ × HookState → HookState
+at_end script x e = cond (is_hook_started script x e) HookState.Started e.1
+
+abbrev pub all_at_end : Script → ℕ → List HookState → List HookState
+all_at_end script x hooks = map (at_end script x) (enumerate_from 0 hooks)
+
+-- and a hook that waits is kept from being started by who takes it back
+abbrev pub hooks_in : Script → List Start → List HookState → ℕ → TreeStep → List HookState
+hooks_in script starts hooks x TreeStep.Derived = hooks
+hooks_in script starts hooks x TreeStep.Canceled = all_at_end script x hooks
+hooks_in script starts hooks x TreeStep.Expired = all_at_end script x hooks
+hooks_in script starts hooks x TreeStep.Registered = change hooks x (λ was. registered_as starts)
+hooks_in script starts hooks x TreeStep.Unhooked = change hooks x unhooked
+
+abbrev pub with_hooks : Script → List Start → List HookState → Option (ℕ × TreeStep) → List HookState
+with_hooks script starts hooks None = hooks
+with_hooks script starts hooks (Some x) = hooks_in script starts hooks x.0 x.1
+
 abbrev pub everyone_by : Script → Everyone → Change → Everyone
 everyone_by script all c = record {
   goroutines = with_woken (with_led script (with_led script all.goroutines c.mover) c.partner) c.broadcast ++ map (begun_by script all) c.starts;
   timers = with_timed script all.goroutines c.mover all.timers c.timer;
+  contexts = with_derived (mover_world all.goroutines c.mover) all.contexts c.tree;
+  hooks = with_hooks script c.starts all.hooks c.tree;
 }
 
 abbrev pub everyone_first : Script → Everyone
-everyone_first script = record { goroutines = beginner script 0 script.main ∷ []; timers = map (λ (d : Decl). None) script.decls }
+everyone_first script = record {
+  goroutines = beginner script 0 script.main ∷ [];
+  timers = map (λ (d : Decl). None) script.decls;
+  contexts = map (λ (d : Decl). None) script.decls;
+  hooks = map (λ (d : Decl). HookState.Unregistered) script.decls;
+}
 
 abbrev pub everyone_told : Script → List Entry → Everyone
 everyone_told script h = told (everyone_by script) (everyone_first script) h
@@ -307,6 +409,17 @@ owner_told script t h = owner_in (at (everyone_told script h).timers t)
 -- the time between two ticks of timer t: that of its last setting
 abbrev pub period_told : Script → ℕ → List Entry → ℕ
 period_told script t h = period_in (at (everyone_told script h).timers t)
+
+-- the world of context x
+abbrev pub ctx_world_told : Script → ℕ → List Entry → ℕ
+ctx_world_told script x h = owner_of (everyone_told script h).contexts (Some x)
+
+-- what has become of hook k, and the hooks that the end of x starts
+abbrev pub hook_told : Script → ℕ → List Entry → HookState
+hook_told script k h = slice_index_or (everyone_told script h).hooks k HookState.Unregistered
+
+abbrev pub starts_told : Script → ℕ → List Entry → List ℕ
+starts_told script x h = hooks_started script (everyone_told script h).hooks x
 
 abbrev pub now_told : Script → ℕ → List Entry → ℕ
 now_told script g h = clock_told (world_told script g h) h

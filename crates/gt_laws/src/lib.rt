@@ -19,7 +19,7 @@ ghost use Rattle.gt_facts.specs.Quiet.{IsQuiet};
 ghost use Rattle.gt_rules.specs.Finish.{IsIdle};
 ghost use Rattle.gt_facts.specs.Still.{IsStill};
 ghost use Rattle.gt_laws.specs.Told.{ending_told};
-ghost use Rattle.gt_laws.specs.Laws.{AtEach, InOrder, InTime, IsFresh, PassesOn, UsesRightly, ChoosesRightly, IsAlone, AddsUp, IsSignalled};
+ghost use Rattle.gt_laws.specs.Laws.{AtEach, InOrder, InTime, IsFresh, PassesOn, UsesRightly, ChoosesRightly, IsAlone, AddsUp, IsSignalled, KeepsFirstCause, HooksOnce, HooksStay, HasOneCause};
 ghost use Rattle.gt_laws.specs.Unrolled.{InTurn, turn_of};
 ghost use Rattle.gt_laws.specs.Ends.{EndsRightly, EndsWhereStuck, JumpsToLeast};
 ghost use Rattle.gt_laws.specs.GoesOn.{counted_told, IsStillTold, IsStuckTold};
@@ -94,6 +94,33 @@ pub fn a_wait_ends_at_zero()
         → IsGood script → History script limits h outcome → AtEach AddsUp h }
 {}
 
+/// A context keeps the first cause of its end. Its end is the first one that reaches it, be it its own or that of a context above it; what its error and its cause
+/// show is of that end, and nothing before it. A context is found ended only after it, a cancellation says whether it brought the end, and a deadline ends only a
+/// context whose own it is, not before, and that has no end yet: so no context ends twice.
+pub fn a_context_keeps_its_first_cause()
+    ensures { (script : Script) (limits : Limits) (h : List Entry) (outcome : Outcome)
+        → IsGood script → History script limits h outcome → AtEach (KeepsFirstCause script) h }
+{}
+
+/// All looks at one context show the same cause, and the same error, where they show one.
+pub fn a_context_has_one_cause()
+    ensures { (script : Script) (limits : Limits) (h : List Entry) (outcome : Outcome)
+        → IsGood script → History script limits h outcome → HasOneCause h }
+{}
+
+/// A hook starts once: with the end of its context, or at once where that has ended. An end starts as many as wait on the contexts that it reaches. Who takes a
+/// hook back keeps it from being started exactly where it waits.
+pub fn a_hook_starts_once()
+    ensures { (script : Script) (limits : Limits) (h : List Entry) (outcome : Outcome)
+        → IsGood script → History script limits h outcome → AtEach (HooksOnce script) h }
+{}
+
+/// A hook that was started stays so, and one that was kept from it is never started.
+pub fn a_hook_stays_as_it_is()
+    ensures { (script : Script) (limits : Limits) (h : List Entry) (outcome : Outcome)
+        → IsGood script → History script limits h outcome → AtEach (HooksStay script) h }
+{}
+
 /// A run ends for its cause: with an exit after the end of main's function, with a panic after a misuse, at its limit, or with a deadlock where
 /// nothing can go on. Nothing comes after.
 pub fn a_run_ends_for_its_cause()
@@ -121,7 +148,7 @@ pub fn what_keeps_the_laws_is_a_history()
     ensures { (script : Script) (limits : Limits) (h : List Entry) (outcome : Outcome)
         → IsGood script → AtEach (InOrder script) h → AtEach (InTime script) h → AtEach (IsFresh script) h → AtEach (UsesRightly script) h
         → AtEach (PassesOn script) h → AtEach (ChoosesRightly script) h → AtEach (IsAlone script) h → AtEach AddsUp h → AtEach (IsSignalled script) h
-        → AtEach (EndsRightly script limits) h → ending_told h ≡ Ending.Finished outcome → History script limits h outcome }
+        → AtEach (KeepsFirstCause script) h → AtEach (HooksOnce script) h → AtEach (EndsRightly script limits) h → ending_told h ≡ Ending.Finished outcome → History script limits h outcome }
 {}
 
 /// Where nothing can go on is told by the entries and the script alone: it is where the machine's state after them stands still and counts no time.
@@ -151,7 +178,7 @@ pub fn a_quiet_program_is_idle()
 
 /// Calls in another order, calls made twice and calls left out are no histories. Nor is a wake-up of who is awake, a sleep within a
 /// sleep, one that is cut short, or a number given twice. Nor is a call of another case's body, or a case that has another number. Nor is a wake-up at a Cond of
-/// who was not signalled, or two after one signal.
+/// who was not signalled, or two after one signal. Nor is a number that one has whom a hook started.
 pub fn calls_out_of_order_break_the_law()
     ensures swapped { ¬ AtEach (InOrder broken.two_calls) broken.swapped }
     ensures twice { ¬ AtEach (InOrder broken.two_calls) broken.twice }
@@ -164,6 +191,7 @@ pub fn calls_out_of_order_break_the_law()
     ensures other_case { ¬ AtEach (InOrder broken.one_choice) broken.other_case }
     ensures wakes_unsignalled { ¬ AtEach (InOrder broken.one_cond) broken.wakes_unsignalled }
     ensures wakes_twice { ¬ AtEach (InOrder broken.one_cond) broken.wakes_twice }
+    ensures number_of_a_hook { ¬ AtEach (InOrder broken.hook_and_start) broken.number_of_a_hook }
 {}
 
 /// A loop of two that is passed once or three times is no history. Nor is a call of a goroutine that is started later: it is not where its turn is.
@@ -185,12 +213,13 @@ pub fn a_choice_leads_into_a_body()
     ensures over { turn_of (code_of broken.two_choices 0) (0 ∷ 1 ∷ 0 ∷ 0 ∷ 0 ∷ []) ≡ Some Instr.Finish }
 {}
 
-/// A sleep that ends early is no history, nor is a clock that falls or passes the greatest time, or a look at it that sees another time.
+/// A sleep that ends early is no history, nor is a clock that falls or passes the greatest time, a look at it that sees another time, or a context that expires early.
 pub fn an_early_wake_breaks_the_law()
     ensures early { ¬ AtEach (InTime broken.one_sleep) broken.early }
     ensures falls_back { ¬ AtEach (InTime broken.one_sleep) broken.falls_back }
     ensures past_all_time { ¬ AtEach (InTime broken.one_sleep) broken.past_all_time }
     ensures wrong_time { ¬ AtEach (InTime broken.one_sleep) broken.wrong_time }
+    ensures expires_early { ¬ AtEach (InTime broken.two_deadlines) broken.expires_early }
 {}
 
 /// A receive of the value of a setting that a later one ended is no history, nor is a stop that denies a setting, a timer that fires after it was stopped,
@@ -237,6 +266,34 @@ pub fn a_lost_signal_breaks_the_law()
     ensures miscounted { ¬ AtEach (IsSignalled broken.one_cond) broken.miscounted }
 {}
 
+/// A context that ends twice is none of a history, nor is a cause that overwrites the first one, a look that shows a cause before the end or none after it, a wait
+/// for the end that ends before it, a deadline that ends a context early, twice or below an earlier one, or a context that is made live below an ended one.
+pub fn a_second_cause_breaks_the_law()
+    ensures ends_twice { ¬ AtEach (KeepsFirstCause broken.two_causes) broken.ends_twice }
+    ensures overwritten { ¬ AtEach (KeepsFirstCause broken.two_causes) broken.overwritten }
+    ensures shows_nothing { ¬ AtEach (KeepsFirstCause broken.two_causes) broken.shows_nothing }
+    ensures shows_early { ¬ AtEach (KeepsFirstCause broken.two_causes) broken.shows_early }
+    ensures found_early { ¬ AtEach (KeepsFirstCause broken.two_causes) broken.found_early }
+    ensures shows_two { ¬ HasOneCause broken.shows_two }
+    ensures expires_early { ¬ AtEach (KeepsFirstCause broken.two_deadlines) broken.expires_early }
+    ensures expires_below { ¬ AtEach (KeepsFirstCause broken.two_deadlines) broken.expires_below }
+    ensures expires_twice { ¬ AtEach (KeepsFirstCause broken.two_deadlines) broken.expires_twice }
+    ensures made_live { ¬ AtEach (KeepsFirstCause broken.two_deadlines) broken.made_live }
+{}
+
+/// A hook that starts after it was taken back, that starts twice, before its context ends or not with it, or that is taken back after it was started, is none of a
+/// history, nor is one that is registered again.
+pub fn a_hook_that_starts_twice_breaks_the_law()
+    ensures starts_stopped { ¬ AtEach (HooksOnce broken.one_hook) broken.starts_stopped }
+    ensures hook_left_out { ¬ AtEach (HooksOnce broken.one_hook) broken.hook_left_out }
+    ensures stop_denied { ¬ AtEach (HooksOnce broken.one_hook) broken.stop_denied }
+    ensures starts_again { ¬ AtEach (HooksOnce broken.one_hook) broken.starts_again }
+    ensures stopped_late { ¬ AtEach (HooksOnce broken.one_hook) broken.stopped_late }
+    ensures starts_early { ¬ AtEach (HooksOnce broken.one_hook) broken.starts_early }
+    ensures waits_late { ¬ AtEach (HooksOnce broken.one_hook) broken.waits_late }
+    ensures registered_again { ¬ AtEach (HooksStay broken.one_hook) broken.registered_again }
+{}
+
 /// A wait that goes on above 0 is none of a history, nor is a counter that falls below 0.
 pub fn a_wait_above_zero_breaks_the_law()
     ensures above_zero { ¬ AtEach AddsUp broken.above_zero }
@@ -244,7 +301,8 @@ pub fn a_wait_above_zero_breaks_the_law()
 {}
 
 /// A timer that is made twice or stopped before it was made, a ticker without a time between its ticks that goes on, a panic without a misuse, for another
-/// reason or with the number of another case, a choice that goes on beside a case which is a misuse, and a wait at a Cond without its mutex, are no histories.
+/// reason or with the number of another case, a choice that goes on beside a case which is a misuse, a wait at a Cond without its mutex, a context that is made
+/// twice or before its parent, and a hook that is registered twice, or taken back before it was registered, are no histories.
 pub fn a_misuse_without_a_panic_breaks_the_law()
     ensures made_twice { ¬ AtEach (UsesRightly broken.two_calls) broken.made_twice }
     ensures unmade { ¬ AtEach (UsesRightly broken.one_stop) broken.unmade }
@@ -255,6 +313,10 @@ pub fn a_misuse_without_a_panic_breaks_the_law()
     ensures for_another_case { ¬ AtEach (UsesRightly broken.one_unmade) broken.for_another_case }
     ensures for_no_close { ¬ AtEach (UsesRightly broken.two_polls) broken.for_no_close }
     ensures without_a_lock { ¬ AtEach (UsesRightly broken.one_cond) broken.without_a_lock }
+    ensures context_twice { ¬ AtEach (UsesRightly broken.two_deadlines) broken.context_twice }
+    ensures made_above { ¬ AtEach (UsesRightly broken.two_deadlines) broken.made_above }
+    ensures registered_again { ¬ AtEach (UsesRightly broken.one_hook) broken.registered_again }
+    ensures stopped_unregistered { ¬ AtEach (UsesRightly broken.one_hook) broken.stopped_unregistered }
 {}
 
 /// A deadlock while somebody sleeps is no end of a history, an exit or a limit before its time is none, and nothing comes after main's function has ended.

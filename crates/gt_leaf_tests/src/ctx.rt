@@ -1,20 +1,45 @@
 //! Contexts that are made, canceled and expire, at steps that were worked out by hand.
-ghost use Rattle.std.specs.Prelude.{◌≡◌};
+ghost use Rattle.std.specs.Prelude.{◌≡◌, IfOk, length, map};
+ghost use Rattle.gt_ctx.specs.Decls.{decl_by, decls_of};
 
-use gt_ctx::{After, CauseVal, CtxDecl, Ctxs, Cut, ErrVal, Form, Made};
+use gt_ctx::{After, Ctxs, Cut, Made};
+use gt_model::{CauseVal, Decl, Decls, ErrVal, Form, Funcs, Script, Text, What};
+use std::alloc::{AllocError, Global};
 use std::test::Fail;
 
-fn context(parent: Option<u32>, form: Form) -> CtxDecl
-    ensures { result ≡ CtxDecl.Context parent form }
+fn context(parent: Option<u32>, form: Form) -> What
+    ensures { result ≡ What.Ctx parent form }
 {
-    CtxDecl::Context { parent, form }
+    What::Ctx { parent, form }
+}
+
+fn hook(ctx: u32) -> What
+    ensures { result ≡ What.Hook ctx 0 }
+{
+    What::Hook { ctx, func: 0 }
+}
+
+fn script_of(alloc: Global, whats: &[What]) -> Result<Script, AllocError>
+    ensures declared { IfOk result (λ script. decls_of script.decls ≡ map decl_by whats.now) }
+    ensures many { IfOk result (λ script. length script.decls ≡ length whats.now) }
+{
+    let mut decls = Vec::with_capacity(alloc, whats.len())?;
+    for what in whats {
+        let name = Text::of(Vec::new(alloc));
+        decls.push_reserved(Decl { name, what: *what });
+    }
+    Ok(Script {
+        decls: Decls::of(decls),
+        funcs: Funcs::of(Vec::new(alloc)),
+        main: 0,
+    })
 }
 
 #[test]
 fn first_cause_stays(rt: HostRuntime) -> Result<(), Fail> {
-    let decls = [
-        CtxDecl::Other,
-        CtxDecl::Other,
+    let whats = [
+        What::Error,
+        What::Error,
         context(
             None,
             Form::Timeout {
@@ -26,7 +51,8 @@ fn first_cause_stays(rt: HostRuntime) -> Result<(), Fail> {
         context(Some(3), Form::Cancel),
         context(Some(2), Form::Cancel),
     ];
-    let mut ctxs = Ctxs::with_decls(rt.alloc(), &decls)?;
+    let script = script_of(rt.alloc(), &whats)?;
+    let mut ctxs = Ctxs::with_decls(rt.alloc(), &script)?;
     assert_eq!(rt;
         ctxs.make(2, 0, 0),
         Made::Live {
@@ -45,10 +71,12 @@ fn first_cause_stays(rt: HostRuntime) -> Result<(), Fail> {
             starts: 0
         }
     );
+    assert_eq!(rt; ctxs.ended().len(), 2);
     assert_eq!(rt; ctxs.err(4), Some(ErrVal::Canceled));
     assert_eq!(rt; ctxs.cause(4), Some(CauseVal::Named(1)));
     assert_eq!(rt; ctxs.err(2), None);
     ctxs.cancel(2, ErrVal::DeadlineExceeded, CauseVal::Named(0));
+    assert!(rt; ctxs.ended() == [2, 5].as_slice());
     assert_eq!(rt; ctxs.err(5), Some(ErrVal::DeadlineExceeded));
     assert_eq!(rt; ctxs.cause(5), Some(CauseVal::Named(0)));
     assert_eq!(rt; ctxs.cause(3), Some(CauseVal::Named(1)));
@@ -57,13 +85,14 @@ fn first_cause_stays(rt: HostRuntime) -> Result<(), Fail> {
 
 #[test]
 fn without_is_not_reached(rt: HostRuntime) -> Result<(), Fail> {
-    let decls = [
+    let whats = [
         context(None, Form::Timeout { d: 5, cause: None }),
         context(Some(0), Form::Without),
         context(Some(1), Form::Cancel),
         context(Some(0), Form::Timeout { d: 6, cause: None }),
     ];
-    let mut ctxs = Ctxs::with_decls(rt.alloc(), &decls)?;
+    let script = script_of(rt.alloc(), &whats)?;
+    let mut ctxs = Ctxs::with_decls(rt.alloc(), &script)?;
     ctxs.make(0, 0, 1);
     ctxs.make(1, 0, 1);
     ctxs.make(2, 0, 1);
@@ -84,15 +113,16 @@ fn without_is_not_reached(rt: HostRuntime) -> Result<(), Fail> {
 
 #[test]
 fn hooks_start_once(rt: HostRuntime) -> Result<(), Fail> {
-    let decls = [
+    let whats = [
         context(None, Form::Cause),
-        CtxDecl::Hook { ctx: 0 },
+        hook(0),
         context(Some(0), Form::Cancel),
-        CtxDecl::Hook { ctx: 2 },
-        CtxDecl::Hook { ctx: 0 },
-        CtxDecl::Hook { ctx: 0 },
+        hook(2),
+        hook(0),
+        hook(0),
     ];
-    let mut ctxs = Ctxs::with_decls(rt.alloc(), &decls)?;
+    let script = script_of(rt.alloc(), &whats)?;
+    let mut ctxs = Ctxs::with_decls(rt.alloc(), &script)?;
     ctxs.make(0, 0, 0);
     ctxs.make(2, 0, 0);
     assert_eq!(rt; ctxs.after(4), After::Waits);
@@ -113,6 +143,7 @@ fn hooks_start_once(rt: HostRuntime) -> Result<(), Fail> {
             starts: 0
         }
     );
+    assert!(rt; ctxs.ended().is_empty());
     assert_eq!(rt; ctxs.take_started(), Some(1));
     assert_eq!(rt; ctxs.take_started(), Some(3));
     assert_eq!(rt; ctxs.take_started(), None);

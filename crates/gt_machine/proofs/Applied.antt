@@ -1,5 +1,5 @@
 -- The changes of an entry, one after the other, make the state after it.
-use Rattle.std.proofs.Common.{◌≡◌, ℕ, zero, suc, ◌+◌, refl, ap, Option, None, Some, IfSome, List, [], ◌∷◌, map, count_by, Bool, true, false, cond, sym, ◌∙◌, arith, option_map}
+use Rattle.std.proofs.Common.{◌≡◌, ℕ, zero, suc, ◌+◌, refl, ap, Option, IfSome, List, [], ◌∷◌, map, count_by, Bool, true, false, cond, sym, ◌∙◌, arith}
 use Rattle.std.proofs.lemmas.List.Sums.{sum_by-cons}
 use Rattle.gt_model.specs.declared.script.Script.{Script}
 use Rattle.gt_model.specs.declared.entry.Entry.{Entry}
@@ -8,11 +8,11 @@ use Rattle.gt_model.specs.declared.state.Ending.{Ending}
 use Rattle.gt_rules.specs.State.{State, is_suspended, suspended_count}
 use Rattle.gt_rules.specs.declared.change.Move.{Move}
 use Rattle.gt_rules.specs.declared.change.Setting.{Setting}
-use Rattle.gt_rules.specs.declared.change.Start.{Start}
 use Rattle.gt_rules.specs.declared.change.Trade.{Trade}
 use Rattle.gt_rules.specs.declared.change.SyncStep.{SyncStep}
-use Rattle.gt_rules.specs.Change.{Change, change_of, started}
-use Rattle.gt_rules.specs.After.{after, changed, with_mover, with_starts, started_by, with_retimed, with_traded, with_stepped, with_clock, with_signalled, signalled, moved_on, option_or}
+use Rattle.gt_rules.specs.declared.change.TreeStep.{TreeStep}
+use Rattle.gt_rules.specs.Change.{Change, change_of}
+use Rattle.gt_rules.specs.After.{after, changed, with_mover, with_starts, with_grown, with_hooked, with_retimed, with_traded, with_stepped, with_clock, with_signalled, signalled, moved_on, option_or}
 use Rattle.gt_model.specs.Tables.{change, change_numbered}
 use Rattle.gt_rules.specs.Legal.{May}
 use Rattle.gt_machine.specs.Machine.{with_new}
@@ -22,19 +22,14 @@ counted-May : (script : Script) (s : State) (e : Entry) → May script s e → (
 counted-May script s (Entry.Finish outcome) may = absurd may
 counted-May script s _ may = refl
 
--- one goroutine is started at most
-new-started : (script : Script) (s : State) (gs : List Goroutine) (start : Option Start) → with_starts script s gs (started start) ≡ with_new gs (option_map (started_by script s) start)
-new-started script s gs None = refl
-new-started script s gs (Some start) = refl
-
 -- what the code reads of a change is the change
-pub record IsRead (c : Change) (m p : Option (ℕ × Move)) (t : Option (ℕ × Setting)) (ch : Option (ℕ × Trade)) (sy : Option (ℕ × SyncStep)) (st : Option Start) (k : Option (ℕ × ℕ)) (how : Option Ending) : Type 0 where
+pub record IsRead (c : Change) (m p : Option (ℕ × Move)) (t : Option (ℕ × Setting)) (ch : Option (ℕ × Trade)) (sy : Option (ℕ × SyncStep)) (tr : Option (ℕ × TreeStep)) (k : Option (ℕ × ℕ)) (how : Option Ending) : Type 0 where
   pub mover : m ≡ c.mover
   pub partner : p ≡ c.partner
   pub timer : t ≡ c.timer
   pub channel : ch ≡ c.channel
   pub sync : sy ≡ c.sync
-  pub starts : c.starts ≡ started st
+  pub tree : tr ≡ c.tree
   pub clock : k ≡ c.clock
   pub ending : how ≡ c.ending
 
@@ -80,34 +75,38 @@ signalled-none script s (Entry.Broadcast g k count) none = unsignalled k (change
 signalled-none script s _ none = refl
 
 -- the change, part by part
-pub all_changed : (script : Script) (s : State) (mover partner : Option (ℕ × Move)) (timer : Option (ℕ × Setting)) (channel : Option (ℕ × Trade)) (sync : Option (ℕ × SyncStep)) (start : Option Start)
-    (clock : Option (ℕ × ℕ)) (ending : Option Ending) (c : Change) → IsRead c mover partner timer channel sync start clock ending → c.counted ≡ 1
+pub all_changed : (script : Script) (s : State) (mover partner : Option (ℕ × Move)) (timer : Option (ℕ × Setting)) (channel : Option (ℕ × Trade)) (sync : Option (ℕ × SyncStep)) (tree : Option (ℕ × TreeStep)) (begins : Option Goroutine)
+    (clock : Option (ℕ × ℕ)) (ending : Option Ending) (c : Change) → IsRead c mover partner timer channel sync tree clock ending → c.counted ≡ 1
+    → ((gs : List Goroutine) → with_starts script s gs c.starts ≡ with_new gs begins)
     → with_signalled (with_mover script (with_mover script s.goroutines c.mover) c.partner) c.broadcast ≡ with_mover script (with_mover script s.goroutines c.mover) c.partner
     → record {
       clocks = with_clock s.clocks clock;
       entries = s.entries + 1;
-      goroutines = with_new (with_mover script (with_mover script s.goroutines mover) partner) (option_map (started_by script s) start);
+      goroutines = with_new (with_mover script (with_mover script s.goroutines mover) partner) begins;
       timers = with_retimed script s mover s.timers timer;
       channels = with_traded s mover s.channels channel;
       syncs = with_stepped script s mover s.syncs sync;
+      contexts = with_grown script s mover tree;
+      hooks = with_hooked script s tree;
       ending = option_or s.ending ending;
     } ≡ changed script s c
-all_changed script s mover partner timer channel sync start clock ending c is one none =
-    rw (none, is.mover, is.partner, is.timer, is.channel, is.sync, is.clock, is.ending, is.starts, one, new-started) refl
+all_changed script s mover partner timer channel sync tree begins clock ending c is one new none =
+    rw (none, is.mover, is.partner, is.timer, is.channel, is.sync, is.tree, is.clock, is.ending, one, new) refl
 
 -- the state after an entry, by the states between its changes
-pub applied : (script : Script) (e : Entry) (s s1 s2 t2 s3 s4 s5 s6 s7 : State) (mover partner : Option (ℕ × Move)) (timer : Option (ℕ × Setting)) (channel : Option (ℕ × Trade)) (sync : Option (ℕ × SyncStep))
-    (start : Option Start) (begins : Option Goroutine) (clock : Option (ℕ × ℕ)) (ending : Option Ending) → May script s e
-    → IsRead (change_of e) mover partner timer channel sync start clock ending → IfSome (change_of e).broadcast (λ k. suspended_count s k ≡ 0)
-    → begins ≡ option_map (started_by script s) start
+pub applied : (script : Script) (e : Entry) (s s1 s2 t2 u2 s3 s4 s5 s6 s7 : State) (mover partner : Option (ℕ × Move)) (timer : Option (ℕ × Setting)) (channel : Option (ℕ × Trade)) (sync : Option (ℕ × SyncStep))
+    (tree : Option (ℕ × TreeStep)) (begins : Option Goroutine) (clock : Option (ℕ × ℕ)) (ending : Option Ending) → May script s e
+    → IsRead (change_of e) mover partner timer channel sync tree clock ending → IfSome (change_of e).broadcast (λ k. suspended_count s k ≡ 0)
+    → ((gs : List Goroutine) → with_starts script s gs (change_of e).starts ≡ with_new gs begins)
     → s1 ≡ record s { timers = with_retimed script s mover s.timers timer }
     → s2 ≡ record s1 { channels = with_traded s1 mover s1.channels channel }
     → t2 ≡ record s2 { syncs = with_stepped script s2 mover s2.syncs sync }
-    → s3 ≡ record t2 { goroutines = with_mover script t2.goroutines mover }
+    → u2 ≡ record t2 { contexts = with_grown script t2 mover tree; hooks = with_hooked script t2 tree }
+    → s3 ≡ record u2 { goroutines = with_mover script u2.goroutines mover }
     → s4 ≡ record s3 { goroutines = with_mover script s3.goroutines partner }
     → s5 ≡ record s4 { goroutines = with_new s4.goroutines begins }
     → s6 ≡ record s5 { clocks = with_clock s5.clocks clock }
     → s7 ≡ record s6 { ending = option_or s6.ending ending }
     → record s7 { entries = s7.entries + 1 } ≡ after script s e
-applied script e s s1 s2 t2 s3 s4 s5 s6 s7 mover partner timer channel sync start begins clock ending may is none new e1 e2 f2 e3 e4 e5 e6 e7 =
-    rw (e7, e6, e5, e4, e3, f2, e2, e1, new) (all_changed script s mover partner timer channel sync start clock ending (change_of e) is (counted-May script s e may) (signalled-none script s e none))
+applied script e s s1 s2 t2 u2 s3 s4 s5 s6 s7 mover partner timer channel sync tree begins clock ending may is none new e1 e2 f2 g2 e3 e4 e5 e6 e7 =
+    rw (e7, e6, e5, e4, e3, g2, f2, e2, e1) (all_changed script s mover partner timer channel sync tree begins clock ending (change_of e) is (counted-May script s e may) new (signalled-none script s e none))

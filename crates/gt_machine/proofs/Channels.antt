@@ -72,6 +72,9 @@ capacity_declared What.Wg = refl
 capacity_declared (What.Cond mutex) = refl
 capacity_declared (What.AfterFunc func) = refl
 capacity_declared (What.Chan cap) = refl
+capacity_declared (What.Ctx parent form) = refl
+capacity_declared (What.Hook ctx func) = refl
+capacity_declared What.Error = refl
 capacity_declared What.Function = refl
 
 pub capacity-of : (script : Script) (m : Machine) (c : ℕ) (ch : chan.Channel) → HasChannels script m → slice_get m.channels.items c ≡ Some ch → capacity_of script c ≡ ch.capacity

@@ -4,3 +4,4 @@ pub mod Channels
 pub mod Syncs
 pub mod Applied
 pub mod Faults
+pub mod Trees

@@ -1,5 +1,5 @@
 -- The state that a machine's fields mean.
-use Rattle.std.specs.Prelude.{◌≡◌, ℕ, ◌<◌, ◌≤◌, ◌+◌, ◌-◌, ◌^◌, Bool, false, IsSome, IsSomeAnd, List, [], ◌∷◌, ◌++◌, length, map, slice_get}
+use Rattle.std.specs.Prelude.{◌≡◌, ℕ, ◌<◌, ◌≤◌, ◌+◌, ◌-◌, ◌^◌, ◌≢◌, Bool, true, false, IsSome, IfSome, IsSomeAnd, List, [], ◌∷◌, ◌++◌, length, map, slice_get}
 use Rattle.std.specs.Option.{option_map}
 use Rattle.std.specs.declared.option.Option.{Option}
 use Rattle.std.specs.declared.option.Option.TheVariants.{None, Some}
@@ -17,6 +17,14 @@ use Rattle.gt_model.specs.declared.state.Timer.{Timer}
 use Rattle.gt_rules.specs.declared.change.Setting.{Setting}
 use Rattle.gt_rules.specs.declared.change.Trade.{Trade}
 use Rattle.gt_rules.specs.declared.change.SyncStep.{SyncStep}
+use Rattle.gt_rules.specs.declared.change.TreeStep.{TreeStep}
+use Rattle.gt_model.specs.declared.context.Context.{Context}
+use Rattle.gt_model.specs.declared.context.HookState.{HookState}
+use Rattle.gt_model.specs.Times.{greatest_time}
+use Rattle.gt_ctx.specs.declared.decl.CtxDecl.{CtxDecl}
+use Rattle.gt_ctx.specs.Decls.{decl_at, decls_of, is_context, parent_by}
+use Rattle.gt_ctx.specs.Contents.{context_at, hook_at, world_at}
+use Rattle.gt_ctx.specs.Calls.{ctx_of}
 use Rattle.gt_model.specs.declared.state.SyncState.{SyncState}
 use Rattle.gt_rules.specs.After.{set_due, set_again}
 use Rattle.gt_model.specs.Tables.{numbered, flatten}
@@ -40,6 +48,8 @@ state_of m = record {
   timers = m.timers.items;
   channels = map channel_of m.channels.items;
   syncs = m.syncs.items;
+  contexts = m.ctxs.contexts;
+  hooks = m.ctxs.hooks;
   ending = m.ending;
 }
 
@@ -54,6 +64,41 @@ capacities chs = map (λ (ch : chan.Channel). ch.capacity) chs
 -- there is one channel for each declaration, in their order, and it has the capacity that is declared
 pub record HasChannels (script : Script) (m : Machine) : Type 0 where
   pub declared : capacities m.channels.items ≡ map (λ (d : Decl). capacity_in d.what) script.decls
+
+-- the contexts and the hooks are those of the script, and whoever an end started has begun
+pub record HasContexts (script : Script) (m : Machine) : Type 0 where
+  pub declared : m.ctxs.decls ≡ decls_of script.decls
+  pub begun : m.ctxs.started ≡ []
+
+-- the contexts that the last cut ended
+abbrev pub ended_of : Machine → List ℕ
+ended_of m = m.ctxs.ended
+
+-- whether contexts end by a change
+abbrev pub is_cut : Option (ℕ × TreeStep) → Bool
+is_cut None = false
+is_cut (Some x) = elim x.1 [
+  | TreeStep.Derived ↦ false
+  | TreeStep.Canceled ↦ true
+  | TreeStep.Expired ↦ true
+  | TreeStep.Registered ↦ false
+  | TreeStep.Unhooked ↦ false
+]
+
+-- a context that may be made by somebody of a world with this clock
+pub record IsDerivable (decls : List CtxDecl) (contexts : List (Option Context)) (world now x : ℕ) : Type 0 where
+  pub context : is_context (decl_at decls x) ≡ true
+  pub fresh : context_at contexts x ≡ None
+  pub parent : IfSome (parent_by (decl_at decls x)) (λ p. world_at contexts p ≡ Some world)
+  pub time : now ≤ greatest_time
+
+-- a context or a hook of which this may become, and no end
+abbrev pub IsGrowable : List CtxDecl → List (Option Context) → List HookState → ℕ → ℕ → ℕ → TreeStep → Type 0
+IsGrowable decls contexts hooks world now x TreeStep.Derived = IsDerivable decls contexts world now x
+IsGrowable decls contexts hooks world now x TreeStep.Canceled = ⊥
+IsGrowable decls contexts hooks world now x TreeStep.Expired = ⊥
+IsGrowable decls contexts hooks world now x TreeStep.Registered = IsSome (ctx_of decls x) × (hook_at hooks x ≡ HookState.Unregistered)
+IsGrowable decls contexts hooks world now x TreeStep.Unhooked = hook_at hooks x ≢ HookState.Unregistered
 
 -- a goroutine that is there, at a place that leaves room to move on
 abbrev pub IsInside : List Goroutine → ℕ → Type 0

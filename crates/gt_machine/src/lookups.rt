@@ -4,9 +4,10 @@ ghost use Rattle.std.specs.Prelude.{◌≡◌, MatchOption, IsSome, None, slice_
 ghost use Rattle.std.specs.Option.{option_copied, option_map};
 ghost use Rattle.gt_model.specs.Script.{code_of, instr_at, func_of, capacity_of};
 ghost use Rattle.gt_model.specs.Script as names;
+ghost use Rattle.gt_rules.specs.Contexts as tree;
 ghost use Rattle.gt_machine.specs.Machine.{capacity_in};
 
-use gt_model::{Decl, Instr, Place, Script, What};
+use gt_model::{CauseVal, Decl, End, ErrVal, Form, Instr, Place, Script, What};
 
 /// The code of a function; None exactly where no function has that place.
 pub fn code_of(script: &Script, f: u32) -> Option<&[Instr]>
@@ -99,6 +100,83 @@ pub fn is_chan(script: &Script, o: u32) -> bool
             ..
         })
     )
+}
+
+/// Whether a declaration is a context.
+pub fn is_ctx(script: &Script, o: u32) -> bool
+    ensures { result ≡ names.is_ctx script.now o }
+{
+    matches!(
+        script.decls.as_slice().get(o as usize),
+        Some(Decl {
+            what: What::Ctx { .. },
+            ..
+        })
+    )
+}
+
+/// The context from which a context is derived; none where that is the root, or where the declaration is no context.
+pub fn parent_of(script: &Script, x: u32) -> Option<u32>
+    ensures { result ≡ names.parent_of script.now x }
+{
+    match script.decls.as_slice().get(x as usize) {
+        Some(
+            Decl {
+                what: What::Ctx { parent, .. },
+                ..
+            },
+        ) => *parent,
+        _ => None,
+    }
+}
+
+/// How a context ends at its own deadline.
+pub fn expiry_end(script: &Script, x: u32) -> End
+    ensures { result ≡ tree.expiry_end script.now x }
+{
+    let cause = match what_at(script, x) {
+        Some(
+            What::Ctx {
+                form: Form::Timeout { cause: Some(e), .. },
+                ..
+            },
+        ) => CauseVal::Named(e),
+        _ => CauseVal::DeadlineExceeded,
+    };
+    End {
+        err: ErrVal::DeadlineExceeded,
+        cause,
+    }
+}
+
+/// The context at whose end a hook starts; none where the declaration is no hook.
+pub fn ctx_of(script: &Script, s: u32) -> Option<u32>
+    ensures { result ≡ names.ctx_of script.now s }
+{
+    match script.decls.as_slice().get(s as usize) {
+        Some(
+            Decl {
+                what: What::Hook { ctx, .. },
+                ..
+            },
+        ) => Some(*ctx),
+        _ => None,
+    }
+}
+
+/// The function that a hook starts; 0 where the declaration is none.
+pub fn hook_func(script: &Script, s: u32) -> u32
+    ensures { result ≡ names.hook_func script.now s }
+{
+    match script.decls.as_slice().get(s as usize) {
+        Some(
+            Decl {
+                what: What::Hook { func, .. },
+                ..
+            },
+        ) => *func,
+        _ => 0,
+    }
 }
 
 /// Whether a declaration is a ticker.

@@ -1,34 +1,40 @@
 //! The tables.
 
-ghost use Rattle.std.specs.Prelude.{ℕ, ◌≡◌, ◌+◌, ◌<◌, ◌≤◌, IfOk, IfSome, IsSome, IsSomeAnd, Some, length, ◌^◌, ◌-◌, ◌++◌, ◌∷◌, [], nat_lt, slice_get, map, replicate};
+ghost use Rattle.std.specs.Prelude.{ℕ, ◌≡◌, false, ◌+◌, ◌<◌, ◌≤◌, IfOk, IfSome, IsSome, IsSomeAnd, Some, length, ◌^◌, ◌-◌, ◌++◌, ◌∷◌, [], nat_lt, slice_get, map, replicate};
 ghost use Rattle.std.specs.Option.{option_copied, option_map, option_and_then};
 ghost use Rattle.gt_model.specs.Tables.{numbered, change_numbered};
 ghost use Rattle.gt_model.specs.declared.state.Mode.{Mode};
 ghost use Rattle.gt_model.specs.Good.{IsGood};
 ghost use Rattle.gt_model.specs.Script.{capacity_of};
 ghost use Rattle.gt_model.specs.declared.script.Decl.{Decl};
+ghost use Rattle.gt_model.specs.declared.script.Script.{Script};
 ghost use Rattle.gt_rules.specs.State as at;
 ghost use Rattle.gt_rules.specs.Panics as panics;
 ghost use Rattle.gt_rules.specs.After as after;
 ghost use Rattle.gt_rules.specs.Legal.{May};
-ghost use Rattle.gt_rules.specs.Change.{started, change_of};
+ghost use Rattle.gt_rules.specs.Change.{change_of};
 ghost use Rattle.gt_facts.specs.Formed.{IsFormed};
 ghost use Rattle.gt_chan.specs.Channel as chan;
-ghost use Rattle.gt_machine.specs.Machine.{state_of, IsInside, IsTradable, IsSteppable, HasChannels, with_new, made_in, capacity_in, capacities, HasFewCases, first_fault};
+ghost use Rattle.gt_ctx.specs.Decls.{decls_of};
+ghost use Rattle.gt_ctx.specs.Calls.{fresh};
+ghost use Rattle.gt_machine.specs.Machine.{state_of, IsInside, IsTradable, IsSteppable, HasChannels, HasContexts, ended_of, is_cut, IsGrowable, with_new, made_in, capacity_in, capacities, HasFewCases, first_fault};
 ghost use Rattle.gt_machine.specs.Outcomes as outcomes;
 ghost use Rattle.gt_machine.specs.Places.{placed_at};
 
 use crate::changes::{UNUSED, begun, move_goroutine, retimed, step_syncs, trade_channel};
-use crate::lookups::{capacity, declared_capacity, function_of, instr_at, is_ticker, mutex_of};
+use crate::lookups::{
+    capacity, ctx_of, declared_capacity, instr_at, is_ticker, mutex_of, parent_of,
+};
 use gt_chan::Chan;
+use gt_ctx::Ctxs;
 use gt_model::{
     Case, CaseKind, Decl, Ending, Entry, Goroutine, Instr, Limits, Mode, NoMemory, Outcome, Reason,
     Script, SyncState, Timer,
 };
 use gt_room::Room;
 use gt_rules::{
-    Move, Setting, Start, SyncStep, Trade, channel_of, clock_of, ending_of, mover_of, partner_of,
-    start_of, sync_of, timer_of,
+    Move, Setting, SyncStep, Trade, channel_of, clock_of, ending_of, mover_of, partner_of, sync_of,
+    timer_of, tree_of,
 };
 use std::alloc::Global;
 
@@ -47,8 +53,37 @@ pub struct Machine {
     pub channels: Vec<Chan>,
     /// What there is of mutexes and WaitGroups, by declaration; nothing becomes of what is neither.
     pub syncs: Vec<SyncState>,
+    /// The contexts and the hooks.
+    pub ctxs: Ctxs,
     /// How far the run is.
     pub ending: Ending,
+}
+
+/// The clock of the program, at 0.
+fn first_clocks(alloc: Global) -> Result<Vec<u64>, NoMemory>
+    ensures { IfOk result (λ clocks. clocks.items ≡ 0 ∷ []) }
+{
+    vec![in alloc; 0].map_err(|_| NoMemory)
+}
+
+/// The goroutine at main's first place, with room for so many more.
+fn first_goroutines(alloc: Global, script: &Script, most: u64) -> Result<Room<Goroutine>, NoMemory>
+    requires good { IsGood script.now }
+    requires few { most ≤ 204096 }
+    ensures first { IfOk result (λ gs. gs.items ≡ after.begun script.now 0 script.now.main ∷ []) }
+    ensures room { IfOk result (λ gs. gs.spare ≡ most) }
+{
+    let mut goroutines = Room::with_room(alloc, most as usize + 1).map_err(|_| NoMemory)?;
+    goroutines.put(begun(script, 0, script.main));
+    Ok(goroutines)
+}
+
+/// The contexts and the hooks of a script, none of them made or registered.
+fn unmade_contexts(alloc: Global, script: &Script) -> Result<Ctxs, NoMemory>
+    requires { IsGood script.now }
+    ensures { IfOk result (λ ctxs. ctxs ≡ fresh (decls_of script.now.decls)) }
+{
+    Ctxs::with_decls(alloc, script).map_err(|_| NoMemory)
 }
 
 /// So many timers, none of them made.
@@ -80,21 +115,22 @@ fn unmade_channels(alloc: Global, decls: &[Decl]) -> Result<Vec<Chan>, NoMemory>
 }
 
 impl Machine {
-    /// The first state of a script, with room for the goroutines of a run of so many entries, and for the values that channels keep. It takes their
-    /// memory here.
+    /// The first state of a script, with room for so many goroutines besides the first one, and for the values that channels keep. It takes their memory
+    /// here.
     pub fn begin(alloc: Global, script: &Script, most: u64) -> Result<Machine, NoMemory>
         requires good { IsGood script.now }
-        requires few { most ≤ 200000 }
+        requires few { most ≤ 204096 }
         ensures state { IfOk result (λ m. state_of m ≡ after.first_state script.now) }
         ensures room { IfOk result (λ m. m.goroutines.spare ≡ most) }
         ensures channels { IfOk result (λ m. HasChannels script.now m) }
+        ensures contexts { IfOk result (λ m. HasContexts script.now m) }
     {
-        let clocks = vec![in alloc; 0].map_err(|_| NoMemory)?;
-        let mut goroutines = Room::with_room(alloc, most as usize + 1).map_err(|_| NoMemory)?;
-        goroutines.put(begun(script, 0, script.main));
+        let clocks = first_clocks(alloc)?;
+        let goroutines = first_goroutines(alloc, script, most)?;
         let timers = unmade(alloc, script.decls.as_slice().len())?;
         let channels = unmade_channels(alloc, script.decls.as_slice())?;
         let syncs = unused(alloc, script.decls.as_slice().len())?;
+        let ctxs = unmade_contexts(alloc, script)?;
         Ok(Machine {
             clocks,
             entries: 0,
@@ -102,29 +138,35 @@ impl Machine {
             timers,
             channels,
             syncs,
+            ctxs,
             ending: Ending::Running,
         })
     }
 
-    /// The entry is made, and the state goes on. Whom a broadcast signals was made to wait for the mutex before, one after the other.
+    /// The entry is made, and the state goes on. Whom a broadcast signals was made to wait for the mutex before, one after the other; and the contexts that
+    /// end by an entry were ended before, by `cut`.
     pub fn apply(&mut self, script: &Script, entry: &Entry)
         requires good { IsGood script.now }
         requires formed { IsFormed script.now (state_of self.old) }
         requires may { May script.now (state_of self.old) entry.now }
-        requires room { 0 < self.old.goroutines.spare }
+        requires room { length (change_of entry.now).starts ≤ self.old.goroutines.spare }
         requires few { self.old.entries < 200000 }
         requires channels { HasChannels script.now self.old }
+        requires contexts { HasContexts script.now self.old }
         requires signalled { IfSome (change_of entry.now).broadcast (λ k. at.suspended_count (state_of self.old) k ≡ 0) }
+        requires uncut { is_cut (change_of entry.now).tree ≡ false }
         ensures state { state_of self.new ≡ after.after script.now (state_of self.old) entry.now }
         ensures room { length self.new.goroutines.items + self.new.goroutines.spare
             ≡ length self.old.goroutines.items + self.old.goroutines.spare }
         ensures channels { HasChannels script.now self.new }
+        ensures contexts { HasContexts script.now self.new }
     {
         let mover = mover_of(entry);
-        let begins = self.started(script, start_of(entry));
+        let begins = self.begins(script, entry);
         self.retime(script, mover, timer_of(entry));
         self.trade(mover, channel_of(entry));
         self.step_sync(script, mover, sync_of(entry));
+        self.grow(script, mover, tree_of(entry));
         self.move_on(script, mover);
         self.move_on(script, partner_of(entry));
         self.start(begins);
@@ -142,6 +184,7 @@ impl Machine {
         ensures many { length self.new.goroutines.items ≡ length self.old.goroutines.items }
         ensures spare { self.new.goroutines.spare ≡ self.old.goroutines.spare }
         ensures channels { self.new.channels ≡ self.old.channels }
+        ensures contexts { self.new.ctxs ≡ self.old.ctxs }
     {
         self.goroutines.at_mut(g as usize - 1).mode = Mode::Relocking { cond: k };
     }
@@ -151,19 +194,21 @@ impl Machine {
         ensures state { (script : _) → state_of self.new ≡ after.after script (state_of self.old) (Entry.Finish outcome) }
         ensures room { self.new.goroutines ≡ self.old.goroutines }
         ensures channels { self.new.channels ≡ self.old.channels }
+        ensures contexts { self.new.ctxs ≡ self.old.ctxs }
     {
         self.ending = Ending::Finished(outcome);
     }
 
-    /// The goroutine that is started, in the world of who starts it.
-    fn started(&self, script: &Script, start: Option<Start>) -> Option<Goroutine>
-        requires { IsGood script.now }
-        ensures { result ≡ option_map (after.started_by script.now (state_of self.now)) start }
+    /// One entry more was made, which changes nothing else.
+    pub fn count(&mut self)
+        requires { self.old.entries < 200000 }
+        ensures state { state_of self.new ≡ record (state_of self.old) { entries = self.old.entries + 1 } }
+        ensures room { self.new.goroutines ≡ self.old.goroutines }
+        ensures channels { self.new.channels ≡ self.old.channels }
+        ensures contexts { (script : Script) → HasContexts script self.old → HasContexts script self.new }
+        ensures ended { ended_of self.new ≡ ended_of self.old }
     {
-        Some(match start? {
-            Start::ByGoroutine { g, f } => begun(script, self.world_of(g), f),
-            Start::ByTimer { t } => begun(script, self.timer_world(t), function_of(script, t)),
-        })
+        self.entries += 1;
     }
 
     /// What becomes of a timer, by who makes the entry.
@@ -179,6 +224,7 @@ impl Machine {
         } }
         ensures room { self.new.goroutines ≡ self.old.goroutines }
         ensures channels { self.new.channels ≡ self.old.channels }
+        ensures contexts { self.new.ctxs ≡ self.old.ctxs }
     {
         let Some((t, setting)) = change else {
             return;
@@ -196,6 +242,7 @@ impl Machine {
         } }
         ensures room { self.new.goroutines ≡ self.old.goroutines }
         ensures channels { capacities self.new.channels.items ≡ capacities self.old.channels.items }
+        ensures contexts { self.new.ctxs ≡ self.old.ctxs }
     {
         let Some((c, how)) = change else {
             return;
@@ -217,6 +264,7 @@ impl Machine {
         } }
         ensures room { self.new.goroutines ≡ self.old.goroutines }
         ensures channels { self.new.channels ≡ self.old.channels }
+        ensures contexts { self.new.ctxs ≡ self.old.ctxs }
     {
         let Some((o, step)) = change else {
             return;
@@ -226,7 +274,7 @@ impl Machine {
     }
 
     /// What becomes of one who makes the entry.
-    fn move_on(&mut self, script: &Script, mover: Option<(u32, Move)>)
+    pub fn move_on(&mut self, script: &Script, mover: Option<(u32, Move)>)
         requires good { IsGood script.now }
         requires inside { IfSome mover (λ x. IsInside self.old.goroutines.items x.0) }
         ensures state { state_of self.new ≡ record (state_of self.old) {
@@ -235,6 +283,7 @@ impl Machine {
         ensures many { length self.new.goroutines.items ≡ length self.old.goroutines.items }
         ensures spare { self.new.goroutines.spare ≡ self.old.goroutines.spare }
         ensures channels { self.new.channels ≡ self.old.channels }
+        ensures contexts { self.new.ctxs ≡ self.old.ctxs }
     {
         if let Some((g, how)) = mover {
             move_goroutine(script, self.goroutines.at_mut(g as usize - 1), how);
@@ -243,13 +292,14 @@ impl Machine {
 
     /// A goroutine begins, if one is started.
     fn start(&mut self, begins: Option<Goroutine>)
-        requires { 0 < self.old.goroutines.spare }
+        requires { IsSome begins → 0 < self.old.goroutines.spare }
         ensures state { state_of self.new ≡ record (state_of self.old) {
           goroutines = with_new (state_of self.old).goroutines begins;
         } }
         ensures room { length self.new.goroutines.items + self.new.goroutines.spare
             ≡ length self.old.goroutines.items + self.old.goroutines.spare }
         ensures channels { self.new.channels ≡ self.old.channels }
+        ensures contexts { self.new.ctxs ≡ self.old.ctxs }
     {
         if let Some(r) = begins {
             self.goroutines.put(r);
@@ -262,6 +312,7 @@ impl Machine {
         ensures state { state_of self.new ≡ record (state_of self.old) { clocks = after.with_clock (state_of self.old).clocks clock } }
         ensures room { self.new.goroutines ≡ self.old.goroutines }
         ensures channels { self.new.channels ≡ self.old.channels }
+        ensures contexts { self.new.ctxs ≡ self.old.ctxs }
     {
         if let Some((world, at)) = clock {
             self.clocks[world as usize] = at;
@@ -273,6 +324,7 @@ impl Machine {
         ensures state { state_of self.new ≡ record (state_of self.old) { ending = after.option_or (state_of self.old).ending ending } }
         ensures room { self.new.goroutines ≡ self.old.goroutines }
         ensures channels { self.new.channels ≡ self.old.channels }
+        ensures contexts { self.new.ctxs ≡ self.old.ctxs }
     {
         if let Some(ending) = ending {
             self.ending = ending;
@@ -315,11 +367,11 @@ impl Machine {
         }
     }
 
-    /// Whether the timer or the channel of declaration o was made.
+    /// Whether the timer, the channel or the context of declaration o was made.
     pub fn is_made(&self, o: u32) -> bool
         ensures { result ≡ at.is_made (state_of self.now) o }
     {
-        self.timer(o).is_some() || self.channel(o).is_some()
+        self.timer(o).is_some() || self.channel(o).is_some() || self.context(o).is_some()
     }
 
     /// Whether channel c is closed; false where it was not made.
@@ -384,14 +436,14 @@ impl Machine {
     }
 
     /// The world of goroutine g; 0 where no goroutine has that number.
-    fn world_of(&self, g: u32) -> u32
+    pub(crate) fn world_of(&self, g: u32) -> u32
         ensures { result ≡ at.world_of (state_of self.now) g }
     {
         self.goroutine(g).map_or(0, |r| r.world)
     }
 
     /// The world of who makes an entry; 0 where nobody does.
-    fn mover_world(&self, mover: Option<(u32, Move)>) -> u32
+    pub(crate) fn mover_world(&self, mover: Option<(u32, Move)>) -> u32
         ensures { result ≡ at.world_of (state_of self.now) (after.number_of mover) }
     {
         match mover {
@@ -417,7 +469,7 @@ impl Machine {
     }
 
     /// The world in which timer t was made; 0 where it was not made.
-    fn timer_world(&self, t: u32) -> u32
+    pub(crate) fn timer_world(&self, t: u32) -> u32
         ensures { result ≡ after.timer_world (state_of self.now) t }
     {
         self.timer(t).map_or(0, |timer| timer.world)
@@ -486,6 +538,19 @@ impl Machine {
             Instr::Send { c, .. } | Instr::Close { c } => self.open_fault(c),
             Instr::CWait { k } => when(!self.is_locked(mutex_of(script, k)), Reason::Unlocked),
             Instr::Unlock { m } => when(!self.is_locked(m), Reason::Unlocked),
+            Instr::With { x } => first_of(
+                when(self.context(x).is_some(), Reason::Twice),
+                self.unmade_parent(parent_of(script, x)),
+            ),
+            Instr::Cancel { x, .. } | Instr::ErrOf { x } | Instr::CauseOf { x } => when(
+                self.context(x).is_none(),
+                Reason::Unmade,
+            ),
+            Instr::After { s } => first_of(
+                when(self.is_registered(s), Reason::Twice),
+                self.unmade_parent(ctx_of(script, s)),
+            ),
+            Instr::Unhook { s } => when(!self.is_registered(s), Reason::Unmade),
             Instr::Add { w, n } => when(falls_below(self.sync(w).counter, n), Reason::Negative),
             Instr::Select { ref cases, .. } => match self.faulty_case(cases.as_slice()) {
                 Some((_, reason)) => Some(reason),
@@ -543,6 +608,13 @@ impl Machine {
             None => Some(Reason::Unmade),
             Some(channel) => when(channel.is_closed(), Reason::Closed),
         }
+    }
+
+    /// Why the use of a context's parent panics, or of a hook's context: it was not made; none where it was, and where there is none.
+    fn unmade_parent(&self, parent: Option<u32>) -> Option<Reason>
+        ensures { result ≡ panics.unmade_parent (state_of self.now) parent }
+    {
+        when(self.context(parent?).is_none(), Reason::Unmade)
     }
 
     /// The Cond at which goroutine g was signalled, while it waits for the mutex; none where it does not.

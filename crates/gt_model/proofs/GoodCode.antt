@@ -52,6 +52,9 @@ function_is (What.Chan cap) h = cc
 function_is What.Mutex h = cc
 function_is What.Wg h = cc
 function_is (What.Cond mutex) h = cc
+function_is (What.Ctx parent form) h = cc
+function_is (What.Hook ctx func) h = cc
+function_is What.Error h = cc
 function_is What.Function h = refl
 
 next_place : (d : Decl) (ds : List Decl) (i x : ℕ) → IsFunctionPlace ds (i + 1) x → IsFunctionPlace (d ∷ ds) i x

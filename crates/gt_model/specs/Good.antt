@@ -13,7 +13,8 @@ use Rattle.gt_model.specs.declared.script.Case.{Case}
 use Rattle.gt_model.specs.declared.script.CaseKind.{CaseKind}
 use Rattle.gt_model.specs.Times.{greatest_time}
 use Rattle.gt_model.specs.declared.entry.Limits.{Limits}
-use Rattle.gt_model.specs.Script.{is_timer, is_func, is_chan, is_mutex, is_wg, is_cond}
+use Rattle.gt_model.specs.declared.context.Form.{Form}
+use Rattle.gt_model.specs.Script.{is_timer, is_func, is_chan, is_mutex, is_wg, is_cond, is_ctx, form_of, parent_of, is_endable, takes_cause, is_hook, is_error}
 
 -- a timer that is set and stopped: a channel timer or an AfterFunc timer
 abbrev pub is_setting : Script → ℕ → Bool
@@ -46,9 +47,9 @@ most_capacity = 1024
 abbrev pub most_loops : ℕ
 most_loops = 4
 
--- what is received from: a channel timer or a channel
+-- what is received from: a channel timer, a channel, or a context that can end
 abbrev pub gives_values : Script → ℕ → Bool
-gives_values script o = is_timer script o || is_chan script o
+gives_values script o = is_timer script o || is_chan script o || is_endable script o
 
 -- an operation is on what gives values, or on what takes them
 abbrev pub OperatesRightly : Script → CaseKind → Type 0
@@ -78,6 +79,11 @@ most_added = 1000000
 abbrev pub IsAddable : ℤ → Type 0
 IsAddable n = nat_abs n ≤ most_added
 
+-- a context is canceled that can end, and with a cause where its form takes one
+abbrev pub CancelsRightly : Script → ℕ → Option ℕ → Type 0
+CancelsRightly script x None = IsTrue (is_endable script x)
+CancelsRightly script x (Some e) = IsTrue (takes_cause (form_of script x)) × IsTrue (is_error script e)
+
 -- What an instruction names is declared as such, and its times are at most the greatest
 abbrev pub NamesRightly : Script → Instr → Type 0
 NamesRightly script (Instr.Say n) = Unit {0}
@@ -98,6 +104,12 @@ NamesRightly script (Instr.Signal k) = IsTrue (is_cond script k)
 NamesRightly script (Instr.Broadcast k) = IsTrue (is_cond script k)
 NamesRightly script (Instr.Add w n) = IsTrue (is_wg script w) × IsAddable n
 NamesRightly script (Instr.Wait w) = IsTrue (is_wg script w)
+NamesRightly script (Instr.With x) = IsTrue (is_ctx script x)
+NamesRightly script (Instr.Cancel x cause) = CancelsRightly script x cause
+NamesRightly script (Instr.ErrOf x) = IsTrue (is_ctx script x)
+NamesRightly script (Instr.CauseOf x) = IsTrue (is_ctx script x)
+NamesRightly script (Instr.After s) = IsTrue (is_hook script s)
+NamesRightly script (Instr.Unhook s) = IsTrue (is_hook script s)
 NamesRightly script (Instr.LoopTop depth count past) = count ≤ most_passes
 NamesRightly script (Instr.LoopEnd depth top) = Unit {0}
 NamesRightly script (Instr.Select cases default_to) = IsGoodChoice script cases default_to
@@ -165,7 +177,14 @@ pub record IsGoodCode (script : Script) (code : List Instr) : Type 0 where
   pub choices : (i : ℕ) (cases : List Case) (default_to : Option ℕ) → slice_get code i ≡ Some (Instr.Select cases default_to) → HasGoodTargets code i cases default_to
   pub jumps : (i to : ℕ) → slice_get code i ≡ Some (Instr.Jump to) → IsGoodTarget code i to
 
--- a declaration names what it starts, and a channel has a capacity that it may have
+-- a time is at most the greatest, and a cause is an error
+abbrev pub FormsRightly : Script → Form → Type 0
+FormsRightly script Form.Cancel = Unit {0}
+FormsRightly script Form.Cause = Unit {0}
+FormsRightly script (Form.Timeout d cause) = (d ≤ greatest_time) × IfSome cause (λ e. IsTrue (is_error script e))
+FormsRightly script Form.Without = Unit {0}
+
+-- a declaration names what it starts, and what it stands on, and a channel has a capacity that it may have
 abbrev pub DeclaresRightly : Script → What → Type 0
 DeclaresRightly script What.Timer = Unit {0}
 DeclaresRightly script What.Ticker = Unit {0}
@@ -174,6 +193,9 @@ DeclaresRightly script (What.Chan cap) = cap ≤ most_capacity
 DeclaresRightly script What.Mutex = Unit {0}
 DeclaresRightly script What.Wg = Unit {0}
 DeclaresRightly script (What.Cond mutex) = IsTrue (is_mutex script mutex)
+DeclaresRightly script (What.Ctx parent form) = IfSome parent (λ p. IsTrue (is_ctx script p)) × FormsRightly script form
+DeclaresRightly script (What.Hook ctx func) = IsTrue (is_ctx script ctx) × (func < length script.funcs)
+DeclaresRightly script What.Error = Unit {0}
 DeclaresRightly script What.Function = Unit {0}
 
 -- the greatest numbers of names, of functions among them, and of instructions that a script may have
@@ -211,6 +233,9 @@ is_function (What.Chan cap) = false
 is_function What.Mutex = false
 is_function What.Wg = false
 is_function (What.Cond mutex) = false
+is_function (What.Ctx parent form) = false
+is_function (What.Hook ctx func) = false
+is_function What.Error = false
 is_function What.Function = true
 
 -- the places of the functions among declarations, the first of which has the place i
@@ -232,6 +257,8 @@ pub record IsGood (script : Script) : Type 0 where
   pub main : function_name script script.main ≡ Some (codes "main")
   pub names : HasNames script.decls
   pub declares : All (λ (d : Decl). DeclaresRightly script d.what) script.decls
+  -- a context is derived from one that is declared before it
+  pub parents : (x p : ℕ) → parent_of script x ≡ Some p → p < x
   -- the functions are the declarations of functions, in their order
   pub functions : map (λ (f : Func). f.decl) script.funcs ≡ function_places 0 script.decls
   pub code : All (λ (f : Func). IsGoodCode script f.code) script.funcs

@@ -1,6 +1,9 @@
 -- What an entry is made of, part by part: the line of an entry says its parts in this order.
 use Rattle.std.specs.Prelude.{ℕ, ℤ, Bool, List, [], ◌∷◌, codes}
 use Rattle.std.specs.declared.option.Option.{Option}
+use Rattle.std.specs.declared.option.Option.TheVariants.{Some}
+use Rattle.gt_model.specs.declared.context.ErrVal.{ErrVal}
+use Rattle.gt_model.specs.declared.context.CauseVal.{CauseVal}
 use Rattle.gt_model.specs.declared.entry.Entry.{Entry}
 use Rattle.gt_model.specs.declared.entry.Outcome.{Outcome}
 use Rattle.gt_model.specs.declared.entry.Party.{Party}
@@ -18,7 +21,7 @@ pub data Part : Type 0 where
   maybe_number : Option ℕ → Part
   -- a number that may be below 0
   signed : ℤ → Part
-  -- what is named: a channel timer, an AfterFunc timer, a timer of either kind, a channel, a mutex, a WaitGroup, a Cond, a function
+  -- what is named: a channel timer, an AfterFunc timer, a timer of either kind, a channel, a mutex, a WaitGroup, a Cond, a function, a context, a hook
   timer : ℕ → Part
   after_func : ℕ → Part
   setting : ℕ → Part
@@ -27,8 +30,14 @@ pub data Part : Type 0 where
   wait_group : ℕ → Part
   cond : ℕ → Part
   function : ℕ → Part
+  context : ℕ → Part
+  hook : ℕ → Part
   -- whether a timer was set, where that is told
   flag : Option Bool → Part
+  -- whether a context has ended at once; its error; the cause of its end
+  ended : Bool → Part
+  error : Option ErrVal → Part
+  cause : Option CauseVal → Part
   reason : Reason → Part
   -- how the run ended: a word that tells what happened by itself
   outcome : Outcome → Part
@@ -59,6 +68,14 @@ parts_of (Entry.Signal g k woken) = keyword (codes "signal") ∷ goroutine g ∷
 parts_of (Entry.Broadcast g k count) = keyword (codes "broadcast") ∷ goroutine g ∷ cond k ∷ number count ∷ []
 parts_of (Entry.Add g w n) = keyword (codes "add") ∷ goroutine g ∷ wait_group w ∷ signed n ∷ []
 parts_of (Entry.WgWait g w) = keyword (codes "wait") ∷ goroutine g ∷ wait_group w ∷ []
+parts_of (Entry.CtxMake g x so) = keyword (codes "with") ∷ goroutine g ∷ context x ∷ ended so ∷ []
+parts_of (Entry.Cancel g x newly starts) = keyword (codes "cancel") ∷ goroutine g ∷ context x ∷ flag (Some newly) ∷ number starts ∷ []
+parts_of (Entry.Expire x starts) = keyword (codes "expire") ∷ context x ∷ number starts ∷ []
+parts_of (Entry.CtxErr g x err) = keyword (codes "err") ∷ goroutine g ∷ context x ∷ error err ∷ []
+parts_of (Entry.Cause g x why) = keyword (codes "cause") ∷ goroutine g ∷ context x ∷ cause why ∷ []
+parts_of (Entry.CtxDone p x) = keyword (codes "ctxdone") ∷ party p ∷ context x ∷ []
+parts_of (Entry.CtxAfter g s child) = keyword (codes "after") ∷ goroutine g ∷ hook s ∷ maybe_goroutine child ∷ []
+parts_of (Entry.CtxStop g s stopped) = keyword (codes "unhook") ∷ goroutine g ∷ hook s ∷ flag (Some stopped) ∷ []
 parts_of (Entry.Clock world at) = keyword (codes "clock") ∷ number world ∷ number at ∷ []
 parts_of (Entry.Panic p why) = keyword (codes "panic") ∷ party p ∷ reason why ∷ []
 parts_of (Entry.Finish how) = outcome how ∷ []

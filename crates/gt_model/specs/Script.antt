@@ -8,6 +8,7 @@ use Rattle.gt_model.specs.declared.script.Decl.{Decl}
 use Rattle.gt_model.specs.declared.script.What.{What}
 use Rattle.gt_model.specs.declared.script.Instr.{Instr}
 use Rattle.gt_model.specs.declared.script.Place.{Place}
+use Rattle.gt_model.specs.declared.context.Form.{Form}
 
 -- what the script declares at a place
 abbrev pub what_at : Script → ℕ → Option What
@@ -51,6 +52,37 @@ abbrev pub names_cond : Option What → Bool
 names_cond (Some (What.Cond mutex)) = true
 names_cond _ = false
 
+-- a context; one that can end; a hook; an error
+abbrev pub names_ctx : Option What → Bool
+names_ctx (Some (What.Ctx parent form)) = true
+names_ctx _ = false
+
+abbrev pub names_hook : Option What → Bool
+names_hook (Some (What.Hook ctx func)) = true
+names_hook _ = false
+
+abbrev pub names_error : Option What → Bool
+names_error (Some What.Error) = true
+names_error _ = false
+
+-- the form of a context
+abbrev pub named_form : Option What → Option Form
+named_form (Some (What.Ctx parent form)) = Some form
+named_form _ = None
+
+-- a context of the form `without` never ends
+abbrev pub can_end : Option Form → Bool
+can_end None = false
+can_end (Some Form.Cancel) = true
+can_end (Some Form.Cause) = true
+can_end (Some (Form.Timeout d cause)) = true
+can_end (Some Form.Without) = false
+
+-- one that is canceled with a cause
+abbrev pub takes_cause : Option Form → Bool
+takes_cause (Some Form.Cause) = true
+takes_cause _ = false
+
 abbrev pub is_timer : Script → ℕ → Bool
 is_timer script t = names_timer (what_at script t)
 
@@ -84,3 +116,30 @@ mutex_of script k = elim (what_at script k) [ None ↦ 0 | Some what ↦ elim wh
 -- the function that an AfterFunc timer starts
 abbrev pub func_of : Script → ℕ → ℕ
 func_of script t = elim (what_at script t) [ None ↦ 0 | Some what ↦ elim what [ What.AfterFunc f ↦ f | _ ↦ 0 ] ]
+
+-- a context, its form, and the one from which it is derived, where that is not the root
+abbrev pub is_ctx : Script → ℕ → Bool
+is_ctx script x = names_ctx (what_at script x)
+
+abbrev pub form_of : Script → ℕ → Option Form
+form_of script x = named_form (what_at script x)
+
+abbrev pub parent_of : Script → ℕ → Option ℕ
+parent_of script x = elim (what_at script x) [ None ↦ None | Some what ↦ elim what [ What.Ctx parent form ↦ parent | _ ↦ None ] ]
+
+-- a context that can end: so it can be canceled, and waited for
+abbrev pub is_endable : Script → ℕ → Bool
+is_endable script x = can_end (form_of script x)
+
+-- a hook, its context, and the function that it starts
+abbrev pub is_hook : Script → ℕ → Bool
+is_hook script s = names_hook (what_at script s)
+
+abbrev pub ctx_of : Script → ℕ → Option ℕ
+ctx_of script s = elim (what_at script s) [ None ↦ None | Some what ↦ elim what [ What.Hook ctx func ↦ Some ctx | _ ↦ None ] ]
+
+abbrev pub hook_func : Script → ℕ → ℕ
+hook_func script s = elim (what_at script s) [ None ↦ 0 | Some what ↦ elim what [ What.Hook ctx func ↦ func | _ ↦ 0 ] ]
+
+abbrev pub is_error : Script → ℕ → Bool
+is_error script e = names_error (what_at script e)

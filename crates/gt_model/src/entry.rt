@@ -1,5 +1,7 @@
 //! The entries of a history, and what a history is judged to be.
 
+use crate::context::{CauseVal, ErrVal};
+
 /// A goroutine at its plain instruction (case 0), or at a case of its select, from 1.
 #[derive(Clone, Copy, Debug, PartialEq, Eq)]
 pub struct Party {
@@ -146,6 +148,53 @@ pub enum Entry {
     WgWait {
         g: u32,
         w: u32,
+    },
+    /// A goroutine made a context; whether it has ended at once.
+    CtxMake {
+        g: u32,
+        x: u32,
+        ended: bool,
+    },
+    /// A goroutine canceled a context; whether it had not ended before, and how many functions were started by its end.
+    Cancel {
+        g: u32,
+        x: u32,
+        newly: bool,
+        starts: u32,
+    },
+    /// A context came to its deadline; how many functions were started by its end.
+    Expire {
+        x: u32,
+        starts: u32,
+    },
+    /// A goroutine looked at the error of a context; none before its end.
+    CtxErr {
+        g: u32,
+        x: u32,
+        err: Option<ErrVal>,
+    },
+    /// A goroutine looked at the cause of a context's end; none before it.
+    Cause {
+        g: u32,
+        x: u32,
+        cause: Option<CauseVal>,
+    },
+    /// A goroutine found a context ended, or waited until it was.
+    CtxDone {
+        p: Party,
+        x: u32,
+    },
+    /// A goroutine registered a function that starts when its context ends; who was started at once, where the context has ended.
+    CtxAfter {
+        g: u32,
+        s: u32,
+        child: Option<u32>,
+    },
+    /// A goroutine took such a function back; whether that kept it from being started.
+    CtxStop {
+        g: u32,
+        s: u32,
+        stopped: bool,
     },
     /// The clock of a world moved to a time. The program is world 0.
     Clock {

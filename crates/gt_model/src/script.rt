@@ -1,5 +1,6 @@
 //! A script: its declarations, and the code of its functions.
 
+use crate::context::Form;
 use crate::lists::{Cases, Code, Decls, Funcs, Text};
 
 /// A script as the reader makes it. Declarations and functions are in the order of their lines, counted from 0.
@@ -36,6 +37,12 @@ pub enum What {
     Wg,
     /// A condition variable, with the mutex at this place among the declarations.
     Cond { mutex: u32 },
+    /// A context, derived from the one at this place among the declarations, or from the root, which nobody makes.
+    Ctx { parent: Option<u32>, form: Form },
+    /// A function that starts when a context ends: the place of the context among the declarations, and that of the function in the script's `funcs`.
+    Hook { ctx: u32, func: u32 },
+    /// An error, which may be the cause of a context's end.
+    Error,
     Function,
 }
 
@@ -79,7 +86,7 @@ pub enum Instr {
         t: u32,
         d: u64,
     },
-    /// Receive from a timer or a channel.
+    /// Receive from a timer or a channel, or wait for the end of a context.
     Recv {
         o: u32,
     },
@@ -124,6 +131,31 @@ pub enum Instr {
     /// Wait until the counter of a WaitGroup is 0.
     Wait {
         w: u32,
+    },
+    /// Make a context.
+    With {
+        x: u32,
+    },
+    /// Cancel a context, with the error at this place as the cause where one is named.
+    Cancel {
+        x: u32,
+        cause: Option<u32>,
+    },
+    /// Look at the error of a context.
+    ErrOf {
+        x: u32,
+    },
+    /// Look at the cause of a context's end.
+    CauseOf {
+        x: u32,
+    },
+    /// Register a function that starts when its context ends.
+    After {
+        s: u32,
+    },
+    /// Keep such a function from being started.
+    Unhook {
+        s: u32,
     },
     /// Choose one of 1 to 16 cases that can go on; where none can, go on at the index `default_to`, if there is one. The numbers of the cases count from 1.
     Select {

@@ -6,19 +6,27 @@ use Rattle.std.specs.declared.option.Option.{Option}
 use Rattle.std.specs.declared.option.Option.TheVariants.{None, Some}
 use Rattle.gt_model.specs.Good.{is_name}
 use Rattle.gt_lines.specs.Words.{Words, NumberedLine, next}
+use Rattle.gt_table.specs.declared.form.CtxForm.{CtxForm}
 use Rattle.gt_table.specs.declared.form.Kind.{Kind}
 use Rattle.gt_table.specs.declared.table.Keyword.{Keyword}
 use Rattle.gt_table.specs.Forms.{declared_kind}
-use Rattle.gt_table.specs.Table.{keyword_of, form_of}
+use Rattle.gt_table.specs.Table.{keyword_of, ctx_form_of, form_of}
 use Rattle.gt_names.specs.declared.names.Declared.{Declared}
 
 -- a word that may be declared: a name, but not `root`
 abbrev pub is_free_name : List ℕ → Bool
 is_free_name word = is_name word && not (bytes_eq word (codes "root"))
 
--- what a line with this first word declares its name as
-abbrev pub kind_of : List ℕ → Option Kind
-kind_of word = option_and_then (λ (k : Keyword). declared_kind (form_of k).role) (keyword_of word)
+-- the form that a context's line tells, which has these words behind its first: its fourth word, if that is the word of a form
+abbrev pub form_told : Words → Option CtxForm
+form_told (name ∷ parent ∷ word ∷ words) = ctx_form_of word
+form_told _ = None
+
+-- what a line with this first word and these behind it declares its name as
+abbrev pub kind_of : List ℕ → Words → Option Kind
+kind_of word words =
+    if bytes_eq word (codes "ctx") then Some (Kind.Ctx (form_told words))
+    else option_and_then (λ (k : Keyword). declared_kind (form_of k).role) (keyword_of word)
 
 -- A name that a line declares: its first word is that of a declaration, and its second word the name, whatever else is wrong with it
 pub record Naming : Type 0 where
@@ -32,7 +40,7 @@ abbrev pub named : List ℕ → Option Kind → Option Naming
 named name kind = if is_free_name name then option_map (naming name) kind else None
 
 abbrev pub naming_of : Words → Option Naming
-naming_of (word ∷ name ∷ words) = named name (kind_of word)
+naming_of (word ∷ name ∷ words) = named name (kind_of word (name ∷ words))
 naming_of _ = None
 
 -- how many functions there are with one of this kind
@@ -45,6 +53,9 @@ functions_with Kind.Chan functions = functions
 functions_with Kind.Mutex functions = functions
 functions_with Kind.Wg functions = functions
 functions_with Kind.Cond functions = functions
+functions_with (Kind.Ctx form) functions = functions
+functions_with Kind.Hook functions = functions
+functions_with Kind.Error functions = functions
 
 -- a declared name
 pub record Declaration : Type 0 where

@@ -3,11 +3,11 @@
 ghost use Rattle.std.specs.Prelude.{◌≡◌, ◌∷◌, IfOk, MatchOption};
 ghost use Rattle.gt_lines.specs.Words.{words_of, numbered_lines};
 ghost use Rattle.gt_names.specs.Known.{known};
-ghost use Rattle.gt_names.specs.Names.{kind_of, naming, naming_of, names_of, functions_with};
+ghost use Rattle.gt_names.specs.Names.{form_told, kind_of, naming, naming_of, names_of, functions_with};
 
 use crate::name::is_free_name;
-use gt_lines::{Line, first_word, next_line};
-use gt_table::{Kind, read_keyword};
+use gt_lines::{Line, first_word, is_text, next_line};
+use gt_table::{CtxForm, Kind, read_ctx_form, read_keyword};
 use std::alloc::{AllocError, Global};
 use std::collections::BTreeMap;
 
@@ -32,10 +32,25 @@ pub struct NameTable<'a> {
     functions: u32,
 }
 
-// What a line with this first word declares its name as.
-fn kind_of(word: &[u8]) -> Option<Kind>
-    ensures { result ≡ kind_of word.now }
+// The form that a context's line tells, which has this behind its first word.
+fn form_told(rest: &[u8]) -> Option<CtxForm>
+    ensures { result ≡ form_told (words_of rest.now) }
 {
+    let (_, rest) = first_word(rest)?;
+    let (_, rest) = first_word(rest)?;
+    let (word, _) = first_word(rest)?;
+    read_ctx_form(word)
+}
+
+// What a line with this first word, and this behind it, declares its name as.
+fn kind_of(word: &[u8], rest: &[u8]) -> Option<Kind>
+    ensures { result ≡ kind_of word.now (words_of rest.now) }
+{
+    if is_text(word, b"ctx") {
+        return Some(Kind::Ctx {
+            form: form_told(rest),
+        });
+    }
     read_keyword(word)?.form().role.declared_kind()
 }
 
@@ -44,7 +59,7 @@ fn read_naming<'a>(word: &[u8], rest: &'a [u8]) -> Option<(&'a [u8], Kind)>
     ensures { MatchOption result (naming_of (word.now ∷ words_of rest.now) ≡ None)
         (λ r. naming_of (word.now ∷ words_of rest.now) ≡ Some (naming r.0.now r.1)) }
 {
-    let kind = kind_of(word)?;
+    let kind = kind_of(word, rest)?;
     let (name, _) = first_word(rest)?;
     if !is_free_name(name) {
         return None;
@@ -55,15 +70,10 @@ fn read_naming<'a>(word: &[u8], rest: &'a [u8]) -> Option<(&'a [u8], Kind)>
 fn functions_with(kind: Kind, functions: u32) -> u32
     ensures { result ≡ functions_with kind functions }
 {
-    match kind {
-        Kind::Function => functions.saturating_add(1),
-        Kind::Timer
-        | Kind::Ticker
-        | Kind::AfterFunc
-        | Kind::Chan
-        | Kind::Mutex
-        | Kind::Wg
-        | Kind::Cond => functions,
+    if kind.is_function() {
+        functions.saturating_add(1)
+    } else {
+        functions
     }
 }
 
@@ -131,7 +141,7 @@ impl<'a> NameTable<'a> {
     }
 }
 
-/// The names that a text declares, in one pass over its lines. It looks at the second word of lines that declare alone.
+/// The names that a text declares, in one pass over its lines. It looks at the words behind the first of lines that declare alone.
 pub fn read_names<'a>(alloc: Global, text: &'a [u8]) -> Result<NameTable<'a>, AllocError>
     ensures { IfOk result (λ names. known names ≡ names_of (numbered_lines text.now)) }
 {

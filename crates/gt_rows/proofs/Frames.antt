@@ -1,5 +1,5 @@
 -- What a change by an entry leaves of due times, periods, the program's clock and marks.
-use Rattle.std.proofs.Common.{◌≡◌, ◌≢◌, inl, inr, ℕ, zero, suc, ◌+◌, ◌-◌, ◌<◌, ◌==◌, cond, List, [], ◌∷◌, ◌++◌, length, set, refl, sym, ap, subst, ◌∙◌, Option, None, Some, Bool, true, false, IfSome, is_some, nat_lt, slice_get, slice_index, option_map}
+use Rattle.std.proofs.Common.{◌≡◌, ◌≢◌, inl, inr, ℕ, zero, suc, ◌+◌, ◌-◌, ◌<◌, ◌==◌, cond, List, [], ◌∷◌, ◌++◌, length, set, refl, sym, ap, subst, ◌∙◌, Option, None, Some, Bool, true, false, IfSome, is_some, nat_lt, slice_get, slice_index, option_map, is_none}
 use Rattle.std.proofs.lemmas.Bool.{cases_eq, eq-eqb, ne_eqb}
 use Rattle.std.proofs.lemmas.Option.{slice_get-map}
 use Rattle.gt_model.specs.declared.script.Script.{Script}
@@ -12,8 +12,8 @@ use Rattle.gt_model.specs.declared.state.Timer.{Timer}
 use Rattle.gt_model.specs.Good.{IsGood}
 use Rattle.gt_model.specs.Tables.{numbered, at, change_numbered}
 use Rattle.gt_model.proofs.Items.{at-set_same, at-set_other, at-change_same, at-change_other, numbered-change_same, numbered-change_other, numbered-push_same, numbered-push_other, numbered-next, HasNumber, has_number}
-use Rattle.gt_rules.specs.State.{State, goroutine_at, timer_at, due_of, sleeps_until, until_of, is_suspended, clock}
-use Rattle.gt_rules.specs.After.{after, changed, moved, in_mode, signalled, with_signalled, set_due, set_again, with_mover, with_starts, started_by, with_retimed, with_clock, retimed, new_period, number_of}
+use Rattle.gt_rules.specs.State.{State, goroutine_at, timer_at, due_of, sleeps_until, until_of, is_suspended, clock, context_at, world_of}
+use Rattle.gt_rules.specs.After.{after, changed, moved, in_mode, signalled, with_signalled, set_due, set_again, with_mover, with_starts, started_by, with_retimed, with_clock, retimed, new_period, number_of, with_grown}
 use Rattle.gt_rules.specs.Change.{Change, change_of}
 use Rattle.gt_rules.specs.Finish.{Legal}
 use Rattle.gt_rules.specs.History.{state_after}
@@ -24,14 +24,21 @@ use Rattle.gt_rules.specs.declared.change.Start.{Start}
 use Rattle.gt_facts.specs.Formed.{IsFormed}
 use Rattle.gt_facts.proofs.Formed.{length-mover}
 use Rattle.gt_facts.proofs.Suspended.{suspended-mode}
-use Rattle.gt_facts.proofs.Fits.{IsLive, FitsTimer, Fits, fits-Legal}
+use Rattle.gt_facts.proofs.Fits.{IsLive, FitsTimer, Fits, fits-Legal, FitsTree}
 use Rattle.gt_book.proofs.Passing.{enters-script}
 use Rattle.gt_schedule.specs.Schedule.{Schedule, status_of, is_parked, scheduled, schedule_after, marks_at, with_new, begun_by, gone_on, turned, moved_by, signalled_by, parties_at}
 use Rattle.gt_schedule.proofs.Relocked.{each-marks}
 use Rattle.gt_book.specs.View.{BookView, Enters, AreWoken, IsLawful, finish_by, finish_due, is_waiting, is_firm_at}
 use Rattle.gt_machine.specs.Outcomes.{due_outcome}
-use Rattle.gt_rows.specs.Agrees.{due_by, period_by}
-use Rattle.gt_rows.specs.Frames.{until_after, timer_touched, sleep_touched, touched, timer_period_touched, period_touched, clock_touched}
+use Rattle.gt_rows.specs.Agrees.{due_by, period_by, live_at}
+use Rattle.gt_rows.specs.Frames.{until_after, timer_touched, sleep_touched, touched, timer_period_touched, period_touched, clock_touched, own_touched}
+use Rattle.gt_rules.specs.Contexts.{made_context, is_reached, ended_by, cut_contexts}
+use Rattle.gt_rules.specs.declared.change.TreeStep.{TreeStep}
+use Rattle.gt_model.specs.declared.context.Context.{Context}
+use Rattle.gt_model.specs.declared.context.End.{End}
+use Rattle.gt_model.specs.Script.{is_ctx}
+use Rattle.gt_facts.proofs.Contexts.{at-cut}
+use Rattle.gt_book.specs.Steps.{live_deadline}
 
 -- ---- the entries of goroutines that are woken
 
@@ -48,8 +55,8 @@ IsAwake (Move.Relocks k) = ⊥
 IsAwake Move.Ends = ⊥
 IsAwake Move.Panics = Unit {0}
 
--- an entry of a goroutine that is woken: one that was parked and firmly ready goes on or panics, alone, and no timer and no clock changes
-record IsWoken (script : Script) (s : State) (m : Schedule) (e : Entry) : Type 0 where
+-- an entry of a goroutine that is woken: one that was parked and firmly ready goes on or panics, alone, and no timer, no context and no clock changes
+pub record IsWoken (script : Script) (s : State) (m : Schedule) (e : Entry) : Type 0 where
   g : ℕ
   move : Move
   awake : IsAwake move
@@ -58,12 +65,13 @@ record IsWoken (script : Script) (s : State) (m : Schedule) (e : Entry) : Type 0
   timer : (change_of e).timer ≡ None
   starts : (change_of e).starts ≡ []
   clock : (change_of e).clock ≡ None
+  tree : (change_of e).tree ≡ None
   parked : is_waiting m g ≡ true
   firm : is_firm_at script s m g ≡ true
 
 woken-goes : (script : Script) (s : State) (m : Schedule) (e : Entry) (g : ℕ) (move : Move) → IsAwake move → (change_of e).mover ≡ Some (g, move) → (change_of e).partner ≡ None
-    → (change_of e).timer ≡ None → (change_of e).starts ≡ [] → (change_of e).clock ≡ None → (is_waiting m g ≡ true) × (is_firm_at script s m g ≡ true) → IsWoken script s m e
-woken-goes script s m e g move awake mover partner timer starts clock woken = record {
+    → (change_of e).timer ≡ None → (change_of e).starts ≡ [] → (change_of e).clock ≡ None → (change_of e).tree ≡ None → (is_waiting m g ≡ true) × (is_firm_at script s m g ≡ true) → IsWoken script s m e
+woken-goes script s m e g move awake mover partner timer starts clock tree woken = record {
   g = g;
   move = move;
   awake = awake;
@@ -72,33 +80,40 @@ woken-goes script s m e g move awake mover partner timer starts clock woken = re
   timer = timer;
   starts = starts;
   clock = clock;
+  tree = tree;
   parked = woken.0;
   firm = woken.1;
 }
 
 woken-is : (script : Script) (s : State) (m : Schedule) (e : Entry) (h : List Entry) → AreWoken script s m (e ∷ h) → IsWoken script s m e
-woken-is script s m (Entry.Say g n) h woken = woken-goes script s m _ g (Move.GoesOn 0) tt refl refl refl refl refl woken.0
-woken-is script s m (Entry.Now g now) h woken = woken-goes script s m _ g (Move.GoesOn 0) tt refl refl refl refl refl woken.0
-woken-is script s m (Entry.Sleep g None) h woken = woken-goes script s m _ g (Move.GoesOn 0) tt refl refl refl refl refl woken.0
-woken-is script s m (Entry.Wake g) h woken = woken-goes script s m _ g (Move.GoesOn 0) tt refl refl refl refl refl woken.0
-woken-is script s m (Entry.Make g c) h woken = woken-goes script s m _ g (Move.GoesOn 0) tt refl refl refl refl refl woken.0
-woken-is script s m (Entry.Send p c v) h woken = woken-goes script s m _ p.g (Move.GoesOn p.case_no) tt refl refl refl refl refl woken.0
-woken-is script s m (Entry.Recv p c v) h woken = woken-goes script s m _ p.g (Move.GoesOn p.case_no) tt refl refl refl refl refl woken.0
-woken-is script s m (Entry.Close g c) h woken = woken-goes script s m _ g (Move.GoesOn 0) tt refl refl refl refl refl woken.0
-woken-is script s m (Entry.Default g) h woken = woken-goes script s m _ g (Move.GoesOn 0) tt refl refl refl refl refl woken.0
-woken-is script s m (Entry.Lock g k) h woken = woken-goes script s m _ g (Move.GoesOn 0) tt refl refl refl refl refl woken.0
-woken-is script s m (Entry.Unlock g k) h woken = woken-goes script s m _ g (Move.GoesOn 0) tt refl refl refl refl refl woken.0
-woken-is script s m (Entry.Add g w n) h woken = woken-goes script s m _ g (Move.GoesOn 0) tt refl refl refl refl refl woken.0
-woken-is script s m (Entry.WgWait g w) h woken = woken-goes script s m _ g (Move.GoesOn 0) tt refl refl refl refl refl woken.0
-woken-is script s m (Entry.CondWake g k) h woken = woken-goes script s m _ g (Move.GoesOn 0) tt refl refl refl refl refl woken.0
-woken-is script s m (Entry.Signal g k None) h woken = woken-goes script s m _ g (Move.GoesOn 0) tt refl refl refl refl refl woken.0
-woken-is script s m (Entry.Panic p reason) h woken = woken-goes script s m _ p.g Move.Panics tt refl refl refl refl refl woken.0
+woken-is script s m (Entry.Say g n) h woken = woken-goes script s m _ g (Move.GoesOn 0) tt refl refl refl refl refl refl woken.0
+woken-is script s m (Entry.Now g now) h woken = woken-goes script s m _ g (Move.GoesOn 0) tt refl refl refl refl refl refl woken.0
+woken-is script s m (Entry.Sleep g None) h woken = woken-goes script s m _ g (Move.GoesOn 0) tt refl refl refl refl refl refl woken.0
+woken-is script s m (Entry.Wake g) h woken = woken-goes script s m _ g (Move.GoesOn 0) tt refl refl refl refl refl refl woken.0
+woken-is script s m (Entry.Make g c) h woken = woken-goes script s m _ g (Move.GoesOn 0) tt refl refl refl refl refl refl woken.0
+woken-is script s m (Entry.Send p c v) h woken = woken-goes script s m _ p.g (Move.GoesOn p.case_no) tt refl refl refl refl refl refl woken.0
+woken-is script s m (Entry.Recv p c v) h woken = woken-goes script s m _ p.g (Move.GoesOn p.case_no) tt refl refl refl refl refl refl woken.0
+woken-is script s m (Entry.Close g c) h woken = woken-goes script s m _ g (Move.GoesOn 0) tt refl refl refl refl refl refl woken.0
+woken-is script s m (Entry.Default g) h woken = woken-goes script s m _ g (Move.GoesOn 0) tt refl refl refl refl refl refl woken.0
+woken-is script s m (Entry.Lock g k) h woken = woken-goes script s m _ g (Move.GoesOn 0) tt refl refl refl refl refl refl woken.0
+woken-is script s m (Entry.Unlock g k) h woken = woken-goes script s m _ g (Move.GoesOn 0) tt refl refl refl refl refl refl woken.0
+woken-is script s m (Entry.Add g w n) h woken = woken-goes script s m _ g (Move.GoesOn 0) tt refl refl refl refl refl refl woken.0
+woken-is script s m (Entry.WgWait g w) h woken = woken-goes script s m _ g (Move.GoesOn 0) tt refl refl refl refl refl refl woken.0
+woken-is script s m (Entry.CondWake g k) h woken = woken-goes script s m _ g (Move.GoesOn 0) tt refl refl refl refl refl refl woken.0
+woken-is script s m (Entry.Signal g k None) h woken = woken-goes script s m _ g (Move.GoesOn 0) tt refl refl refl refl refl refl woken.0
+woken-is script s m (Entry.Panic p reason) h woken = woken-goes script s m _ p.g Move.Panics tt refl refl refl refl refl refl woken.0
+woken-is script s m (Entry.CtxErr g x err) h woken = woken-goes script s m _ g (Move.GoesOn 0) tt refl refl refl refl refl refl woken.0
+woken-is script s m (Entry.Cause g x cause) h woken = woken-goes script s m _ g (Move.GoesOn 0) tt refl refl refl refl refl refl woken.0
+woken-is script s m (Entry.CtxDone p x) h woken = woken-goes script s m _ p.g (Move.GoesOn p.case_no) tt refl refl refl refl refl refl woken.0
+woken-is script s m (Entry.Cancel g x true n) h woken = absurd woken.0
+woken-is script s m (Entry.Cancel g x false zero) h woken = woken-goes script s m _ g (Move.GoesOn 0) tt refl refl refl refl refl refl woken.0
+woken-is script s m (Entry.Cancel g x false (suc n)) h woken = absurd woken.0
 woken-is script s m _ h woken = absurd woken.0
 
 -- what neither such an entry nor a finish changes
-record IsFrame {X : Type 0} (script : Script) (F : State → X) : Type 0 where
-  woken : (s : State) (m : Schedule) (e : Entry) → IsWoken script s m e → F (after script s e) ≡ F s
-  finish : (s : State) (outcome : Outcome) → F (after script s (Entry.Finish outcome)) ≡ F s
+pub record IsFrame {X : Type 0} (script : Script) (F : State → X) : Type 0 where
+  pub woken : (s : State) (m : Schedule) (e : Entry) → IsWoken script s m e → F (after script s e) ≡ F s
+  pub finish : (s : State) (outcome : Outcome) → F (after script s (Entry.Finish outcome)) ≡ F s
 
 frame-woken : {X : Type 0} (script : Script) (F : State → X) → IsFrame script F → (s : State) (m : Schedule) (h : List Entry) → AreWoken script s m h
     → F (state_after script s h) ≡ F s
@@ -114,7 +129,7 @@ state-append : (script : Script) (s : State) (h k : List Entry) → state_after 
 state-append script s [] k = refl
 state-append script s (e ∷ h) k = state-append script (after script s e) h k
 
-enters-frame : {X : Type 0} (old : BookView) (e : Entry) (new : BookView) (F : State → X) → IsFrame old.script F → Enters old e new
+pub enters-frame : {X : Type 0} (old : BookView) (e : Entry) (new : BookView) (F : State → X) → IsFrame old.script F → Enters old e new
     → F new.state ≡ F (after old.script old.state e)
 enters-frame old e new F frame enters =
     let first : State = after old.script old.state e in
@@ -181,6 +196,8 @@ asleep-signalled gs (Some k) (suc i) = ap asleep (slice_get-map (signalled k) gs
 awake-begun : (script : Script) (s : State) (x : Start) → asleep (Some (started_by script s x)) ≡ None
 awake-begun script s (Start.ByGoroutine g f) = refl
 awake-begun script s (Start.ByTimer t) = refl
+awake-begun script s (Start.ByHook h) = refl
+awake-begun script s (Start.ByEnd x i) = refl
 
 asleep-begun : (script : Script) (s : State) (gs : List Goroutine) (starts : List Start) (h : ℕ) → asleep (numbered (with_starts script s gs starts) h) ≡ asleep (numbered gs h)
 asleep-begun script s gs [] h = refl
@@ -263,12 +280,56 @@ due-retimed script s mover ts (Some (t, Setting.Ended next)) u right =
 abbrev period_in : Option Timer → ℕ
 period_in o = elim o as (λ o. ℕ) [ None ↦ 0 | Some r ↦ r.period ]
 
+-- ---- own deadlines of contexts
+
+abbrev live_in : Option Context → Option ℕ
+live_in o = elim o as (λ o. Option ℕ) [ None ↦ None | Some r ↦ live_deadline r ]
+
+-- a context that is made has its place
+abbrev GrownIsRight : List (Option Context) → Option (ℕ × TreeStep) → Type 0
+GrownIsRight cs None = Unit {0}
+GrownIsRight cs (Some (x, TreeStep.Derived)) = x < length cs
+GrownIsRight cs (Some (x, TreeStep.Canceled)) = Unit {0}
+GrownIsRight cs (Some (x, TreeStep.Expired)) = Unit {0}
+GrownIsRight cs (Some (x, TreeStep.Registered)) = Unit {0}
+GrownIsRight cs (Some (x, TreeStep.Unhooked)) = Unit {0}
+
+-- one that has ended has none
+live-ended : (end : End) (o : Option Context) → live_in (option_map (ended_by end) o) ≡ None
+live-ended end None = refl
+live-ended end (Some r) =
+    elim r.end as (λ o. cond (is_none (elim o as (λ o. Option End) [ None ↦ Some end | Some first ↦ Some first ])) r.own None ≡ None) [
+      | None ↦ refl
+      | Some first ↦ refl
+    ]
+
+live-cut : (script : Script) (s : State) (x : ℕ) (end : End) (u : ℕ) → live_in (at (cut_contexts script s x end) u) ≡ cond (is_reached script s x u) None (live_in (context_at s u))
+live-cut script s x end u = ap live_in (at-cut script s x end u) ∙ by (is_reached script s x u)
+  where
+    by : (b : Bool) → live_in (cond b (option_map (ended_by end) (context_at s u)) (context_at s u)) ≡ cond b None (live_in (context_at s u))
+    by true = live-ended end (context_at s u)
+    by false = refl
+
+live-grown : (script : Script) (s : State) (c : Change) (o : Option (ℕ × TreeStep)) (u : ℕ) → GrownIsRight s.contexts o
+    → live_in (at (with_grown script s c.mover o) u) ≡ own_touched script s c o u (live_in (context_at s u))
+live-grown script s c None u right = refl
+live-grown script s c (Some (x, TreeStep.Derived)) u right =
+    let made : Context = made_context script s (world_of s (number_of c.mover)) x in
+    by-timer (live_in (at (set s.contexts x (Some made)) u)) (live_in (context_at s u)) (live_deadline made) x u
+    (λ is. ap (λ v. live_in (at (set s.contexts x (Some made)) v)) is ∙ ap live_in (at-set_same s.contexts x (Some made) right))
+    (λ n. ap live_in (at-set_other s.contexts x u (Some made) n))
+live-grown script s c (Some (x, TreeStep.Canceled)) u right = live-cut script s x _ u
+live-grown script s c (Some (x, TreeStep.Expired)) u right = live-cut script s x _ u
+live-grown script s c (Some (x, TreeStep.Registered)) u right = refl
+live-grown script s c (Some (x, TreeStep.Unhooked)) u right = refl
+
 -- ---- what an entry touches is there
 
 record TouchesRightly (s : State) (c : Change) : Type 0 where
   mover : MoverIsThere s.goroutines c.mover
   partner : MoverIsThere s.goroutines c.partner
   setting : SettingIsRight s.timers c.timer
+  grown : GrownIsRight s.contexts c.tree
 
 goer-there : (s : State) (o : Option (ℕ × Move)) → IfSome o (λ (m : ℕ × Move). IsLive s m.0) → MoverIsThere s.goroutines o
 goer-there s None live = tt
@@ -280,10 +341,22 @@ setting-right s (Some (t, Setting.Made due)) fits = fits.0
 setting-right s (Some (t, Setting.SetAnew due)) fits = fits
 setting-right s (Some (t, Setting.Ended next)) fits = fits
 
+grown-right : (script : Script) (s : State) (o : Option (ℕ × TreeStep)) → IfSome o (λ (x : ℕ × TreeStep). FitsTree script s x.0 x.1) → GrownIsRight s.contexts o
+grown-right script s None fits = tt
+grown-right script s (Some (x, TreeStep.Derived)) fits = fits.within
+grown-right script s (Some (x, TreeStep.Canceled)) fits = tt
+grown-right script s (Some (x, TreeStep.Expired)) fits = tt
+grown-right script s (Some (x, TreeStep.Registered)) fits = tt
+grown-right script s (Some (x, TreeStep.Unhooked)) fits = tt
+
 touches-legal : (script : Script) (limits : Limits) (s : State) (e : Entry) → IsGood script → IsFormed script s → Legal script limits s e → TouchesRightly s (change_of e)
 touches-legal script limits s e good formed legal =
     let fits : Fits script s (change_of e) = fits-Legal script limits s e good formed legal in
-    record { mover = goer-there s (change_of e).mover fits.mover; partner = goer-there s (change_of e).partner fits.partner; setting = setting-right s (change_of e).timer fits.timer }
+    record { mover = goer-there s (change_of e).mover fits.mover; partner = goer-there s (change_of e).partner fits.partner; setting = setting-right s (change_of e).timer fits.timer; grown = grown-right script s (change_of e).tree fits.tree }
+
+pub enters-fits : (old : BookView) (e : Entry) (new : BookView) → IsLawful old → Enters old e new
+    → IfSome (change_of e).tree (λ (x : ℕ × TreeStep). FitsTree old.script old.state x.0 x.1)
+enters-fits old e new lawful enters = (fits-Legal old.script old.limits old.state e lawful.good lawful.formed enters.legal.0).tree
 
 enters-touches : (old : BookView) (e : Entry) (new : BookView) → IsLawful old → Enters old e new → TouchesRightly old.state (change_of e)
 enters-touches old e new lawful enters = touches-legal old.script old.limits old.state e lawful.good lawful.formed enters.legal.0
@@ -294,19 +367,20 @@ cond-both : {X : Type 0} (b : Bool) (x y p q : X) → x ≡ p → y ≡ q → co
 cond-both true x y p q e f = e
 cond-both false x y p q e f = f
 
--- the parts of a condition's branches, where each is a condition too
-cond-parts : {X : Type 0} (b : Bool) (f g : X → X) (x y : X) → cond b (f x) (g y) ≡ cond b (f (cond b x y)) (g (cond b x y))
-cond-parts true f g x y = refl
-cond-parts false f g x y = refl
+-- the same of one inside another, where each branch is changed by what it was
+cond-three : {X : Type 0} (b d : Bool) (f g h : X → X) (x y z p q r : X) → p ≡ f x → q ≡ g y → r ≡ h z
+    → cond b (cond d p q) r ≡ cond b (cond d (f (cond b (cond d x y) z)) (g (cond b (cond d x y) z))) (h (cond b (cond d x y) z))
+cond-three true true f g h x y z p q r e k l = e
+cond-three true false f g h x y z p q r e k l = k
+cond-three false d f g h x y z p q r e k l = l
 
-dues-changed : (script : Script) (s : State) (c : Change) (id : ℕ) → TouchesRightly s c → due_by script (changed script s c) id ≡ touched c (length script.decls) id (due_by script s id)
+dues-changed : (script : Script) (s : State) (c : Change) (id : ℕ) → TouchesRightly s c → due_by script (changed script s c) id ≡ touched script s c id (due_by script s id)
 dues-changed script s c id right =
-    let below : Bool = nat_lt id (length script.decls) in
     let g : ℕ = id - length script.decls in
     let both : Option ℕ → Option ℕ = λ before. sleep_touched c.partner g (sleep_touched c.mover g before) in
-    cond-both below (due_of (changed script s c) id) (sleeps_until (changed script s c) g) (timer_touched c.timer id (due_of s id)) (both (sleeps_until s g))
-    (due-retimed script s c.mover s.timers c.timer id right.setting) (sleeps-changed script s c g right.mover right.partner)
-    ∙ cond-parts below (timer_touched c.timer id) both (due_of s id) (sleeps_until s g)
+    cond-three (nat_lt id (length script.decls)) (is_ctx script id) (own_touched script s c c.tree id) (timer_touched c.timer id) both (live_at s id) (due_of s id) (sleeps_until s g)
+    (live_at (changed script s c) id) (due_of (changed script s c) id) (sleeps_until (changed script s c) g)
+    (live-grown script s c c.tree id right.grown) (due-retimed script s c.mover s.timers c.timer id right.setting) (sleeps-changed script s c g right.mover right.partner)
 
 -- who goes on and did not sleep still does not
 sleep-goes_on : (g x : ℕ) (before : Option ℕ) → (g ≡ x → before ≡ None) → cond (g == x) None before ≡ before
@@ -343,16 +417,19 @@ sleeps-woken script s m e g w =
 timers-woken : (script : Script) (s : State) (m : Schedule) (e : Entry) → IsWoken script s m e → (after script s e).timers ≡ s.timers
 timers-woken script s m e w = ap (λ o. with_retimed script s (change_of e).mover s.timers o) w.timer
 
+pub contexts-woken : (script : Script) (s : State) (m : Schedule) (e : Entry) → IsWoken script s m e → (after script s e).contexts ≡ s.contexts
+contexts-woken script s m e w = ap (λ o. with_grown script s (change_of e).mover o) w.tree
+
 dues-frame : (script : Script) (id : ℕ) → IsFrame script (λ s. due_by script s id)
 dues-frame script id = record {
   woken = λ s m e w.
       cond-both (nat_lt id (length script.decls)) _ _ _ _
-      (ap (λ ts. due_in (at ts id)) (timers-woken script s m e w)) (sleeps-woken script s m e (id - length script.decls) w);
+      (cond-both (is_ctx script id) _ _ _ _ (ap (λ cs. live_in (at cs id)) (contexts-woken script s m e w)) (ap (λ ts. due_in (at ts id)) (timers-woken script s m e w))) (sleeps-woken script s m e (id - length script.decls) w);
   finish = λ s outcome. refl;
 }
 
 pub enters-dues : (old : BookView) (e : Entry) (new : BookView) → IsLawful old → Enters old e new → (id : ℕ)
-    → due_by new.script new.state id ≡ touched (change_of e) (length old.script.decls) id (due_by old.script old.state id)
+    → due_by new.script new.state id ≡ touched old.script old.state (change_of e) id (due_by old.script old.state id)
 enters-dues old e new lawful enters id =
     ap (λ (script : Script). due_by script new.state id) (enters-script old e new enters)
     ∙ (enters-frame old e new (λ s. due_by old.script s id) (dues-frame old.script id) enters

@@ -1,3 +1,4 @@
 pub mod Frames
+pub mod Owns
 pub mod Keeping
 pub mod Tickers

@@ -3,7 +3,11 @@ use Rattle.std.specs.Prelude.{ℕ, ◌-◌, ◌==◌, cond, nat_lt, length}
 use Rattle.std.specs.declared.option.Option.{Option}
 use Rattle.std.specs.declared.option.Option.TheVariants.{None, Some}
 use Rattle.gt_model.specs.declared.script.Script.{Script}
-use Rattle.gt_rules.specs.State.{State}
+use Rattle.gt_model.specs.Script.{is_ctx}
+use Rattle.gt_rules.specs.State.{State, world_of}
+use Rattle.gt_rules.specs.Contexts.{made_context, is_reached}
+use Rattle.gt_rules.specs.declared.change.TreeStep.{TreeStep}
+use Rattle.gt_book.specs.Steps.{live_deadline}
 use Rattle.gt_rules.specs.After.{new_period, number_of}
 use Rattle.gt_rules.specs.Change.{Change}
 use Rattle.gt_rules.specs.declared.change.Move.{Move}
@@ -31,9 +35,23 @@ abbrev pub sleep_touched : Option (ℕ × Move) → ℕ → Option ℕ → Optio
 sleep_touched None g before = before
 sleep_touched (Some x) g before = cond (g == x.0) (until_after x.1 before) before
 
--- the due time of the record of a number, where there are n declarations and it had this one before
-abbrev pub touched : Change → ℕ → ℕ → Option ℕ → Option ℕ
-touched c n id before = cond (nat_lt id n) (timer_touched c.timer id before) (sleep_touched c.partner (id - n) (sleep_touched c.mover (id - n) before))
+-- the own deadline that a context keeps, where this becomes of context x and it had this one before: one that is made has its own, and those that an end reaches have none
+abbrev pub own_after : Script → State → Change → ℕ → TreeStep → ℕ → Option ℕ → Option ℕ
+own_after script s c x TreeStep.Derived id before = cond (id == x) (live_deadline (made_context script s (world_of s (number_of c.mover)) x)) before
+own_after script s c x TreeStep.Canceled id before = cond (is_reached script s x id) None before
+own_after script s c x TreeStep.Expired id before = cond (is_reached script s x id) None before
+own_after script s c x TreeStep.Registered id before = before
+own_after script s c x TreeStep.Unhooked id before = before
+
+abbrev pub own_touched : Script → State → Change → Option (ℕ × TreeStep) → ℕ → Option ℕ → Option ℕ
+own_touched script s c None id before = before
+own_touched script s c (Some x) id before = own_after script s c x.0 x.1 id before
+
+-- the due time of the record of a number, which had this one before
+abbrev pub touched : Script → State → Change → ℕ → Option ℕ → Option ℕ
+touched script s c id before =
+    cond (nat_lt id (length script.decls)) (cond (is_ctx script id) (own_touched script s c c.tree id before) (timer_touched c.timer id before))
+    (sleep_touched c.partner (id - length script.decls) (sleep_touched c.mover (id - length script.decls) before))
 
 -- a new setting has its own period, and an end leaves the old one
 abbrev pub period_after : Setting → ℕ → ℕ → ℕ

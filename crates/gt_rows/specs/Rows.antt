@@ -6,7 +6,8 @@ use Rattle.gt_model.specs.declared.script.Instr.{Instr}
 use Rattle.gt_model.specs.declared.entry.Entry.{Entry}
 use Rattle.gt_model.specs.declared.entry.Party.{Party}
 use Rattle.gt_model.specs.declared.entry.Outcome.{Outcome}
-use Rattle.gt_rules.specs.State.{clock, clock_of, stands_at, next_number}
+use Rattle.gt_rules.specs.State.{clock, clock_of, stands_at, next_number, has_ended}
+use Rattle.gt_rules.specs.Contexts.{start_count}
 use Rattle.gt_rules.specs.Legal.{due_at}
 use Rattle.gt_rules.specs.After.{new_period}
 use Rattle.gt_rules.specs.Operations.{offers, polls, receives_from}
@@ -104,6 +105,8 @@ SetsBy old g new reply (Some (Step.Waits t)) = ⊥
 SetsBy old g new reply (Some (Step.Parks kind)) = ⊥
 SetsBy old g new reply (Some (Step.Chooses timed)) = ⊥
 SetsBy old g new reply (Some (Step.Broadcasts k)) = ⊥
+SetsBy old g new reply (Some (Step.Cancels x)) = ⊥
+SetsBy old g new reply (Some (Step.Needs (TimerOp.Deadline x due))) = ⊥
 SetsBy old g new reply (Some (Step.Needs (TimerOp.Poll t))) = ⊥
 SetsBy old g new reply (Some Step.Nowhere) = ⊥
 SetsBy old g new reply None = ⊥
@@ -137,12 +140,49 @@ SleepsBy old g new reply (Some (Step.Waits t)) = ⊥
 SleepsBy old g new reply (Some (Step.Parks kind)) = ⊥
 SleepsBy old g new reply (Some (Step.Chooses timed)) = ⊥
 SleepsBy old g new reply (Some (Step.Broadcasts k)) = ⊥
+SleepsBy old g new reply (Some (Step.Cancels x)) = ⊥
+SleepsBy old g new reply (Some (Step.Needs (TimerOp.Deadline x due))) = ⊥
 SleepsBy old g new reply (Some (Step.Needs (TimerOp.Poll t))) = ⊥
 SleepsBy old g new reply (Some Step.Nowhere) = ⊥
 SleepsBy old g new reply None = ⊥
 
 abbrev pub SleepRow : Parts → ℕ → Parts → SetDone → Type 0
 SleepRow old g new reply = UnlessOver old.book SetDone.Over reply (new ≡ old) (SleepsBy old g new reply (next_of old.book g))
+
+-- ---- making a context with a deadline
+
+-- the context that an instruction makes
+abbrev pub derives : Instr → Option ℕ
+derives (Instr.With x) = Some x
+derives _ = None
+
+-- a goroutine stands at a `with` of this context
+abbrev pub DerivesAt : BookView → ℕ → ℕ → Type 0
+DerivesAt b g x = elim (stands_at b.script b.state g) [ None ↦ ⊥ | Some i ↦ derives i ≡ Some x ]
+
+abbrev pub DerivesBy : Parts → ℕ → Parts → SetDone → Option Step → Type 0
+DerivesBy old g new reply (Some (Step.Needs (TimerOp.Deadline x due))) = Arms old (Entry.CtxMake g x false) due 0 new reply
+DerivesBy old g new reply (Some (Step.Makes e)) = OnlyEnters old e new reply
+DerivesBy old g new reply (Some (Step.Needs (TimerOp.Set t d anew))) = ⊥
+DerivesBy old g new reply (Some (Step.Needs (TimerOp.Stop t))) = ⊥
+DerivesBy old g new reply (Some (Step.Needs (TimerOp.Enrolled ticket))) = ⊥
+DerivesBy old g new reply (Some (Step.Needs (TimerOp.Sleep d))) = ⊥
+DerivesBy old g new reply (Some (Step.Needs (TimerOp.Poll t))) = ⊥
+DerivesBy old g new reply (Some (Step.Waits t)) = ⊥
+DerivesBy old g new reply (Some (Step.Parks kind)) = ⊥
+DerivesBy old g new reply (Some (Step.Chooses timed)) = ⊥
+DerivesBy old g new reply (Some (Step.Broadcasts k)) = ⊥
+DerivesBy old g new reply (Some (Step.Cancels x)) = ⊥
+DerivesBy old g new reply (Some Step.Nowhere) = ⊥
+DerivesBy old g new reply None = ⊥
+
+-- the making of a context by g, or its panic
+abbrev pub DeriveRow : Parts → ℕ → Parts → SetDone → Type 0
+DeriveRow old g new reply = UnlessOver old.book SetDone.Over reply (new ≡ old) (DerivesBy old g new reply (next_of old.book g))
+
+-- the record of a context that has ended is set no more; another one stays as it is
+abbrev pub DropRow : Pair → Pair → Type 0
+DropRow old new = (new.book ≡ old.book) × (new.rec ≡ cond (has_ended old.book.state old.rec.id) (disarmed old.rec) old.rec)
 
 -- ---- stopping a timer
 
@@ -171,6 +211,8 @@ StopsBy old g new reply (Some (Step.Waits t)) = ⊥
 StopsBy old g new reply (Some (Step.Parks kind)) = ⊥
 StopsBy old g new reply (Some (Step.Chooses timed)) = ⊥
 StopsBy old g new reply (Some (Step.Broadcasts k)) = ⊥
+StopsBy old g new reply (Some (Step.Cancels x)) = ⊥
+StopsBy old g new reply (Some (Step.Needs (TimerOp.Deadline x due))) = ⊥
 StopsBy old g new reply (Some (Step.Needs (TimerOp.Poll t))) = ⊥
 StopsBy old g new reply (Some Step.Nowhere) = ⊥
 StopsBy old g new reply None = ⊥
@@ -205,6 +247,8 @@ PollsBy old g new reply (Some (Step.Waits t)) = ⊥
 PollsBy old g new reply (Some (Step.Parks kind)) = ⊥
 PollsBy old g new reply (Some (Step.Chooses timed)) = ⊥
 PollsBy old g new reply (Some (Step.Broadcasts k)) = ⊥
+PollsBy old g new reply (Some (Step.Cancels x)) = ⊥
+PollsBy old g new reply (Some (Step.Needs (TimerOp.Deadline x due))) = ⊥
 PollsBy old g new reply (Some Step.Nowhere) = ⊥
 PollsBy old g new reply None = ⊥
 
@@ -302,13 +346,18 @@ pub record Fires (old : Parts) (e : Entry) (new : Parts) (reply : HeadDone) : Ty
   pub scans : Scans old.heap new.heap 0 old.rec new.rec
   pub answer : Answers new.book HeadDone.Over reply HeadDone.Fired
 
--- what fired, by its kind. There are no deadlines so far
+-- a deadline that has come ends its context, unless that has ended
+abbrev pub ExpiresBy : Parts → Parts → HeadDone → Bool → Type 0
+ExpiresBy old new reply true = Runs old new reply HeadDone.Gone
+ExpiresBy old new reply false = Fires old (Entry.Expire old.rec.id (start_count old.book.script old.book.state old.rec.id)) new reply
+
+-- what fired, by its kind
 abbrev pub FiresAs : Parts → ℕ → Parts → HeadDone → RecKind → Type 0
 FiresAs old seq new reply RecKind.Timer = Runs old new reply (HeadDone.Send seq)
 FiresAs old seq new reply RecKind.Ticker = Runs old new reply (HeadDone.Send seq)
 FiresAs old seq new reply RecKind.Func = Fires old (Entry.FireFunc old.rec.id (next_number old.book.state)) new reply
 FiresAs old seq new reply RecKind.Sleep = Fires old (Entry.Wake (old.rec.id - length old.book.script.decls)) new reply
-FiresAs old seq new reply RecKind.Deadline = ⊥
+FiresAs old seq new reply RecKind.Deadline = ExpiresBy old new reply (has_ended old.book.state old.rec.id)
 
 -- what came of the head, by what running it answers
 abbrev pub HeadBy : Parts → Parts → HeadDone → Ran → Type 0

@@ -1,5 +1,5 @@
 -- The state after an entry.
-use Rattle.std.specs.Prelude.{ℕ, Bool, suc, ℤ, pos, negsuc, ◌-◌, ◌+◌, cond, true, false, List, [], ◌∷◌, ◌++◌, drop, map, set}
+use Rattle.std.specs.Prelude.{ℕ, Bool, suc, ℤ, pos, negsuc, ◌-◌, ◌+◌, cond, true, false, List, [], ◌∷◌, ◌++◌, drop, map, set, slice_index}
 use Rattle.std.specs.declared.option.Option.{Option}
 use Rattle.std.specs.declared.option.Option.TheVariants.{None, Some}
 use Rattle.gt_model.specs.declared.script.Script.{Script}
@@ -12,7 +12,7 @@ use Rattle.gt_model.specs.declared.state.Timer.{Timer}
 use Rattle.gt_model.specs.declared.state.Ending.{Ending}
 use Rattle.gt_model.specs.Tables.{change, change_numbered}
 use Rattle.gt_rules.specs.State.{State, Channel, stands_at, world_of, timer_at, unused, is_suspended}
-use Rattle.gt_model.specs.Script.{func_of, is_ticker, mutex_of}
+use Rattle.gt_model.specs.Script.{func_of, is_ticker, mutex_of, hook_func}
 use Rattle.gt_rules.specs.Places.{first_place, place_after}
 use Rattle.gt_rules.specs.declared.change.Move.{Move}
 use Rattle.gt_rules.specs.declared.change.Setting.{Setting}
@@ -20,6 +20,10 @@ use Rattle.gt_rules.specs.declared.change.Start.{Start}
 use Rattle.gt_rules.specs.declared.change.Trade.{Trade}
 use Rattle.gt_rules.specs.declared.change.SyncStep.{SyncStep}
 use Rattle.gt_model.specs.declared.state.SyncState.{SyncState}
+use Rattle.gt_model.specs.declared.context.Context.{Context}
+use Rattle.gt_model.specs.declared.context.HookState.{HookState}
+use Rattle.gt_rules.specs.declared.change.TreeStep.{TreeStep}
+use Rattle.gt_rules.specs.Contexts.{made_context, cut_contexts, cut_hooks, cancel_end, named_by, expiry_end, starting, hook_world, registered, unhooked}
 use Rattle.gt_rules.specs.Change.{Change, change_of}
 
 abbrev pub in_mode : Mode → Goroutine → Goroutine
@@ -127,6 +131,8 @@ with_mover script gs (Some m) = change_numbered gs m.0 (moved script m.1)
 abbrev pub started_by : Script → State → Start → Goroutine
 started_by script s (Start.ByGoroutine g f) = begun script (world_of s g) f
 started_by script s (Start.ByTimer t) = begun script (timer_world s t) (func_of script t)
+started_by script s (Start.ByHook h) = begun script (hook_world script s h) (hook_func script h)
+started_by script s (Start.ByEnd x i) = let h : ℕ = slice_index (starting script s x) i in begun script (hook_world script s h) (hook_func script h)
 
 abbrev pub with_starts : Script → State → List Goroutine → List Start → List Goroutine
 with_starts script s gs [] = gs
@@ -156,6 +162,30 @@ abbrev pub with_clock : List ℕ → Option (ℕ × ℕ) → List ℕ
 with_clock clocks None = clocks
 with_clock clocks (Some c) = set clocks c.0 c.1
 
+-- what becomes of the contexts, by somebody of world w who stands at an instruction
+abbrev pub grown : Script → State → ℕ → Option Instr → ℕ → TreeStep → List (Option Context)
+grown script s w i x TreeStep.Derived = set s.contexts x (Some (made_context script s w x))
+grown script s w i x TreeStep.Canceled = cut_contexts script s x (cancel_end (named_by i))
+grown script s w i x TreeStep.Expired = cut_contexts script s x (expiry_end script x)
+grown script s w i x TreeStep.Registered = s.contexts
+grown script s w i x TreeStep.Unhooked = s.contexts
+
+-- and of the hooks
+abbrev pub hooked : Script → State → ℕ → TreeStep → List HookState
+hooked script s x TreeStep.Derived = s.hooks
+hooked script s x TreeStep.Canceled = cut_hooks script s x
+hooked script s x TreeStep.Expired = cut_hooks script s x
+hooked script s x TreeStep.Registered = change s.hooks x (λ hook. registered script s x)
+hooked script s x TreeStep.Unhooked = change s.hooks x unhooked
+
+abbrev pub with_grown : Script → State → Option (ℕ × Move) → Option (ℕ × TreeStep) → List (Option Context)
+with_grown script s mover None = s.contexts
+with_grown script s mover (Some c) = grown script s (world_of s (number_of mover)) (stands_at script s (number_of mover)) c.0 c.1
+
+abbrev pub with_hooked : Script → State → Option (ℕ × TreeStep) → List HookState
+with_hooked script s None = s.hooks
+with_hooked script s (Some c) = hooked script s c.0 c.1
+
 -- the state after a change
 abbrev pub changed : Script → State → Change → State
 changed script s c = record {
@@ -165,6 +195,8 @@ changed script s c = record {
   timers = with_retimed script s c.mover s.timers c.timer;
   channels = with_traded s c.mover s.channels c.channel;
   syncs = with_stepped script s c.mover s.syncs c.sync;
+  contexts = with_grown script s c.mover c.tree;
+  hooks = with_hooked script s c.tree;
   ending = option_or s.ending c.ending;
 }
 
@@ -181,5 +213,7 @@ first_state script = record {
   timers = map (λ (d : Decl). None) script.decls;
   channels = map (λ (d : Decl). None) script.decls;
   syncs = map (λ (d : Decl). unused) script.decls;
+  contexts = map (λ (d : Decl). None) script.decls;
+  hooks = map (λ (d : Decl). HookState.Unregistered) script.decls;
   ending = Ending.Running;
 }

@@ -1,5 +1,5 @@
 -- What an entry changes, in one table. What becomes of the state and of the schedule, and what the entries of a history tell, follow from it.
-use Rattle.std.specs.Prelude.{ℕ, ◌==◌, cond, List, [], ◌∷◌}
+use Rattle.std.specs.Prelude.{ℕ, ◌==◌, cond, List, [], ◌∷◌, map}
 use Rattle.std.specs.declared.option.Option.{Option}
 use Rattle.std.specs.declared.option.Option.TheVariants.{None, Some}
 use Rattle.gt_model.specs.declared.entry.Entry.{Entry}
@@ -8,8 +8,11 @@ use Rattle.gt_model.specs.declared.state.Ending.{Ending}
 use Rattle.gt_rules.specs.declared.change.Move.{Move}
 use Rattle.gt_rules.specs.declared.change.Setting.{Setting}
 use Rattle.gt_rules.specs.declared.change.Start.{Start}
+use Rattle.gt_rules.specs.declared.change.Starts.{Starts}
 use Rattle.gt_rules.specs.declared.change.SyncStep.{SyncStep}
 use Rattle.gt_rules.specs.declared.change.Trade.{Trade}
+use Rattle.gt_rules.specs.declared.change.TreeStep.{TreeStep}
+use Rattle.std.specs.List.{range_with_len}
 
 pub record Change : Type 0 where
   pub mover : Option (ℕ × Move)  -- who makes the entry, by its number, and what becomes of it; of two the sender
@@ -18,13 +21,14 @@ pub record Change : Type 0 where
   pub timer : Option (ℕ × Setting)  -- a timer by its declaration, and what becomes of it
   pub channel : Option (ℕ × Trade)  -- a channel by its declaration, and what becomes of it
   pub sync : Option (ℕ × SyncStep)  -- a mutex, a WaitGroup or a Cond by its declaration, and what becomes of it
+  pub tree : Option (ℕ × TreeStep)  -- a context or a hook by its declaration, and what becomes of it
   pub starts : List Start  -- who are started, in the order of their numbers
   pub clock : Option (ℕ × ℕ)  -- a world, and the time of its clock
   pub ending : Option Ending  -- how far the run is, where the entry says it
   pub counted : ℕ  -- how much of the limit it takes
 
 abbrev pub nothing : Change
-nothing = record { mover = None; partner = None; broadcast = None; timer = None; channel = None; sync = None; starts = []; clock = None; ending = None; counted = 1 }
+nothing = record { mover = None; partner = None; broadcast = None; timer = None; channel = None; sync = None; tree = None; starts = []; clock = None; ending = None; counted = 1 }
 
 -- a goroutine goes on after its plain instruction; a party goes on after its operation
 abbrev pub on : ℕ → Change
@@ -37,6 +41,20 @@ goes_on p = (p.g, Move.GoesOn p.case_no)
 abbrev pub started : Option Start → List Start
 started None = []
 started (Some start) = start ∷ []
+
+-- those whom the end of a context starts, so many of them
+abbrev pub by_end : ℕ → ℕ → List Start
+by_end x count = map (Start.ByEnd x) (range_with_len 0 count)
+
+-- all who are started
+abbrev pub all_started : Starts → List Start
+all_started (Starts.One start) = started start
+all_started (Starts.ByEnd x count) = by_end x count
+
+-- a hook that is registered, where somebody starts by it at once
+abbrev pub by_hook : ℕ → Option ℕ → List Start
+by_hook h None = []
+by_hook h (Some child) = Start.ByHook h ∷ []
 
 -- who sleeps for 0 goes on at once
 abbrev pub sleeps : Option ℕ → Move
@@ -84,6 +102,14 @@ change_of (Entry.Signal g k woken) = record (on g) { partner = signals k woken }
 change_of (Entry.Broadcast g k count) = record (on g) { broadcast = Some k }
 change_of (Entry.Add g w n) = record (on g) { sync = Some (w, SyncStep.Adds n) }
 change_of (Entry.WgWait g w) = on g
+change_of (Entry.CtxMake g x ended) = record (on g) { tree = Some (x, TreeStep.Derived) }
+change_of (Entry.Cancel g x newly starts) = record (on g) { tree = cond newly (Some (x, TreeStep.Canceled)) None; starts = by_end x starts }
+change_of (Entry.Expire x starts) = record nothing { tree = Some (x, TreeStep.Expired); starts = by_end x starts }
+change_of (Entry.CtxErr g x err) = on g
+change_of (Entry.Cause g x cause) = on g
+change_of (Entry.CtxDone p x) = record nothing { mover = Some (goes_on p) }
+change_of (Entry.CtxAfter g h child) = record (on g) { tree = Some (h, TreeStep.Registered); starts = by_hook h child }
+change_of (Entry.CtxStop g h stopped) = record (on g) { tree = Some (h, TreeStep.Unhooked) }
 change_of (Entry.Clock world at) = record nothing { clock = Some (world, at) }
 change_of (Entry.Panic p reason) = record nothing { mover = Some (p.g, Move.Panics); ending = Some Ending.Panicked }
 change_of (Entry.Finish outcome) = record nothing { ending = Some (Ending.Finished outcome); counted = 0 }

@@ -1,5 +1,5 @@
 -- Which entry may come next.
-use Rattle.std.specs.Prelude.{ℕ, zero, suc, ◌+◌, ◌-◌, ◌*◌, ◌<◌, ◌≤◌, ◌≡◌, min, cond, Bool, true, false, not, ◌&&◌, IsTrue, IsSomeAnd, is_some, ◌≢◌, MatchOption, List, [], slice_get}
+use Rattle.std.specs.Prelude.{ℕ, zero, suc, ◌+◌, ◌-◌, ◌*◌, ◌<◌, ◌≤◌, ◌≡◌, min, cond, Bool, true, false, not, ◌&&◌, IsTrue, IsSomeAnd, is_some, is_none, ◌≢◌, MatchOption, List, [], slice_get}
 use Rattle.std.specs.List.{All}
 use Rattle.std.specs.declared.option.Option.{Option}
 use Rattle.std.specs.declared.option.Option.TheVariants.{None, Some}
@@ -13,9 +13,13 @@ use Rattle.gt_model.specs.declared.entry.Reason.{Reason}
 use Rattle.gt_model.specs.declared.state.Timer.{Timer}
 use Rattle.gt_model.specs.declared.script.Case.{Case}
 use Rattle.gt_model.specs.declared.script.CaseKind.{CaseKind}
-use Rattle.gt_rules.specs.State.{State, stands_at, clock, clock_of, world_of, sleeps_until, next_number, timer_at, due_of, period_at, items_of, item_count, is_open, is_closed, is_locked, counter_of, mode_of, suspended_count}
+use Rattle.gt_rules.specs.State.{State, stands_at, clock, clock_of, world_of, sleeps_until, next_number, timer_at, due_of, period_at, items_of, item_count, is_open, is_closed, is_locked, counter_of, mode_of, suspended_count, context_at, end_at, has_ended, hook_at}
+use Rattle.gt_rules.specs.Contexts.{made_context, start_count, hook_is_due, is_waiting_hook}
+use Rattle.gt_model.specs.declared.context.Context.{Context}
+use Rattle.gt_model.specs.declared.context.End.{End}
+use Rattle.std.specs.Option.{option_map}
 use Rattle.gt_rules.specs.Operations.{operation, polls}
-use Rattle.gt_model.specs.Script.{is_timer, is_ticker, is_func, is_chan, is_mutex, is_wg, mutex_of, capacity_of}
+use Rattle.gt_model.specs.Script.{is_timer, is_ticker, is_func, is_chan, is_mutex, is_wg, is_ctx, mutex_of, capacity_of}
 use Rattle.gt_rules.specs.Panics.{panic_at}
 use Rattle.gt_rules.specs.Ready.{is_due, is_ready_alone, has_come}
 
@@ -94,6 +98,10 @@ abbrev pub Signals : State → ℕ → Option ℕ → Type 0
 Signals s k None = suspended_count s k ≡ 0
 Signals s k (Some g) = mode_of s g ≡ Some (Mode.Suspended k)
 
+-- a context has come to its own deadline, and has no end yet
+abbrev pub Expires : State → ℕ → Type 0
+Expires s x = IsSomeAnd (context_at s x) (λ (r : Context). IsTrue (is_due r.own (clock s r.world)) × IsTrue (is_none r.end))
+
 -- where the clock of a world may move, and to which time
 abbrev pub MovesClock : State → ℕ → ℕ → Type 0
 MovesClock s zero to = (clock s 0 < to) × (to ≤ greatest_time)
@@ -131,6 +139,14 @@ May script s (Entry.Signal g k woken) = Does script s g (Instr.Signal k) × Sign
 May script s (Entry.Broadcast g k count) = Does script s g (Instr.Broadcast k) × (count ≡ suspended_count s k)
 May script s (Entry.Add g w n) = Does script s g (Instr.Add w n)
 May script s (Entry.WgWait g w) = Does script s g (Instr.Wait w) × IsTrue (is_wg script w) × (counter_of s w ≡ 0)
+May script s (Entry.CtxMake g x ended) = Does script s g (Instr.With x) × (ended ≡ is_some (made_context script s (world_of s g) x).end)
+May script s (Entry.Cancel g x newly starts) = (named : Option ℕ) × Does script s g (Instr.Cancel x named) × (newly ≡ not (has_ended s x)) × (starts ≡ start_count script s x)
+May script s (Entry.Expire x starts) = Expires s x × (starts ≡ start_count script s x)
+May script s (Entry.CtxErr g x err) = Does script s g (Instr.ErrOf x) × (err ≡ option_map (λ (end : End). end.err) (end_at s x))
+May script s (Entry.Cause g x cause) = Does script s g (Instr.CauseOf x) × (cause ≡ option_map (λ (end : End). end.cause) (end_at s x))
+May script s (Entry.CtxDone p x) = Operates script s p (CaseKind.Recv x) × IsTrue (is_ctx script x) × IsTrue (has_ended s x)
+May script s (Entry.CtxAfter g h child) = Does script s g (Instr.After h) × (child ≡ cond (hook_is_due script s h) (Some (next_number s)) None)
+May script s (Entry.CtxStop g h stopped) = Does script s g (Instr.Unhook h) × (stopped ≡ is_waiting_hook (hook_at s h))
 May script s (Entry.Clock world to) = MovesClock s world to
 May script s (Entry.Panic p reason) = MayPanic script s p reason
 May script s (Entry.Finish outcome) = ⊥

@@ -1,5 +1,6 @@
 pub mod Operations
 pub mod State
+pub mod Contexts
 pub mod Places
 pub mod Panics
 pub mod Ready

@@ -3,13 +3,13 @@ use Rattle.std.specs.Prelude.{ℕ, suc, ℤ, pos, negsuc, nat_lt, ◌+◌, ◌==
 use Rattle.std.specs.declared.option.Option.{Option}
 use Rattle.std.specs.declared.option.Option.TheVariants.{None, Some}
 use Rattle.gt_model.specs.declared.script.Script.{Script}
-use Rattle.gt_model.specs.Script.{is_ticker, mutex_of}
+use Rattle.gt_model.specs.Script.{is_ticker, mutex_of, parent_of, ctx_of}
 use Rattle.gt_model.specs.declared.script.Instr.{Instr}
 use Rattle.gt_model.specs.declared.script.Case.{Case}
 use Rattle.gt_model.specs.declared.script.CaseKind.{CaseKind}
 use Rattle.gt_model.specs.declared.entry.Reason.{Reason}
 use Rattle.gt_model.specs.declared.state.Goroutine.{Goroutine}
-use Rattle.gt_rules.specs.State.{State, stands, goroutine_at, timer_at, channel_at, is_made, is_closed, is_locked, counter_of}
+use Rattle.gt_rules.specs.State.{State, stands, goroutine_at, timer_at, channel_at, is_made, is_closed, is_locked, counter_of, context_at, hook_at, is_registered}
 
 -- the reason, if the test says so
 abbrev pub when : Bool → Reason → Option Reason
@@ -52,6 +52,11 @@ falls_below counter (negsuc n) = nat_lt counter (suc n)
 abbrev pub negative : State → ℕ → ℤ → Option Reason
 negative s w n = when (falls_below (counter_of s w) n) Reason.Negative
 
+-- the use of a context that was not made
+abbrev pub unmade_parent : State → Option ℕ → Option Reason
+unmade_parent s None = None
+unmade_parent s (Some x) = when (is_none (context_at s x)) Reason.Unmade
+
 -- the first misuse of an instruction
 abbrev pub fault : Script → State → Instr → Option Reason
 fault script s (Instr.New t d) = or_else (when (is_some (timer_at s t)) Reason.Twice) (zero_ticker script t d)
@@ -64,6 +69,12 @@ fault script s (Instr.Close c) = open_fault s c
 fault script s (Instr.Unlock m) = when (not (is_locked s m)) Reason.Unlocked
 fault script s (Instr.CWait k) = when (not (is_locked s (mutex_of script k))) Reason.Unlocked
 fault script s (Instr.Add w n) = negative s w n
+fault script s (Instr.With x) = or_else (when (is_some (context_at s x)) Reason.Twice) (unmade_parent s (parent_of script x))
+fault script s (Instr.Cancel x cause) = when (is_none (context_at s x)) Reason.Unmade
+fault script s (Instr.ErrOf x) = when (is_none (context_at s x)) Reason.Unmade
+fault script s (Instr.CauseOf x) = when (is_none (context_at s x)) Reason.Unmade
+fault script s (Instr.After h) = or_else (when (is_registered (hook_at s h)) Reason.Twice) (unmade_parent s (ctx_of script h))
+fault script s (Instr.Unhook h) = when (not (is_registered (hook_at s h))) Reason.Unmade
 fault script s (Instr.Select cases default_to) = choice_fault s cases
 fault script s _ = None
 

@@ -11,7 +11,7 @@ use Rattle.gt_model.specs.declared.script.What.{What}
 use Rattle.gt_model.specs.declared.state.Goroutine.{Goroutine}
 use Rattle.gt_model.specs.declared.state.Mode.{Mode}
 use Rattle.gt_model.specs.Script.{instr_at, what_at, is_chan, capacity_of, mutex_of}
-use Rattle.gt_rules.specs.State.{State, clock, due_of, stands, item_count, is_closed, is_locked, is_done}
+use Rattle.gt_rules.specs.State.{State, clock, due_of, stands, item_count, is_closed, is_locked, is_done, has_ended}
 use Rattle.gt_rules.specs.Operations.{receives_from, sends_to, offers, polls}
 use Rattle.gt_rules.specs.Panics.{fault, panic_of}
 
@@ -44,6 +44,9 @@ is_ready_recv s timed o (Some (What.Chan cap)) = nat_lt 0 (item_count s o) || is
 is_ready_recv s timed o (Some What.Mutex) = not (is_locked s o)
 is_ready_recv s timed o (Some What.Wg) = is_done s o
 is_ready_recv s timed o (Some (What.Cond mutex)) = false
+is_ready_recv s timed o (Some (What.Ctx parent form)) = has_ended s o
+is_ready_recv s timed o (Some (What.Hook ctx func)) = false
+is_ready_recv s timed o (Some What.Error) = false
 is_ready_recv s timed o (Some What.Function) = false
 
 abbrev pub is_ready_alone : Script → State → (ℕ → Bool) → CaseKind → Bool

@@ -1,5 +1,5 @@
 -- The state of the one-thread timer machine, and what is looked up in it.
-use Rattle.std.specs.Prelude.{ℕ, ◌==◌, ◌+◌, Bool, false, not, is_some, ◌||◌, List, [], length, slice_index, slice_index_or, count_by}
+use Rattle.std.specs.Prelude.{ℕ, ◌==◌, ◌+◌, Bool, true, false, not, is_some, ◌||◌, List, [], length, slice_index, slice_index_or, count_by}
 use Rattle.std.specs.Option.{option_map}
 use Rattle.std.specs.declared.option.Option.{Option}
 use Rattle.std.specs.declared.option.Option.TheVariants.{None, Some}
@@ -10,6 +10,9 @@ use Rattle.gt_model.specs.declared.state.Mode.{Mode}
 use Rattle.gt_model.specs.declared.state.Timer.{Timer}
 use Rattle.gt_model.specs.declared.state.Ending.{Ending}
 use Rattle.gt_model.specs.declared.state.SyncState.{SyncState}
+use Rattle.gt_model.specs.declared.context.Context.{Context}
+use Rattle.gt_model.specs.declared.context.End.{End}
+use Rattle.gt_model.specs.declared.context.HookState.{HookState}
 use Rattle.gt_model.specs.Tables.{numbered, at}
 use Rattle.gt_model.specs.Script.{instr_at}
 
@@ -26,6 +29,8 @@ pub record State : Type 0 where
   pub timers : List (Option Timer)  -- by declaration; none is unmade
   pub channels : List (Option Channel)  -- by declaration; none is unmade
   pub syncs : List SyncState  -- by declaration: what there is of a mutex, of a WaitGroup or of a Cond
+  pub contexts : List (Option Context)  -- by declaration; none is unmade
+  pub hooks : List HookState  -- by declaration: what has become of a hook
   pub ending : Ending
 
 abbrev pub goroutine_at : State → ℕ → Option Goroutine
@@ -124,6 +129,36 @@ counter_of s w = (sync_at s w).counter
 abbrev pub is_done : State → ℕ → Bool
 is_done s w = counter_of s w == 0
 
--- a timer or a channel that was made
+-- what is kept of a context, its end, and its own deadline
+abbrev pub context_at : State → ℕ → Option Context
+context_at s x = at s.contexts x
+
+abbrev pub end_at : State → ℕ → Option End
+end_at s x = elim (context_at s x) [ None ↦ None | Some r ↦ r.end ]
+
+abbrev pub has_ended : State → ℕ → Bool
+has_ended s x = is_some (end_at s x)
+
+abbrev pub own_at : State → ℕ → Option ℕ
+own_at s x = elim (context_at s x) [ None ↦ None | Some r ↦ r.own ]
+
+abbrev pub hook_at : State → ℕ → HookState
+hook_at s h = slice_index_or s.hooks h HookState.Unregistered
+
+-- a hook that was registered
+abbrev pub is_registered : HookState → Bool
+is_registered HookState.Unregistered = false
+is_registered HookState.Waiting = true
+is_registered HookState.Started = true
+is_registered HookState.Stopped = true
+
+-- one that was started
+abbrev pub is_started : HookState → Bool
+is_started HookState.Unregistered = false
+is_started HookState.Waiting = false
+is_started HookState.Started = true
+is_started HookState.Stopped = false
+
+-- a timer, a channel or a context that was made
 abbrev pub is_made : State → ℕ → Bool
-is_made s o = is_some (timer_at s o) || is_some (channel_at s o)
+is_made s o = is_some (timer_at s o) || is_some (channel_at s o) || is_some (context_at s o)

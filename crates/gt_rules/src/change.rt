@@ -61,6 +61,21 @@ pub enum SyncStep {
     Retakes,
 }
 
+/// What becomes of a context or of a hook.
+#[derive(Clone, Copy)]
+pub enum TreeStep {
+    /// The context is made.
+    Derived,
+    /// The context is canceled, and those below it.
+    Canceled,
+    /// The context has come to its deadline, and ends with those below it.
+    Expired,
+    /// The hook is registered.
+    Registered,
+    /// The hook is taken back.
+    Unhooked,
+}
+
 /// Who starts a goroutine.
 #[derive(Clone, Copy)]
 pub enum Start {
@@ -68,6 +83,19 @@ pub enum Start {
     ByGoroutine { g: u32, f: u32 },
     /// The AfterFunc timer of this declaration, which names the function.
     ByTimer { t: u32 },
+    /// The hook of this declaration, which names the function: it is registered on a context that has ended.
+    ByHook { h: u32 },
+    /// The end of the context of this declaration: the function of the hook that it starts as the `at`th one, from 0.
+    ByEnd { x: u32, at: u32 },
+}
+
+/// Who starts goroutines, by one entry.
+#[derive(Clone, Copy)]
+pub enum Starts {
+    /// One starts one, or nobody does.
+    One(Option<Start>),
+    /// The end of the context of this declaration starts so many.
+    ByEnd { x: u32, count: u32 },
 }
 
 /// A party goes on.
@@ -100,8 +128,17 @@ pub fn mover_of(entry: &Entry) -> Option<(u32, Move)>
         | Entry::CondWake { g, .. }
         | Entry::Signal { g, .. }
         | Entry::Broadcast { g, .. }
+        | Entry::CtxMake { g, .. }
+        | Entry::Cancel { g, .. }
+        | Entry::CtxErr { g, .. }
+        | Entry::Cause { g, .. }
+        | Entry::CtxAfter { g, .. }
+        | Entry::CtxStop { g, .. }
         | Entry::Sleep { g, until: None } => Some((g, Move::GoesOn { case_no })),
-        Entry::TRecv { p, .. } | Entry::Send { p, .. } | Entry::Recv { p, .. } => Some(goes_on(p)),
+        Entry::TRecv { p, .. }
+        | Entry::Send { p, .. }
+        | Entry::Recv { p, .. }
+        | Entry::CtxDone { p, .. } => Some(goes_on(p)),
         Entry::Pair { from, .. } => Some(goes_on(from)),
         Entry::Sleep {
             g,
@@ -110,7 +147,10 @@ pub fn mover_of(entry: &Entry) -> Option<(u32, Move)>
         Entry::CondWait { g, k } => Some((g, Move::Suspends { cond: k })),
         Entry::End { g } => Some((g, Move::Ends)),
         Entry::Panic { p, .. } => Some((p.g, Move::Panics)),
-        Entry::FireFunc { .. } | Entry::Clock { .. } | Entry::Finish { .. } => None,
+        Entry::FireFunc { .. }
+        | Entry::Expire { .. }
+        | Entry::Clock { .. }
+        | Entry::Finish { .. } => None,
     }
 }
 
@@ -181,14 +221,37 @@ pub fn broadcast_of(entry: &Entry) -> Option<u32>
     }
 }
 
-/// Who starts a goroutine by an entry. An entry starts one at most so far.
-pub fn start_of(entry: &Entry) -> Option<Start>
-    ensures { (table.change_of entry.now).starts ≡ table.started result }
+/// The context or the hook that an entry changes, and what becomes of it.
+pub fn tree_of(entry: &Entry) -> Option<(u32, TreeStep)>
+    ensures { result ≡ (table.change_of entry.now).tree }
 {
     match *entry {
-        Entry::Go { g, f, .. } => Some(Start::ByGoroutine { g, f }),
-        Entry::FireFunc { t, .. } => Some(Start::ByTimer { t }),
+        Entry::CtxMake { x, .. } => Some((x, TreeStep::Derived)),
+        Entry::Cancel { x, newly: true, .. } => Some((x, TreeStep::Canceled)),
+        Entry::Expire { x, .. } => Some((x, TreeStep::Expired)),
+        Entry::CtxAfter { s, .. } => Some((s, TreeStep::Registered)),
+        Entry::CtxStop { s, .. } => Some((s, TreeStep::Unhooked)),
         _ => None,
+    }
+}
+
+/// Who starts goroutines by an entry.
+pub fn starts_of(entry: &Entry) -> Starts
+    ensures { (table.change_of entry.now).starts ≡ table.all_started result }
+{
+    match *entry {
+        Entry::Go { g, f, .. } => Starts::One(Some(Start::ByGoroutine { g, f })),
+        Entry::FireFunc { t, .. } => Starts::One(Some(Start::ByTimer { t })),
+        Entry::CtxAfter {
+            s,
+            child: Some(_),
+            ..
+        } => Starts::One(Some(Start::ByHook { h: s })),
+        Entry::Cancel { x, starts, .. } | Entry::Expire { x, starts } => Starts::ByEnd {
+            x,
+            count: starts,
+        },
+        _ => Starts::One(None),
     }
 }
 

@@ -5,6 +5,6 @@
 mod change;
 
 pub use change::{
-    Move, Setting, Start, SyncStep, Trade, broadcast_of, channel_of, clock_of, ending_of, mover_of,
-    partner_of, start_of, sync_of, timer_of,
+    Move, Setting, Start, Starts, SyncStep, Trade, TreeStep, broadcast_of, channel_of, clock_of,
+    ending_of, mover_of, partner_of, starts_of, sync_of, timer_of, tree_of,
 };

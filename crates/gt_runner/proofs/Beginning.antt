@@ -5,6 +5,9 @@ use Rattle.gt_model.specs.declared.script.Script.{Script}
 use Rattle.gt_model.specs.declared.script.Decl.{Decl}
 use Rattle.gt_model.specs.declared.script.What.{What}
 use Rattle.gt_model.specs.declared.state.Timer.{Timer}
+use Rattle.gt_model.specs.declared.context.Context.{Context}
+use Rattle.gt_model.specs.Script.{is_ctx}
+use Rattle.gt_book.specs.Steps.{live_deadline}
 use Rattle.gt_model.specs.declared.entry.Limits.{Limits}
 use Rattle.gt_model.specs.Tables.{at}
 use Rattle.gt_rules.specs.State.{due_of, sleeps_until, timer_at}
@@ -14,7 +17,7 @@ use Rattle.gt_rec.specs.Rec.{Rec, BitsRight}
 use Rattle.gt_rec.specs.Changes.{unset_rec}
 use Rattle.gt_room.specs.Contents.{Contents}
 use Rattle.gt_lazy.specs.Slots.{LazyHeap, slot_with}
-use Rattle.gt_rows.specs.Agrees.{kind_by, kind_of_what, due_by, period_by, period_of_timer}
+use Rattle.gt_rows.specs.Agrees.{kind_by, kind_of_what, due_by, live_at, period_by, period_of_timer}
 use Rattle.gt_schedule.specs.Counts.{times}
 use Rattle.gt_schedule.specs.Schedule.{first_schedule, marks_at}
 use Rattle.gt_book.specs.View.{BookView, first_view}
@@ -71,6 +74,17 @@ unmade (d ∷ ds) (suc i) = unmade ds i
 first-timer : (script : Script) (id : ℕ) → timer_at (first_state script) id ≡ None
 first-timer script id = unmade script.decls id
 
+abbrev no_context : Option Context
+no_context = None
+
+underived : (decls : List Decl) (i : ℕ) → at (map (λ (d : Decl). no_context) decls) i ≡ no_context
+underived [] i = refl
+underived (d ∷ ds) zero = refl
+underived (d ∷ ds) (suc i) = underived ds i
+
+first-own : (script : Script) (id : ℕ) → live_at (first_state script) id ≡ None
+first-own script id = ap (λ (o : Option Context). elim o as (λ _. Option ℕ) [ None ↦ None | Some r ↦ live_deadline r ]) (underived script.decls id)
+
 first-due : (script : Script) (id : ℕ) → due_of (first_state script) id ≡ None
 first-due script id = ap (λ (o : Option Timer). elim o as (λ _. Option ℕ) [ None ↦ None | Some r ↦ r.due ]) (first-timer script id)
 
@@ -81,8 +95,12 @@ first-sleep script (suc (suc g)) = refl
 
 nothing-due : (script : Script) (id : ℕ) → due_by script (first_state script) id ≡ None
 nothing-due script id =
-    elim (nat_lt id (length script.decls)) as (λ b. cond b (due_of (first_state script) id) (sleeps_until (first_state script) (id - length script.decls)) ≡ None) [
-      | true ↦ first-due script id
+    elim (nat_lt id (length script.decls))
+    as (λ b. cond b (cond (is_ctx script id) (live_at (first_state script) id) (due_of (first_state script) id)) (sleeps_until (first_state script) (id - length script.decls)) ≡ None) [
+      | true ↦ elim (is_ctx script id) as (λ b. cond b (live_at (first_state script) id) (due_of (first_state script) id) ≡ None) [
+        | true ↦ first-own script id
+        | false ↦ first-due script id
+      ]
       | false ↦ first-sleep script (id - length script.decls)
     ]
 
@@ -108,7 +126,7 @@ first-kind script limits h id w (Some kind) empty is what bits =
     record {
       kept = record {
         rec = record {
-          agrees = record { kind = is ∙ ap Some same; shown = sym (nothing-due script id); period = sym (nothing-period script id) };
+          agrees = record { kind = is ∙ ap Some same; shown = inl (sym (nothing-due script id)); period = sym (nothing-period script id) };
           bits = bits;
         };
         placed = record { here = λ e. cc; elsewhere = λ n. ap (λ slots. slot_with slots id) empty };
@@ -129,6 +147,9 @@ first-kind script limits h id w (Some kind) empty is what bits =
     kinds What.Mutex kind e = cc
     kinds What.Wg kind e = cc
     kinds (What.Cond mutex) kind e = cc
+    kinds (What.Ctx parent form) kind e = cc
+    kinds (What.Hook ctx func) kind e = cc
+    kinds What.Error kind e = cc
     kinds What.Function kind e = cc
 
 get-some : {X : Type 0} (xs : List X) (i : ℕ) → i < length xs → (x : X) × (slice_get xs i ≡ Some x)

@@ -1,5 +1,5 @@
 -- What a whole call of a goroutine in hand does to a run.
-use Rattle.std.proofs.Common.{◌≡◌, ◌≢◌, ℕ, zero, suc, ◌+◌, ◌<◌, ◌≤◌, List, [], ◌∷◌, length, set, slice_get, count_by, refl, sym, ap, subst, ◌∙◌, arith, Option, None, Some, IsNone, MatchOption, Bool, true, false, ◌||◌, is_some, inr, IfSome}
+use Rattle.std.proofs.Common.{◌≡◌, ◌≢◌, ℕ, zero, suc, ◌+◌, ◌<◌, ◌≤◌, List, [], ◌∷◌, length, set, slice_get, count_by, refl, sym, ap, subst, ◌∙◌, arith, Option, None, Some, IsNone, MatchOption, Bool, true, false, ◌||◌, is_some, inl, inr, IfSome}
 use Rattle.std.specs.Option.{option_map}
 use Rattle.std.proofs.lemmas.Option.{slice_get_within}
 use Rattle.gt_model.specs.declared.script.Script.{Script}
@@ -11,15 +11,16 @@ use Rattle.gt_model.specs.declared.entry.Entry.{Entry}
 use Rattle.gt_model.specs.declared.entry.Reason.{Reason}
 use Rattle.gt_model.specs.declared.state.Goroutine.{Goroutine}
 use Rattle.gt_model.specs.declared.state.Mode.{Mode}
-use Rattle.gt_model.specs.Script.{names_timer, names_func}
+use Rattle.gt_model.specs.Script.{names_timer, names_func, is_ctx}
 use Rattle.gt_model.specs.Good.{is_setting, NamesRightly}
 use Rattle.gt_model.specs.declared.entry.Outcome.{Outcome}
-use Rattle.gt_model.proofs.Declared.{setting_declared}
+use Rattle.gt_model.proofs.Declared.{setting_declared, ctx_declared}
 use Rattle.gt_rules.specs.State.{State, stands_at, until_of, sleeps_until, suspended_count, clock_of}
 use Rattle.gt_rules.specs.Panics.{fault, fault_case}
 use Rattle.gt_rules.specs.Change.{Change, change_of}
 use Rattle.gt_rules.specs.History.{ClockJumps}
 use Rattle.gt_rules.specs.Legal.{due_at}
+use Rattle.gt_rules.specs.Contexts.{start_count}
 use Rattle.gt_rules.specs.After.{new_period}
 use Rattle.gt_chtimer.proofs.Setting.{names-setting}
 use Rattle.gt_facts.proofs.Lookups.{Standing, standing, names-instr_at}
@@ -28,7 +29,7 @@ use Rattle.gt_rec.specs.Rec.{Rec}
 use Rattle.gt_rows.specs.Agrees.{kind_by, kind_of_what, of_declaration}
 use Rattle.gt_rows.specs.declared.answers.SetDone.{SetDone}
 use Rattle.gt_rows.specs.Lent.{IsLent, IsKept}
-use Rattle.gt_rows.specs.Rows.{Parts, answer_of, sets, SetsAt, SetsBy, SetRow, Arms, UnlessOver, next_of}
+use Rattle.gt_rows.specs.Rows.{Parts, answer_of, sets, SetsAt, SetsBy, SetRow, DerivesBy, DeriveRow, Arms, UnlessOver, next_of}
 use Rattle.gt_schedule.specs.declared.status.RunStatus.{RunStatus}
 use Rattle.gt_schedule.specs.Schedule.{at_case, plainly, Schedule, status_of, Served}
 use Rattle.gt_schedule.proofs.Counting.{count-cons}
@@ -42,18 +43,21 @@ use Rattle.gt_rules.specs.declared.change.Move.{Move}
 use Rattle.gt_rules.specs.declared.change.Setting.{Setting}
 use Rattle.gt_rows.specs.Frames.{until_after}
 use Rattle.gt_book.specs.Calm.{IsCalm}
-use Rattle.gt_book.proofs.Going.{IsStep, step-is, in_hand-goes, makes-served, makes-awake, makes-call, waits-rightly, IsCall, IsAwake, AreAwake}
-use Rattle.gt_book.proofs.Meeting.{plain-is, recv-is, send-is, choice-is}
+use Rattle.gt_book.proofs.Going.{IsStep, step-is, in_hand-goes, makes-so, makes-served, makes-awake, makes-call, waits-rightly, IsCall, IsAwake, AreAwake}
+use Rattle.gt_book.proofs.Meeting.{plain-is, recv-is, send-is, choice-is, with-is, cancel-is}
 use Rattle.gt_book.proofs.Setting.{instr-set}
 use Rattle.gt_book.proofs.Passing.{enters-script, enters-limits}
 use Rattle.gt_runner.specs.declared.runner.Runner.{Runner}
-use Rattle.gt_runner.specs.Calls.{HasRecord, After, Ready, WantsSet}
+use Rattle.gt_runner.specs.Calls.{HasRecord, After, Ready, WantsSet, IsDerive}
 use Rattle.gt_runner.specs.Served.{IsWatched, AtKind, IsAt, AtNumber, IsTended, is_heaped, record_count, noted_at}
 use Rattle.gt_runner.proofs.Fitting.{fit-enters, named-enters}
-use Rattle.gt_runner.proofs.Leaving.{Leaves, LeavesSleep}
+use Rattle.gt_runner.proofs.Leaving.{Leaves, LeavesSleep, LeavesOwn}
+use Rattle.gt_runner.proofs.Deriving.{makes-tree}
 use Rattle.gt_runner.proofs.Tending.{tended-spared, tended-touched}
 use Rattle.gt_runner.proofs.Touching.{stays-enters, sets-touches}
 use Rattle.gt_runner.proofs.Passes.{goes-enters, makes-no_clock}
+use Rattle.gt_runner.proofs.Needing.{ctx-kind}
+use Rattle.gt_runner.proofs.Deriving.{IsMade, derive-made}
 
 -- ---- who is in hand is awake
 
@@ -96,6 +100,8 @@ same-stop script s m g (Instr.Send c v) = send-is (λ step. stopped_by step ≡ 
 same-stop script s m g (Instr.Lock k) = plain-is (λ step. stopped_by step ≡ None) (λ e. refl) (λ kind. refl) (CaseKind.Recv k) (goes_by script s m (plainly g) (CaseKind.Recv k))
 same-stop script s m g (Instr.Wait k) = plain-is (λ step. stopped_by step ≡ None) (λ e. refl) (λ kind. refl) (CaseKind.Recv k) (goes_by script s m (plainly g) (CaseKind.Recv k))
 same-stop script s m g (Instr.Select cases default_to) = choice-is (λ step. stopped_by step ≡ None) (λ e. refl) (λ t. refl) (λ timed. refl) script s m g cases default_to
+same-stop script s m g (Instr.With x) = with-is (λ step. stopped_by step ≡ None) (λ e. refl) (λ y due. refl) script s m g x
+same-stop script s m g (Instr.Cancel x cause) = cancel-is (λ step. stopped_by step ≡ None) (λ e. refl) (λ y. refl) script s m g x cause
 same-stop script s m g _ = refl
 
 only-stop : (i : Instr) (t : ℕ) → stopped_at i ≡ Some t → i ≡ Instr.Stop t
@@ -114,6 +120,8 @@ asks-sleep script s m g (Instr.Lock k) d h = absurd (plain-is (λ step. step ≡
 asks-sleep script s m g (Instr.Wait k) d h = absurd (plain-is (λ step. step ≡ Step.Needs (TimerOp.Sleep d) → ⊥) (λ e q. cc) (λ kind q. cc) (CaseKind.Recv k) (goes_by script s m (plainly g) (CaseKind.Recv k)) h)
 asks-sleep script s m g (Instr.Select cases default_to) d h =
     absurd (choice-is (λ step. step ≡ Step.Needs (TimerOp.Sleep d) → ⊥) (λ e k. cc) (λ t k. cc) (λ timed k. cc) script s m g cases default_to h)
+asks-sleep script s m g (Instr.With x) d h = absurd (with-is (λ step. step ≡ Step.Needs (TimerOp.Sleep d) → ⊥) (λ e q. cc) (λ y due q. cc) script s m g x h)
+asks-sleep script s m g (Instr.Cancel x cause) d h = absurd (cancel-is (λ step. step ≡ Step.Needs (TimerOp.Sleep d) → ⊥) (λ e q. cc) (λ y q. cc) script s m g x cause h)
 asks-sleep script s m g _ d h = cc
 
 -- no panic asks for a record
@@ -159,6 +167,9 @@ some-kind (Some decl) h = of_what decl.what h
     of_what What.Mutex h = cc
     of_what What.Wg h = cc
     of_what (What.Cond mutex) h = cc
+    of_what (What.Ctx parent form) h = cc
+    of_what (What.Hook ctx func) h = cc
+    of_what What.Error h = cc
     of_what What.Function h = cc
 
 get-some : {X : Type 0} (xs : List X) (i : ℕ) → i < length xs → (x : X) × (slice_get xs i ≡ Some x)
@@ -176,6 +187,14 @@ setting-record x t tended setting =
     let found = get-some x.records.items t (omega arith) in
     let kind = some-kind (of_declaration x.book.script t) setting in
     kind-record x t found.0 kind.0 kind.1 found.1 (subst (AtNumber x.book x.heap x.noted t) found.1 (tended.at t))
+
+-- and that of a context
+pub ctx-record : (x : Runner) (id : ℕ) → IsTended x → is_ctx x.book.script id ≡ true → HasRecord x id
+ctx-record x id tended ctx =
+    let within : id < length x.book.script.decls = ctx_declared x.book.script id ctx in
+    let declared : length x.book.script.decls ≤ length x.records.items = tended.declared in
+    let found = get-some x.records.items id (omega arith) in
+    kind-record x id found.0 RecKind.Deadline (ctx-kind x.book.script id ctx) found.1 (subst (AtNumber x.book x.heap x.noted id) found.1 (tended.at id))
 
 beyond : {X : Type 0} (xs : List X) (i : ℕ) → length xs ≤ i → slice_get xs i ≡ None
 beyond [] i h = refl
@@ -281,8 +300,9 @@ moved-leaves : (v : BookView) (o : Option (ℕ × Move)) (j : ℕ) → IfSome o 
 moved-leaves v None j stays awake = tt
 moved-leaves v (Some x) j stays awake = inr (awake, awake-until x.1 stays)
 
-pub call-leaves : (v : BookView) (c : Change) (j : ℕ) → IsCall c → AreAwake v.state c → Leaves v c j
-call-leaves v c j call awake = record {
+pub call-leaves : (v : BookView) (c : Change) (j : ℕ) → IsCall c → AreAwake v.state c → IfSome c.tree (λ x. LeavesOwn v c j x.0 x.1) → Leaves v c j
+call-leaves v c j call awake tree = record {
+  tree = tree;
   timer = subst (λ (o : Option (ℕ × Setting)). IfSome o (λ x. x.0 ≢ j)) (sym call.timer) tt;
   mover = moved-leaves v c.mover j call.mover awake.mover;
   partner = moved-leaves v c.partner j call.partner awake.partner;
@@ -300,7 +320,9 @@ after-makes x x' g e ready next enters records_are heap_is noted_is =
     after-enters x x' g e ready enters
     (makes-served v.script v.state v.schedule g e ready.lawful.good ready.lawful.formed ready.lawful.fits calm ready.alone.in_hand next)
     (makes-no_clock v g e next)
-    (tended-plain x x' e ready.served.tended ready.lawful enters (λ j. call-leaves v (change_of e) j call awake) records_are heap_is noted_is)
+    (tended-plain x x' e ready.served.tended ready.lawful enters
+    (λ j. call-leaves v (change_of e) j call awake (makes-tree v g e j next (makes-so v.script v.state v.schedule g ready.lawful.good ready.lawful.formed ready.lawful.fits calm ready.alone.in_hand e next)))
+    records_are heap_is noted_is)
 
 -- a section that arms a record
 pub record Armed (x x' : Runner) (g id : ℕ) (r r' : Rec) (e : Entry) (due period : ℕ) (done : SetDone) : Type 0 where
@@ -351,8 +373,8 @@ wants-sets v g t w =
 
 -- the entry of a setting touches no other record and moves no clock, and its goroutine may make it
 set-leaves : (v : BookView) (g t due : ℕ) (anew : Bool) (was : Option Bool) (j : ℕ) → sleeps_until v.state g ≡ None → j ≢ t → Leaves v (change_of (set_entry g t anew was due)) j
-set-leaves v g t due true was j awake n = record { timer = λ e. n (sym e); mover = inr (awake, refl); partner = tt }
-set-leaves v g t due false was j awake n = record { timer = λ e. n (sym e); mover = inr (awake, refl); partner = tt }
+set-leaves v g t due true was j awake n = record { timer = λ e. n (sym e); mover = inr (awake, refl); partner = tt; tree = tt }
+set-leaves v g t due false was j awake n = record { timer = λ e. n (sym e); mover = inr (awake, refl); partner = tt; tree = tt }
 
 set-served : (v : BookView) (g t due : ℕ) (anew : Bool) (was : Option Bool) → status_of v.schedule g ≡ Some RunStatus.InHand → Served v.schedule (set_entry g t anew was due)
 set-served v g t due true was in_hand = (in_hand-goes (status_of v.schedule g) in_hand, tt)
@@ -398,4 +420,45 @@ after-broadcasts x x' g k ready next enters records_are heap_is noted_is =
     let e : Entry = Entry.Broadcast g k (suspended_count x.book.state k) in
     let awake : sleeps_until x.book.state g ≡ None = in_hand-awake x.book g ready.lawful ready.alone.in_hand in
     after-enters x x' g e ready enters (in_hand-goes (status_of x.book.schedule g) ready.alone.in_hand, tt) tt
-    (tended-plain x x' e ready.served.tended ready.lawful enters (λ j. record { timer = tt; mover = inr (awake, refl); partner = tt }) records_are heap_is noted_is)
+    (tended-plain x x' e ready.served.tended ready.lawful enters (λ j. record { timer = tt; mover = inr (awake, refl); partner = tt; tree = tt }) records_are heap_is noted_is)
+
+-- nor does a cancellation, whatever it ends
+pub after-cancels : (x x' : Runner) (g c : ℕ) → Ready x g → Enters x.book (Entry.Cancel g c true (start_count x.book.script x.book.state c)) x'.book
+    → x'.records ≡ x.records → x'.heap ≡ x.heap → x'.noted ≡ x.noted → After x x' g
+after-cancels x x' g c ready enters records_are heap_is noted_is =
+    let e : Entry = Entry.Cancel g c true (start_count x.book.script x.book.state c) in
+    let awake : sleeps_until x.book.state g ≡ None = in_hand-awake x.book g ready.lawful ready.alone.in_hand in
+    after-enters x x' g e ready enters (in_hand-goes (status_of x.book.schedule g) ready.alone.in_hand, tt) tt
+    (tended-plain x x' e ready.served.tended ready.lawful enters (λ j. record { timer = tt; mover = inr (awake, refl); partner = tt; tree = tt }) records_are heap_is noted_is)
+
+-- ---- making a context whose own deadline is to come
+
+pub after-derive : (x x' : Runner) (g c : ℕ) (r r' : Rec) (done : SetDone) → Ready x g → IsDerive x.book g c → (h : HasRecord x c) → slice_get x.records.items c ≡ Some r
+    → x'.records.items ≡ set x.records.items c r' → x'.records.spare ≡ x.records.spare → x'.noted ≡ noted_at x.noted r'
+    → DeriveRow (record { heap = x.heap; rec = r; book = x.book }) g (record { heap = x'.heap; rec = r'; book = x'.book }) done → IsKept x'.book x'.heap r' → After x x' g
+after-derive x x' g c r r' done ready wants h there records_are spare noted_is row kept =
+    let own = record-is x c r h there in
+    let awake = in_hand-awake x.book g ready.lawful ready.alone.in_hand in
+    let old : Parts = record { heap = x.heap; rec = r; book = x.book } in
+    let new : Parts = record { heap = x'.heap; rec = r'; book = x'.book } in
+    let by : DerivesBy old g new done (next_of x.book g) = running-row x.book SetDone.Over done (new ≡ old) (DerivesBy old g new done (next_of x.book g)) ready.running row in
+    let arms = subst (DerivesBy old g new done) wants.1 by in
+    after-armed x x' g c r r' (Entry.CtxMake g c false) wants.0 0 done ready (record {
+      there = there;
+      id_is = own.1;
+      watched = own.2;
+      records_are = records_are;
+      spare = spare;
+      noted_is = noted_is;
+      arms = arms;
+      kept = kept;
+      leaves = λ j n. record { timer = tt; mover = inr (awake, refl); partner = tt; tree = inl (λ e. n (sym e)) };
+      served = (in_hand-goes (status_of x.book.schedule g) ready.alone.in_hand, tt);
+      clock = tt;
+    })
+
+-- the record of the context that is made
+pub derive-record : (x : Runner) (g c : ℕ) → Ready x g → IsDerive x.book g c → HasRecord x c
+derive-record x g c ready wants =
+    let made : IsMade x.book g c = derive-made x.book g c wants.0 ready.lawful ready.running ready.alone.in_hand wants.1 in
+    ctx-record x c ready.served.tended made.named

@@ -1,5 +1,5 @@
 -- The heap learns of a change of a record, and the run is tended as before.
-use Rattle.std.proofs.Common.{◌≡◌, ℕ, ◌+◌, ◌<◌, ◌≤◌, nat_lt, if◌then◌else◌, List, [], ◌∷◌, All, length, set, slice_get, slice_index_or, count_by, map, refl, sym, ap, subst, ◌∙◌, arith, Option, None, Some, IsSome, IsTrue, IsSomeAnd, Bool, true, false, ◌==◌, is_some, inl, inr}
+use Rattle.std.proofs.Common.{◌≡◌, ℕ, ◌+◌, ◌<◌, ◌≤◌, nat_lt, if◌then◌else◌, List, [], ◌∷◌, All, length, set, slice_get, slice_index_or, map, refl, sym, ap, subst, ◌∙◌, arith, Option, None, Some, IsSome, IsTrue, IsSomeAnd, Bool, true, false, ◌==◌, is_some, inl, inr}
 use Rattle.std.specs.List.{find}
 use Rattle.std.specs.Option.{option_map}
 use Rattle.std.proofs.lemmas.Bool.{cases_eq, cases_lt, eq-eqb, ltb-false}
@@ -14,12 +14,13 @@ use Rattle.gt_lazy.specs.Running.{is_stale}
 use Rattle.gt_schedule.specs.Counts.{as_number}
 use Rattle.gt_schedule.specs.Schedule.{mark_count}
 use Rattle.gt_book.specs.View.{BookView}
-use Rattle.gt_rows.specs.Agrees.{kind_by, due_by, period_by}
+use Rattle.gt_rows.specs.Agrees.{kind_by}
+use Rattle.gt_rows.proofs.Keeping.{agrees-stays}
 use Rattle.gt_rows.specs.Lent.{IsKept}
 use Rattle.gt_runner.specs.declared.runner.Runner.{Runner}
 use Rattle.gt_runner.specs.Served.{IsWatched, AtKind, AtNumber, IsTended, is_heaped}
-use Rattle.gt_runner.specs.Settled.{Held, StaleHead, HeadIsFresh, ScannedAreSettled, IsClean, stale_count, is_early}
-use Rattle.gt_runner.proofs.Tending.{Stays, Touches, count-set, get-set_same, get-set_other}
+use Rattle.gt_runner.specs.Settled.{Held, UnfitHead, HeadIsFit, ScannedAreSettled, IsClean, is_unfit, is_early}
+use Rattle.gt_runner.proofs.Tending.{Stays, Touches, get-set_same, get-set_other}
 use Rattle.gt_runner.proofs.Touching.{at-kind}
 
 -- ---- who stands in the heap
@@ -134,11 +135,8 @@ cleans-watched x x' id place r r' c needed q =
     let script : x'.book.script ≡ x.book.script = ap (λ (b : BookView). b.script) c.book_is in
     let kept : IsKept x'.book x'.heap r' = record {
       rec = record {
-        agrees = subst (λ (b : BookView). Rattle.gt_rows.specs.Agrees.Agrees b.script b.state r') (sym c.book_is) (record {
-          kind = ap (kind_by x.book.script) k.id ∙ (c.watched.kept.rec.agrees.kind ∙ ap Some (sym k.kind));
-          shown = c.shows ∙ (c.watched.kept.rec.agrees.shown ∙ ap (due_by x.book.script x.book.state) (sym k.id));
-          period = k.period ∙ (c.watched.kept.rec.agrees.period ∙ ap (period_by x.book.script x.book.state) (sym k.id));
-        });
+        agrees = subst (λ (b : BookView). Rattle.gt_rows.specs.Agrees.Agrees b.script b.state r') (sym c.book_is)
+            (agrees-stays x.book.script x.book.state r r' c.watched.kept.rec.agrees (record { id = k.id; kind = k.kind }) c.shows k.period);
         bits = c.bits;
       };
       placed = placed needed q;
@@ -178,7 +176,8 @@ cleans-touches x x' id place r r' c =
       limits = ap (λ (b : BookView). b.limits) c.book_is;
       stays = λ j n. subst (λ b'. Stays x.book b' x.heap x'.heap j) (sym c.book_is) (record {
         script_is = refl;
-        due = refl;
+        due = inl refl;
+        ended = λ h. h;
         period = refl;
         count = refl;
         slot = c.scans.entries.others j (λ e. n (e ∙ c.id_is));
@@ -206,16 +205,6 @@ cleans-touches x x' id place r r' c =
             let now : as_number (is_heaped r') ≡ 0 = ap as_number e in
             let free : x'.heap.spare ≡ x.heap.spare + 1 = spare ∙ ap (λ q. x.heap.spare + (if q then 0 else 1)) e in
             omega arith
-
--- one record fewer is stale
-pub stale-fewer : (x x' : Runner) (id place : ℕ) (r r' : Rec) → Cleans x x' id place r r' → is_stale r ≡ true → stale_count x' < stale_count x
-stale-fewer x x' id place r r' c stale =
-    let k : Cleaned r r' = is-clean x x' id place r r' c in
-    let counted : count_by is_stale (set x.records.items id r') + as_number (is_stale r) ≡ count_by is_stale x.records.items + as_number (is_stale r') = count-set is_stale x.records.items id r r' c.there in
-    let now : stale_count x' ≡ count_by is_stale (set x.records.items id r') = ap (count_by is_stale) c.records_are in
-    let one : as_number (is_stale r) ≡ 1 = ap as_number stale in
-    let none : as_number (is_stale r') ≡ 0 = ap as_number k.fresh in
-    omega arith
 
 -- ---- a pass begins
 
@@ -375,9 +364,9 @@ none-needs : (x : Runner) → slice_get x.heap.slots 0 ≡ None → (r : Rec) �
 none-needs x empty r w true q = (let e : Entered x r = entered x r w q in absurd (none-entered x.heap.slots r.id e.slot empty e.there))
 none-needs x empty r w false q = refl
 
-pub clean-unscanned : (x : Runner) → HeadIsFresh x → is_early x ≡ false → IsClean x
-clean-unscanned x fresh late = record {
-  fresh = fresh;
+pub clean-unscanned : (x : Runner) → HeadIsFit x → is_early x ≡ false → IsClean x
+clean-unscanned x fit late = record {
+  fit = fit;
   low = λ s first least id w r there is watched needs at.
       let e : Entered x r = entered x r watched needs in
       let head : s.key ≤ e.slot.key = first-least x.heap.slots s e.slot r.id first least e.there in
@@ -399,12 +388,6 @@ clean-unscanned x fresh late = record {
         let past : s.key ≤ v = ltb-false v s.key test in
         omega arith
 
-scanned-fresh : (x : Runner) → IsTended x → ScannedAreSettled x → All (λ (s : Slot). IsTrue s.scanned) x.heap.slots → (s : Slot) → slice_get x.heap.slots 0 ≡ Some s
-    → slot_with x.heap.slots s.id ≡ Some s → (h : Held x s.id s) × (is_stale h.rec ≡ false)
-scanned-fresh x t scanned all s first own =
-    let h : Held x s.id s = held x s.id s t own in
-    (h, (scanned s.id s h.rec own (find-all (λ (s : Slot). IsTrue s.scanned) (λ (u : Slot). u.id == s.id) x.heap.slots s own all) h.there).0)
-
 first-own : (slots : List Slot) (s : Slot) → slice_get slots 0 ≡ Some s → slot_with slots s.id ≡ Some s
 first-own [] s e = cc
 first-own (t ∷ rest) s e =
@@ -413,19 +396,6 @@ first-own (t ∷ rest) s e =
 
 pub own-entry : (x : Runner) (s : Slot) → slice_get x.heap.slots 0 ≡ Some s → slot_with x.heap.slots s.id ≡ Some s
 own-entry x s e = first-own x.heap.slots s e
-
-pub clean-scanned : (x : Runner) → IsTended x → ScannedAreSettled x → All (λ (s : Slot). IsTrue s.scanned) x.heap.slots → IsClean x
-clean-scanned x t scanned all = record {
-  fresh = λ s first. scanned-fresh x t scanned all s first (first-own x.heap.slots s first);
-  low = λ s first least id w r there is watched needs at.
-      let e : Entered x r = entered x r watched needs in
-      let head : s.key ≤ e.slot.key = first-least x.heap.slots s e.slot r.id first least e.there in
-      let key : e.slot.key ≡ r.key = e.key_is in
-      let own : r.when ≡ Some r.key = all-settled x scanned all id r there is watched needs in
-      let same : w ≡ r.key = cc in
-      omega arith;
-  none = λ empty id r there is watched. none-needs x empty r watched (needs_heap r) refl;
-}
 
 -- ---- the head that a heap answers
 
@@ -500,9 +470,6 @@ cleans-item x id place s r r' heap h e record_is scans settled shows bits =
     held-heaped : (x : Runner) (id : ℕ) (s : Slot) (h : Held x id s) → h.rec.heaped ≡ Some x.heap.number
     held-heaped x id s h = h.heaped
 
-pub stale-item : (x : Runner) (id : ℕ) (r : Rec) → (h : StaleHead x id) → slice_get x.records.items id ≡ Some r → is_stale r ≡ true
-stale-item x id r h e = subst (λ r. is_stale r ≡ true) (same-item (slice_get x.records.items id) h.held.rec r h.held.there e) h.stale
-
 -- the entry at a place that a heap answers
 pub entry-stands : (x : Runner) (place key id : ℕ) (b : Bool) → IsTended x → place < length x.heap.slots
     → ((d : Slot) → slice_index_or x.heap.slots place d ≡ record { key = key; id = id; scanned = b })
@@ -519,18 +486,34 @@ entry-stands x place key id b t within at with_id =
       },
     )
 
--- the head is not stale, where the call that looks for a stale one says so
-pub fresh-item : (x : Runner) (key id : ℕ) (r : Rec) → IsTended x → FirstIs x.heap.slots key id → slice_get x.records.items id ≡ Some r → is_stale r ≡ false → HeadIsFresh x
-fresh-item x key id r t f e fresh s first =
+-- the head is fit, where the call that looks for an unfit one says so
+pub fit-item : (x : Runner) (key id : ℕ) (r : Rec) → IsTended x → FirstIs x.heap.slots key id → slice_get x.records.items id ≡ Some r → is_unfit x.book r ≡ false → HeadIsFit x
+fit-item x key id r t f e fit s first =
     let is : f.slot ≡ s = same-item (slice_get x.heap.slots 0) f.slot s f.there first in
     let own : slot_with x.heap.slots s.id ≡ Some s = own-entry x s first in
     let h : Held x s.id s = held x s.id s t own in
     let same : id ≡ s.id = f.id_is ∙ ap (λ (s : Slot). s.id) is in
     let here : slice_get x.records.items s.id ≡ Some r = subst (λ i. slice_get x.records.items i ≡ Some r) same e in
-    (h, subst (λ r. is_stale r ≡ false) (same-item (slice_get x.records.items s.id) r h.rec here h.there) fresh)
+    (h, subst (λ r. is_unfit x.book r ≡ false) (same-item (slice_get x.records.items s.id) r h.rec here h.there) fit)
 
-pub fresh-empty : (x : Runner) → x.heap.slots ≡ [] → HeadIsFresh x
-fresh-empty x e s first = (let off : slice_get [] 0 ≡ Some s = subst (λ (slots : List Slot). slice_get slots 0 ≡ Some s) e first in cc)
+pub fit-empty : (x : Runner) → x.heap.slots ≡ [] → HeadIsFit x
+fit-empty x e s first = (let off : slice_get [] 0 ≡ Some s = subst (λ (slots : List Slot). slice_get slots 0 ≡ Some s) e first in cc)
+
+-- the head that is found unfit
+pub unfit-item : (x : Runner) (key id : ℕ) (r : Rec) → IsTended x → FirstIs x.heap.slots key id → slice_get x.records.items id ≡ Some r → is_unfit x.book r ≡ true → UnfitHead x id
+unfit-item x key id r t f e unfit =
+    let h = head-stands x key id t f in
+    record {
+      slot = f.slot;
+      held = h.0;
+      unfit = subst (λ r. is_unfit x.book r ≡ true) (same-item (slice_get x.records.items id) r h.0.rec e h.0.there) unfit;
+      entry = ap (slot_with x.heap.slots) f.id_is ∙ own-entry x f.slot f.there;
+      stands = h.1;
+    }
+
+-- nothing is early where nothing was noted
+pub none-early : (x : Runner) → x.noted ≡ None → is_early x ≡ false
+none-early x e = ap (λ (o : Option ℕ). elim o as (λ _. Bool) [ None ↦ false | Some v ↦ elim (slice_get x.heap.slots 0) as (λ _. Bool) [ None ↦ false | Some s ↦ nat_lt v s.key ] ]) e
 
 pub early-first : (x : Runner) (v key id : ℕ) → FirstIs x.heap.slots key id → x.noted ≡ Some v → nat_lt v key ≡ is_early x
 early-first x v key id f noted =

@@ -59,7 +59,8 @@ spares-parked x x1 n is marks records_are heap_is noted_is = record {
   script_is = ap (λ (b : BookView). b.script) is;
   stays = λ j. subst (λ b'. Stays x.book b' x.heap x.heap j) (sym is) (record {
     script_is = refl;
-    due = refl;
+    due = inl refl;
+    ended = λ h. h;
     period = refl;
     count = ap (λ xs. mark_count (record x.book.schedule { marks = xs }) j) marks;
     slot = refl;

@@ -267,6 +267,12 @@ woken-served script s m (Entry.WgWait g w) h woken = ((parked-goes (status_of m 
 woken-served script s m (Entry.CondWake g k) h woken = ((parked-goes (status_of m g) woken.0.0, tt), (tt, tt))
 woken-served script s m (Entry.Signal g k None) h woken = ((parked-goes (status_of m g) woken.0.0, tt), (tt, tt))
 woken-served script s m (Entry.Panic p reason) h woken = ((parked-goes (status_of m p.g) woken.0.0, tt), (tt, tt))
+woken-served script s m (Entry.CtxErr g x err) h woken = ((parked-goes (status_of m g) woken.0.0, tt), (tt, tt))
+woken-served script s m (Entry.Cause g x cause) h woken = ((parked-goes (status_of m g) woken.0.0, tt), (tt, tt))
+woken-served script s m (Entry.CtxDone p x) h woken = ((parked-goes (status_of m p.g) woken.0.0, tt), (tt, tt))
+woken-served script s m (Entry.Cancel g x true n) h woken = absurd woken.0
+woken-served script s m (Entry.Cancel g x false zero) h woken = ((parked-goes (status_of m g) woken.0.0, tt), (tt, tt))
+woken-served script s m (Entry.Cancel g x false (suc n)) h woken = absurd woken.0
 woken-served script s m _ h woken = absurd woken.0
 
 fit-finished : (script : Script) (s : State) (m : Schedule) (o : Option Outcome) → IsGood script → AllFit script s.goroutines m

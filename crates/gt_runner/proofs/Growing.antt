@@ -1,5 +1,5 @@
 -- The record of a sleep is made before the first sleep of its goroutine.
-use Rattle.std.proofs.Common.{◌≡◌, ◌≢◌, ℕ, zero, suc, ◌+◌, ◌≤◌, cond, List, [], ◌∷◌, ◌++◌, length, length-append, slice_get, count_by, refl, sym, ap, subst, ◌∙◌, arith, Option, None, Some, false, inl, inr}
+use Rattle.std.proofs.Common.{◌≡◌, ◌≢◌, ℕ, zero, suc, ◌+◌, ◌<◌, ◌≤◌, cond, List, [], ◌∷◌, ◌++◌, length, length-append, slice_get, count_by, refl, sym, ap, subst, ◌∙◌, arith, Option, None, Some, false, inl, inr}
 use Rattle.std.proofs.lemmas.Bool.{cases_eq, le-ltb}
 use Rattle.gt_model.specs.declared.script.Decl.{Decl}
 use Rattle.gt_rec.specs.declared.RecKind.{RecKind}
@@ -8,6 +8,14 @@ use Rattle.gt_rec.specs.Changes.{unset_rec}
 use Rattle.gt_room.specs.Contents.{Contents}
 use Rattle.gt_rows.specs.Agrees.{kind_by, kind_of_what, period_of_timer}
 use Rattle.gt_rules.specs.State.{timer_at}
+use Rattle.std.proofs.lemmas.List.Sums.{count_by-le-length}
+use Rattle.std.proofs.lemmas.Option.{slice_get_within}
+use Rattle.gt_model.specs.declared.script.Script.{Script}
+use Rattle.gt_model.specs.declared.entry.Limits.{Limits}
+use Rattle.gt_model.specs.Good.{IsGood, AreLimits}
+use Rattle.gt_model.specs.Tables.{numbered}
+use Rattle.gt_schedule.specs.declared.status.RunStatus.{RunStatus}
+use Rattle.gt_schedule.specs.Schedule.{most_goroutines, hook_count, is_hook_decl}
 use Rattle.gt_schedule.proofs.Counting.{count-cons}
 use Rattle.gt_book.specs.View.{BookView}
 use Rattle.gt_runner.specs.declared.runner.Runner.{Runner}
@@ -53,7 +61,7 @@ unset-at x id behind bits at =
         rec = record {
           agrees = record {
             kind = kind;
-            shown = sym at.0;
+            shown = inl (sym at.0);
             period = sym (ap (λ b. cond b (period_of_timer (timer_at x.book.state id)) 0) (le-ltb id (length x.book.script.decls) behind));
           };
           bits = bits;
@@ -110,3 +118,17 @@ ready-grown x x1 g ready served grows = record {
 
 pub after-same : (x x1 x' : Runner) (g : ℕ) → x1.book ≡ x.book → After x1 x' g → After x x' g
 after-same x x1 x' g is a = record { goes = subst (λ b. Goes g b x'.book) is a.goes; served = a.served }
+
+-- ---- how many goroutines there are at most
+
+pub most-few : (script : Script) (limits : Limits) → IsGood script → AreLimits limits → most_goroutines script limits ≤ 204097
+most-few script limits good are =
+    let entries : limits.entries ≤ 200000 = are.most in
+    let names : length script.decls ≤ 4096 = good.few_names in
+    let hooks : hook_count script ≤ length script.decls = count_by-le-length is_hook_decl script.decls in
+    omega arith
+
+-- and who is in hand is one of them
+pub hand-below : (xs : List RunStatus) (g : ℕ) (x : RunStatus) → numbered xs g ≡ Some x → g ≤ length xs
+hand-below xs zero x e = omega arith
+hand-below xs (suc i) x e = let inside : i < length xs = slice_get_within xs i x e in omega arith

@@ -11,6 +11,7 @@ pub mod Needing
 pub mod Touching
 pub mod Receiving
 pub mod Cleanings
+pub mod Deriving
 pub mod Calling
 pub mod Waiting
 pub mod Polling
@@ -20,6 +21,7 @@ pub mod Parking
 pub mod Growing
 pub mod Unblocking
 pub mod Serving
+pub mod Dropping
 pub mod Timing
 pub mod Beginning
 pub mod Taking

@@ -90,6 +90,9 @@ what-plain (Some (What.Chan cap)) h = cc
 what-plain (Some What.Mutex) h = cc
 what-plain (Some What.Wg) h = cc
 what-plain (Some (What.Cond mutex)) h = cc
+what-plain (Some (What.Ctx parent form)) h = cc
+what-plain (Some (What.Hook ctx func)) h = cc
+what-plain (Some What.Error) h = cc
 what-plain (Some What.Function) h = cc
 
 pub timer-plain : (script : Script) (t : ℕ) → is_timer script t ≡ true → is_chan script t ≡ false

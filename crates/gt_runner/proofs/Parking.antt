@@ -1,4 +1,4 @@
--- What a step does that asks for no record. One that parks its goroutine at channels alone leaves records, heap and marks alone: no timer is awaited there.
+-- What a step does that asks for no record. One that parks its goroutine at channels and contexts alone leaves records, heap and marks alone: no timer is awaited there.
 use Rattle.std.proofs.Common.{◌≡◌, ℕ, cond, ◌||◌, List, [], ◌∷◌, map, refl, sym, ap, subst, ◌∙◌, Option, None, Some, MatchOption, Bool, true, false, inl, inr}
 use Rattle.std.specs.List.{filter_map, cons_option, list_any}
 use Rattle.std.proofs.lemmas.Bool.{cases_eq}
@@ -9,7 +9,8 @@ use Rattle.gt_model.specs.declared.script.CaseKind.{CaseKind}
 use Rattle.gt_model.specs.declared.entry.Outcome.{Outcome}
 use Rattle.gt_model.specs.declared.entry.Reason.{Reason}
 use Rattle.gt_model.specs.Good.{awaits_timer}
-use Rattle.gt_model.specs.Script.{is_timer, is_chan}
+use Rattle.gt_model.specs.declared.script.What.{What}
+use Rattle.gt_model.specs.Script.{what_at, is_chan, is_ctx, names_timer, names_chan, names_ctx}
 use Rattle.gt_rules.specs.State.{State, stands_at}
 use Rattle.gt_rules.specs.Panics.{fault}
 use Rattle.gt_schedule.specs.declared.status.RunStatus.{RunStatus}
@@ -20,30 +21,24 @@ use Rattle.gt_book.specs.declared.answers.Did.{Did}
 use Rattle.gt_book.specs.Steps.{timer_of, cases_of, goes_by, plain_step, step_of_instr, step_or_panic, Does, Steps}
 use Rattle.gt_book.specs.View.{BookView, with_schedule}
 use Rattle.gt_book.proofs.Going.{IsStep, step-is}
+use Rattle.gt_book.proofs.Meeting.{with-is, cancel-is}
 use Rattle.gt_book.proofs.Options.{ChoiceIs, case_goes, case_polls, all_rest, all_wait, choice-so}
 use Rattle.gt_rows.specs.Rows.{next_of}
 use Rattle.gt_runner.specs.declared.runner.Runner.{Runner}
 use Rattle.gt_runner.specs.Served.{NamesTimers, MarkFitsAt, awaited_by, timers_of}
 use Rattle.gt_runner.specs.Calls.{After, Ready}
 use Rattle.gt_runner.proofs.Fitting.{MarksFit, fit-is}
-use Rattle.gt_runner.proofs.Named.{timer-plain}
 use Rattle.gt_runner.proofs.Passes.{WasParked, was-parked_at, was-parked_cases, goes-waits}
 use Rattle.gt_runner.proofs.Tending.{tended-spared}
-use Rattle.gt_runner.proofs.Calling.{after-makes, after-broadcasts}
+use Rattle.gt_runner.proofs.Calling.{after-makes, after-broadcasts, after-cancels}
 use Rattle.gt_runner.proofs.Enrolling.{parked-marks_at, parked-status, parked-others, parked-named, none-marked, spares-parked}
 
--- ---- the timers that are awaited at channels
+-- ---- the timers that are awaited at channels and contexts
 
-chan-plain : (script : Script) (o : ℕ) → is_chan script o ≡ true → is_timer script o ≡ false
-chan-plain script o chan =
-    elim (is_timer script o) as (λ b. is_timer script o ≡ b → b ≡ false) [
-      | true ↦ λ timer. absurd (both (is_chan script o) chan (timer-plain script o timer))
-      | false ↦ λ plain. refl
-    ] refl
-  where
-    both : (b : Bool) → b ≡ true → b ≡ false → ⊥
-    both true e h = cc
-    both false e h = cc
+other-plain : (w : Option What) → (names_chan w || names_ctx w) ≡ true → names_timer w ≡ false
+other-plain (Some What.Timer) h = cc
+other-plain (Some What.Ticker) h = cc
+other-plain _ h = refl
 
 untimed : (script : Script) (kind : CaseKind) → awaits_timer script kind ≡ false → timer_of script kind ≡ None
 untimed script (CaseKind.Recv o) h = ap (λ b. cond b (Some o) None) h
@@ -75,11 +70,13 @@ choice-untimed script s m g cases default_to step (all_wait is rest) h = untimed
 
 instr-untimed : (script : Script) (s : State) (m : Schedule) (g : ℕ) (i : Instr) → ParksUntimed (step_of_instr script s m g i) → timers_of script i ≡ []
 instr-untimed script s m g (Instr.Recv o) h =
-    elim (is_chan script o) as (λ b. is_chan script o ≡ b → ParksUntimed (cond b (plain_step (CaseKind.Recv o) (goes_by script s m (plainly g) (CaseKind.Recv o))) (Step.Waits o))
-    → timers_of script (Instr.Recv o) ≡ []) [
-      | true ↦ λ chan k. ap (λ b. cons_option (cond b (Some o) None) []) (chan-plain script o chan)
+    elim (is_chan script o || is_ctx script o) as (λ b. (is_chan script o || is_ctx script o) ≡ b
+    → ParksUntimed (cond b (plain_step (CaseKind.Recv o) (goes_by script s m (plainly g) (CaseKind.Recv o))) (Step.Waits o)) → timers_of script (Instr.Recv o) ≡ []) [
+      | true ↦ λ other k. ap (λ b. cons_option (cond b (Some o) None) []) (other-plain (what_at script o) other)
       | false ↦ λ plain k. absurd k
     ] refl h
+instr-untimed script s m g (Instr.With x) h = absurd (with-is (λ step. ParksUntimed step → ⊥) (λ e k. absurd k) (λ y due k. absurd k) script s m g x h)
+instr-untimed script s m g (Instr.Cancel x cause) h = absurd (cancel-is (λ step. ParksUntimed step → ⊥) (λ e k. absurd k) (λ y k. absurd k) script s m g x cause h)
 instr-untimed script s m g (Instr.Select cases default_to) h =
     choice-untimed script s m g cases default_to (step_of_instr script s m g (Instr.Select cases default_to)) (choice-so script s m g cases default_to) h
 instr-untimed script s m g _ h = refl
@@ -131,6 +128,7 @@ does-after x x' g (Step.Chooses false) did ready next does other records_are hea
     after-parks x x' g (Step.Chooses false) _ ready next refl does.0 (was-parked_cases x.book.schedule g (cases_of (stands_at x.book.script x.book.state g))) records_are heap_is noted_is
 does-after x x' g (Step.Broadcasts k) did ready next does other records_are heap_is noted_is =
     after-broadcasts x x' g k ready next does.0 records_are heap_is noted_is
+does-after x x' g (Step.Cancels c) did ready next does other records_are heap_is noted_is = after-cancels x x' g c ready does.0 records_are heap_is noted_is
 does-after x x' g (Step.Needs op) did ready next does other records_are heap_is noted_is = absurd (other op does.1)
 does-after x x' g Step.Nowhere did ready next does other records_are heap_is noted_is = absurd does
 

@@ -1,5 +1,5 @@
 -- One call of a goroutine, and what happens where nobody runs, keep a run.
-use Rattle.std.proofs.Common.{◌≡◌, ◌≢◌, ℕ, ◌+◌, ◌<◌, List, [], ◌∷◌, ◌++◌, refl, sym, ap, subst, ◌∙◌, arith, None, Some, Bool, false, count_by, length, length-append, inl, inr, true}
+use Rattle.std.proofs.Common.{◌≡◌, ◌≢◌, ℕ, ◌+◌, ◌<◌, List, [], ◌∷◌, ◌++◌, refl, sym, ap, subst, ◌∙◌, arith, None, Some, count_by, length, length-append, inl, inr}
 use Rattle.gt_model.specs.declared.entry.Entry.{Entry}
 use Rattle.gt_model.specs.declared.entry.Outcome.{Outcome}
 use Rattle.gt_rules.specs.After.{first_state}
@@ -14,9 +14,7 @@ use Rattle.gt_schedule.proofs.Cases.{waiting_at-statuses, waiting_at-marks, case
 use Rattle.gt_model.specs.declared.script.Script.{Script}
 use Rattle.gt_model.specs.declared.script.CaseKind.{CaseKind}
 use Rattle.gt_rules.specs.State.{State}
-use Rattle.gt_book.specs.Steps.{step_of, entry_of, is_gone, Commits}
-use Rattle.gt_book.specs.declared.answers.Op.{Op}
-use Rattle.gt_book.specs.declared.answers.Commit.{Commit}
+use Rattle.gt_book.specs.Steps.{step_of}
 use Rattle.gt_book.proofs.Going.{makes-call}
 use Rattle.gt_book.specs.View.{BookView, Enters, IsLawful, with_entries, with_schedule}
 use Rattle.gt_book.proofs.Passing.{jumps-append, enters-script, enters-limits, enters-jumps, enters-longer, enters-hands, parked_at-leaves_hand, parked_at-hands, parked_at-queued_count}
@@ -100,26 +98,3 @@ no-clock script s _ h = tt
 
 pub makes-no_clock : (old : BookView) (g : ℕ) (e : Entry) → step_of old.script old.state old.schedule g ≡ Some (Step.Makes e) → ClockJumps old.script 0 old.state e
 makes-no_clock old g e h = no-clock old.script old.state e (makes-call old.script old.state old.schedule g e h).clock
-
--- no operation moves a clock
-op-no_clock : (script : Script) (s : State) (op : Op) → ClockJumps script 0 s (entry_of s op)
-op-no_clock script s (Op.Set g t true was due period) = tt
-op-no_clock script s (Op.Set g t false was due period) = tt
-op-no_clock script s _ = tt
-
-commits-enters : (old : BookView) (op : Op) (new : BookView) (did : Commit) → is_gone old op ≡ false → Commits old op (is_gone old op) new did → Enters old (entry_of old.state op) new
-commits-enters old op new did here h =
-    let entered : Commits old op false new did = subst (λ (gone : Bool). Commits old op gone new did) here h in
-    entered.0
-
-pub commits-moves : (old : BookView) (op : Op) (new : BookView) (did : Commit) → IsLawful old → HandsFree old → is_gone old op ≡ false
-    → Commits old op (is_gone old op) new did → Moves old new
-commits-moves old op new did lawful free here h =
-    moves-enters old (entry_of old.state op) new lawful (commits-enters old op new did here h) (op-no_clock old.script old.state op) free
-
-pub commits-goes : (old mid new : BookView) (g : ℕ) (op : Op) (did : Commit) → IsLawful old → IsAlone old g → mid ≡ old → is_gone mid op ≡ false
-    → Commits mid op (is_gone mid op) new did → Goes g old new
-commits-goes old mid new g op did lawful alone same here h =
-    let gone : is_gone old op ≡ false = subst (λ (v : BookView). is_gone v op ≡ false) same here in
-    let commits : Commits old op (is_gone old op) new did = subst (λ (v : BookView). Commits v op (is_gone v op) new did) same h in
-    goes-enters old (entry_of old.state op) new g lawful (commits-enters old op new did gone commits) (op-no_clock old.script old.state op) alone

@@ -22,7 +22,7 @@ use Rattle.gt_book.specs.declared.step.Step.{Step}
 use Rattle.gt_book.specs.Steps.{case_step, come_timer, first_step, goes_by, no_case, choice_step, step_of_instr, step_or_panic}
 use Rattle.gt_book.specs.View.{BookView, Enters, receiver_of}
 use Rattle.gt_book.proofs.Going.{IsStep, step-is, in_hand-goes}
-use Rattle.gt_book.proofs.Meeting.{plain-is, recv-is, send-is}
+use Rattle.gt_book.proofs.Meeting.{plain-is, recv-is, send-is, with-is, cancel-is}
 use Rattle.gt_book.proofs.Options.{ChoiceIs, case_goes, case_polls, all_rest, all_wait, choice-so}
 use Rattle.gt_rows.specs.declared.answers.PollDone.{PollDone}
 use Rattle.gt_rows.specs.Lent.{IsLentRec, IsPlaced}
@@ -90,6 +90,8 @@ instr-polls script s m g t (Instr.Recv o) h = absurd (recv-is (λ step. step ≡
 instr-polls script s m g t (Instr.Send c v) h = absurd (send-is (λ step. step ≡ Step.Needs (TimerOp.Poll t) → ⊥) (λ e q. cc) (λ kind q. cc) script s m g c v h)
 instr-polls script s m g t (Instr.Lock k) h = absurd (plain-is (λ step. step ≡ Step.Needs (TimerOp.Poll t) → ⊥) (λ e q. cc) (λ kind q. cc) (CaseKind.Recv k) (goes_by script s m (plainly g) (CaseKind.Recv k)) h)
 instr-polls script s m g t (Instr.Wait k) h = absurd (plain-is (λ step. step ≡ Step.Needs (TimerOp.Poll t) → ⊥) (λ e q. cc) (λ kind q. cc) (CaseKind.Recv k) (goes_by script s m (plainly g) (CaseKind.Recv k)) h)
+instr-polls script s m g t (Instr.With x) h = absurd (with-is (λ step. step ≡ Step.Needs (TimerOp.Poll t) → ⊥) (λ e q. cc) (λ y due q. cc) script s m g x h)
+instr-polls script s m g t (Instr.Cancel x cause) h = absurd (cancel-is (λ step. step ≡ Step.Needs (TimerOp.Poll t) → ⊥) (λ e q. cc) (λ y q. cc) script s m g x cause h)
 instr-polls script s m g t _ h = cc
 
 -- who polls a timer stands at a choice that may, and it is a timer
@@ -164,7 +166,7 @@ after-poll x x' g t r r' reply ready next there records_are spare noted_is heap_
       spare = spare;
       notes = notes;
       enters = p.entered;
-      leaves = λ j n. record { timer = λ e. n (sym e); mover = inr (in_hand-awake x.book g ready.lawful ready.alone.in_hand, refl); partner = tt };
+      leaves = λ j n. record { timer = λ e. n (sym e); mover = inr (in_hand-awake x.book g ready.lawful ready.alone.in_hand, refl); partner = tt; tree = tt };
       slots = λ j n. ap (λ (h : LazyHeap). slot_with h.slots j) heap_is;
       number_is = number_is;
       room = (let heaped = ap (λ (r : Rec). as_number (is_heaped r)) p.rec_is in let free = ap (λ (h : LazyHeap). h.spare) heap_is in rw (heaped, free) refl);

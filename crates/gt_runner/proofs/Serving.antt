@@ -6,7 +6,8 @@ use Rattle.gt_model.specs.declared.script.CaseKind.{CaseKind}
 use Rattle.gt_model.specs.declared.entry.Entry.{Entry}
 use Rattle.gt_model.specs.declared.entry.Party.{Party}
 use Rattle.gt_model.specs.declared.entry.Outcome.{Outcome}
-use Rattle.gt_rules.specs.State.{clock, sleeps_until, next_number}
+use Rattle.gt_rules.specs.Contexts.{start_count}
+use Rattle.gt_rules.specs.State.{clock, sleeps_until, next_number, has_ended}
 use Rattle.gt_rules.specs.Legal.{operation_at}
 use Rattle.gt_rules.specs.Operations.{receives_from}
 use Rattle.gt_rules.specs.Change.{change_of}
@@ -22,26 +23,28 @@ use Rattle.gt_lazy.specs.declared.answer.Ran.{Ran}
 use Rattle.gt_rows.specs.declared.answers.HeadDone.{HeadDone}
 use Rattle.gt_rows.specs.declared.answers.Delivered.{Delivered}
 use Rattle.gt_rows.specs.Lent.{IsKept, IsLentRec}
-use Rattle.gt_rows.specs.Rows.{Pair, Parts, Answers, HeadRow, HeadBy, FiresAs, Fires, Runs, DeliverRow, DeliversBy, DeliversTo, Gives}
+use Rattle.gt_rows.specs.Rows.{Pair, Parts, Answers, HeadRow, HeadBy, FiresAs, ExpiresBy, Fires, Runs, DeliverRow, DeliversBy, DeliversTo, Gives}
 use Rattle.gt_schedule.specs.Counts.{as_number, often}
 use Rattle.gt_schedule.specs.Schedule.{status_of, is_parked, parties_at, mark_count, Served}
 use Rattle.gt_book.specs.View.{BookView, Enters, IsLawful, outcome_of, is_at, wants, is_parked_at}
 use Rattle.gt_book.proofs.Wanting.{wants-receives}
-use Rattle.gt_model.specs.Script.{is_timer, is_chan}
+use Rattle.gt_model.specs.Script.{is_timer, is_chan, is_endable}
 use Rattle.gt_book.proofs.Fitting.{first-waiting, asleep-parked}
 use Rattle.gt_book.proofs.Going.{parked-goes}
 use Rattle.gt_runner.specs.declared.runner.Runner.{Runner}
 use Rattle.gt_runner.specs.Served.{IsWatched, is_heaped}
 use Rattle.gt_runner.specs.Serves.{IsIdleRun, IsDueHead, Passing}
+use Rattle.gt_runner.specs.Settled.{is_deadline, is_over}
 use Rattle.gt_runner.proofs.Fitting.{fit-enters, named-enters}
 use Rattle.gt_runner.proofs.Leaving.{Leaves}
 use Rattle.gt_runner.proofs.Tending.{tended-touched}
 use Rattle.gt_runner.proofs.Touching.{IsNoted, needs-nothing, note-same, rests-touches}
 use Rattle.gt_model.specs.Script.{what_at, names_timer}
 use Rattle.gt_facts.proofs.Lookups.{sleeper}
-use Rattle.gt_rows.specs.Agrees.{kind_by, due_by, of_declaration}
+use Rattle.gt_rows.specs.Agrees.{kind_by, of_declaration}
+use Rattle.gt_rows.proofs.Tickers.{shown-sleep}
 use Rattle.gt_runner.proofs.Watching.{marked-receiver, receiver-parked}
-use Rattle.gt_runner.proofs.Needing.{shown-when, kind-sleep, channel-timer, get-none, due-slept, never-deadline, needs-some, named-within}
+use Rattle.gt_runner.proofs.Needing.{shown-when, kind-sleep, channel-timer, get-none, needs-some, named-within}
 use Rattle.gt_runner.proofs.Calling.{stands-awake}
 use Rattle.gt_runner.proofs.Waiting.{placed-same}
 use Rattle.gt_runner.proofs.Passes.{moves-enters}
@@ -224,6 +227,7 @@ pub record Due (x : Runner) (id : ℕ) (r : Rec) : Type 0 where
   pub watched : IsWatched x.book x.heap x.noted r
   pub heaped : r.heaped ≡ Some x.heap.number
   pub fresh : is_stale r ≡ false
+  pub going : is_over x.book r ≡ false
   pub come : r.key ≤ clock x.book.state 0
   pub at : r.when ≡ Some r.key
   pub needs : needs_heap r ≡ true
@@ -238,21 +242,24 @@ due-item x id r d there =
       watched = subst (IsWatched x.book x.heap x.noted) is d.watched;
       heaped = subst (λ (r : Rec). r.heaped ≡ Some x.heap.number) is d.stands.heaped;
       fresh = subst (λ r. is_stale r ≡ false) is d.fresh;
+      going = subst (λ r. is_over x.book r ≡ false) is d.going;
       come = subst (λ (r : Rec). r.key ≤ clock x.book.state 0) is d.come;
       at = subst (λ (r : Rec). r.when ≡ Some r.key) is (head-when x id d);
       needs = subst (λ r. needs_heap r ≡ true) is (head-needs x id d);
     }
 
+-- a context comes to its deadline: it has not ended, as its record is not over
+head-expires : (x x' : Runner) (id : ℕ) (r r' : Rec) (reply : HeadDone) → Due x id r → r.kind ≡ RecKind.Deadline
+    → ExpiresBy (parts x r) (parts x' r') reply (has_ended x.book.state r.id) → Fires (parts x r) (Entry.Expire r.id (start_count x.book.script x.book.state r.id)) (parts x' r') reply
+head-expires x x' id r r' reply d kind h =
+    let going : has_ended x.book.state r.id ≡ false = sym (ap (λ k. is_deadline k && has_ended x.book.state r.id) kind) ∙ d.going in
+    subst (ExpiresBy (parts x r) (parts x' r') reply) going h
+
 func-leaves : (v : BookView) (t child j : ℕ) → t ≢ j → Leaves v (change_of (Entry.FireFunc t child)) j
-func-leaves v t child j n = record { timer = n; mover = tt; partner = tt }
+func-leaves v t child j n = record { timer = n; mover = tt; partner = tt; tree = tt }
 
 wake-leaves : (v : BookView) (g j : ℕ) → length v.script.decls + g ≢ j → Leaves v (change_of (Entry.Wake g)) j
-wake-leaves v g j n = record { timer = tt; mover = inl n; partner = tt }
-
-shown-key : (x : Runner) (id : ℕ) (r : Rec) → Due x id r → due_by x.book.script x.book.state id ≡ Some r.key
-shown-key x id r d =
-    ap (due_by x.book.script x.book.state) (sym d.id_is)
-    ∙ (sym d.watched.kept.rec.agrees.shown ∙ (shown-when r d.watched.none_ready d.watched.none_sent ∙ d.at))
+wake-leaves v g j n = record { timer = tt; mover = inl n; partner = tt; tree = tt }
 
 sleep-served : (x : Runner) (id : ℕ) (r : Rec) → IsIdleRun x → Due x id r → r.kind ≡ RecKind.Sleep
     → (length x.book.script.decls + (r.id - length x.book.script.decls) ≡ id) × (is_parked (status_of x.book.schedule (r.id - length x.book.script.decls)) ≡ true)
@@ -261,7 +268,8 @@ sleep-served x id r idle d kind =
     let behind : n ≤ id = get-none x.book.script.decls id (kind-sleep (of_declaration x.book.script id)
     (ap (kind_by x.book.script) (sym d.id_is) ∙ (d.watched.kept.rec.agrees.kind ∙ ap Some kind))) in
     let id_is : r.id ≡ id = d.id_is in
-    let sleeps : sleeps_until x.book.state (r.id - n) ≡ Some r.key = ap (λ i. sleeps_until x.book.state (i - n)) id_is ∙ (sym (due-slept x.book.script x.book.state id behind) ∙ shown-key x id r d) in
+    let sleeps : sleeps_until x.book.state (r.id - n) ≡ Some r.key =
+    sym (shown-sleep x.book.script x.book.state r d.watched.kept.rec.agrees (omega arith)) ∙ (shown-when r d.watched.none_ready d.watched.none_sent ∙ d.at) in
     let asleep = sleeper x.book.state (r.id - n) (λ until. until ≡ r.key) (subst (λ o. IsSomeAnd o (λ until. until ≡ r.key)) (sym sleeps) refl) in
     (omega arith, asleep-parked x.book.script x.book.state x.book.schedule (r.id - n) idle.lawful.fits asleep)
 
@@ -286,7 +294,10 @@ heads-passing x x' id r r' reply idle d there records_are spare noted_is row kep
           (λ j n. wake-leaves x.book (r.id - length x.book.script.decls) j (λ e. n (sym e ∙ served.0))) (parked-goes (status_of x.book.schedule (r.id - length x.book.script.decls)) served.1, tt) tt
       | RecKind.Timer ↦ λ k. (let runs = subst (FiresAs (parts x r) r.seq (parts x' r') reply) k (sent (ap has_channel k)) in absurd (other r.seq runs.answer))
       | RecKind.Ticker ↦ λ k. (let runs = subst (FiresAs (parts x r) r.seq (parts x' r') reply) k (sent (ap has_channel k)) in absurd (other r.seq runs.answer))
-      | RecKind.Deadline ↦ λ k. absurd (never-deadline x.book.script r.id r d.watched.kept.rec.agrees.kind k)
+      | RecKind.Deadline ↦ λ k.
+          let fires = head-expires x x' id r r' reply d k (subst (FiresAs (parts x r) r.seq (parts x' r') reply) k (plain (ap has_channel k))) in
+          fires-passing x x' id d.head r r' _ reply idle d.is there records_are spare noted_is fires kept (ap (λ k. run_as k r now) k)
+          (λ j n. record { timer = tt; mover = tt; partner = tt; tree = tt }) (tt, tt) tt
     ] refl
 
 -- ---- a timer's send is delivered at once
@@ -331,7 +342,9 @@ head-sends x x' id r r' reply seq idle d row e =
       | RecKind.Sleep ↦ λ k. (let fires = subst (FiresAs (parts x r) r.seq (parts x' r') reply) k (plain (ap has_channel k)) in absurd (not-fired x'.book reply seq fires.answer e))
       | RecKind.Timer ↦ λ k. runs-sends x x' id r r' reply seq d (ap has_channel k) (subst (FiresAs (parts x r) r.seq (parts x' r') reply) k (sent (ap has_channel k))) e
       | RecKind.Ticker ↦ λ k. runs-sends x x' id r r' reply seq d (ap has_channel k) (subst (FiresAs (parts x r) r.seq (parts x' r') reply) k (sent (ap has_channel k))) e
-      | RecKind.Deadline ↦ λ k. absurd (never-deadline x.book.script r.id r d.watched.kept.rec.agrees.kind k)
+      | RecKind.Deadline ↦ λ k.
+          let fires = head-expires x x' id r r' reply d k (subst (FiresAs (parts x r) r.seq (parts x' r') reply) k (plain (ap has_channel k))) in
+          absurd (not-fired x'.book reply seq fires.answer e)
     ] refl
 
 -- the record whose send has begun: a ticker's is in the heap still
@@ -446,7 +459,7 @@ party-parked : (v : BookView) (p : Party) (id : ℕ) → IsLawful v → is_timer
 party-parked v p id lawful timer h =
     let parked : is_parked (status_of v.schedule p.g) ≡ true = left-true (is_parked (status_of v.schedule p.g)) (wants v.script v.state p (receives_from id)) h in
     let there : is_at v.script v.state p (receives_from id) ≡ true =
-    wants-receives v.script v.state p id lawful.good lawful.formed (ap (λ b. b || is_chan v.script id) timer)
+    wants-receives v.script v.state p id lawful.good lawful.formed (ap (λ b. b || is_chan v.script id || is_endable v.script id) timer)
     (right-true (is_parked (status_of v.schedule p.g)) (wants v.script v.state p (receives_from id)) h) in
     let at : AtOperation v.script v.state p (CaseKind.Recv id) = at_operation v.script v.state p (CaseKind.Recv id) (at-recv (operation_at v.script v.state p) there) in
     (parked, stands-awake v p.g at.instr at.stands)
@@ -503,7 +516,7 @@ sends-passing x x' id seq r r1 r' b1 h1 reply idle d there s records_are spare n
       spare = spare;
       noted_is = noted_is;
       enters = enters;
-      leaves = λ j n. record { timer = λ e. n (sym e); mover = inr (at.1, refl); partner = tt };
+      leaves = λ j n. record { timer = λ e. n (sym e); mover = inr (at.1, refl); partner = tt; tree = tt };
       scans = subst (λ h. Scans x.heap h 0 r r1) (sym heap_is) s.scans;
       stays = sent.stays;
       kept = record {

@@ -25,7 +25,7 @@ after-taken x new g served lawful many takes =
       but = record {
         tended = record {
           at = λ id. number-stays x.book (with_schedule x.book (taken x.book.schedule g)) x.heap x.heap x.noted x.noted id (slice_get x.records.items id)
-              (record { script_is = refl; due = refl; period = refl; count = refl; slot = refl; number_is = refl }) (λ w h. h) (served.tended.at id);
+              (record { script_is = refl; due = inl refl; ended = λ h. h; period = refl; count = refl; slot = refl; number_is = refl }) (λ w h. h) (served.tended.at id);
           declared = served.tended.declared;
           record_room = served.tended.record_room;
           heap_room = served.tended.heap_room;

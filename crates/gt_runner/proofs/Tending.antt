@@ -1,6 +1,6 @@
 -- A section of one record tends the others as they were.
-use Rattle.std.proofs.Common.{◌≡◌, ◌≢◌, ℕ, zero, suc, ◌+◌, ◌≤◌, List, [], ◌∷◌, length, set, slice_get, count_by, refl, sym, ap, subst, ◌∙◌, arith, Option, None, Some, IsSomeAnd, Bool, inl, inr}
-use Rattle.std.proofs.lemmas.Bool.{cases_eq}
+use Rattle.std.proofs.Common.{◌≡◌, ◌≢◌, ◌⊎◌, ℕ, zero, suc, ◌+◌, ◌≤◌, List, [], ◌∷◌, length, set, slice_get, count_by, cond, refl, sym, ap, subst, ◌∙◌, arith, Option, None, Some, IsSomeAnd, IsTrue, is_some, is_none, Bool, true, inl, inr}
+use Rattle.std.proofs.lemmas.Bool.{cases_eq, lt-ltb}
 use Rattle.std.proofs.lemmas.List.{length-set}
 use Rattle.gt_rec.specs.declared.RecKind.{RecKind}
 use Rattle.gt_rec.specs.Rec.{Rec}
@@ -9,8 +9,14 @@ use Rattle.gt_schedule.specs.Counts.{as_number}
 use Rattle.gt_schedule.specs.Schedule.{mark_count, most_goroutines}
 use Rattle.gt_schedule.proofs.Counting.{count-cons}
 use Rattle.gt_model.specs.declared.script.Script.{Script}
+use Rattle.gt_model.specs.Script.{is_ctx}
+use Rattle.gt_model.proofs.Declared.{ctx_declared}
+use Rattle.gt_model.specs.declared.context.Context.{Context}
+use Rattle.gt_model.specs.declared.context.End.{End}
+use Rattle.gt_rules.specs.State.{State, context_at, has_ended}
 use Rattle.gt_book.specs.View.{BookView}
-use Rattle.gt_rows.specs.Agrees.{kind_by, due_by, period_by}
+use Rattle.gt_book.specs.Steps.{live_deadline}
+use Rattle.gt_rows.specs.Agrees.{kind_by, due_by, period_by, Shows}
 use Rattle.gt_rows.specs.Lent.{IsKept}
 use Rattle.gt_runner.specs.declared.runner.Runner.{Runner}
 use Rattle.gt_runner.specs.Served.{IsWatched, AtKind, IsAt, AtNumber, IsTended, is_heaped, record_count}
@@ -19,21 +25,55 @@ use Rattle.gt_runner.specs.Served.{IsWatched, AtKind, IsAt, AtNumber, IsTended, 
 abbrev pub KeepsNote : Option ℕ → Option ℕ → Type 0
 KeepsNote noted next = (w : ℕ) → IsSomeAnd noted (λ v. v ≤ w) → IsSomeAnd next (λ v. v ≤ w)
 
--- what is read of book and heap for the record of a number is what it was
+-- the due time that a record has to show is what it was, or its context has ended
+abbrev pub DueStays : BookView → BookView → ℕ → Type 0
+DueStays b b' id = (due_by b'.script b'.state id ≡ due_by b.script b.state id) ⊎ (IsTrue (is_ctx b.script id) × IsTrue (has_ended b'.state id))
+
+-- what is read of book and heap for the record of a number is what it was, but for the deadline of a context that has ended
 pub record Stays (b b' : BookView) (h h' : LazyHeap) (id : ℕ) : Type 0 where
   pub script_is : b'.script ≡ b.script
-  pub due : due_by b'.script b'.state id ≡ due_by b.script b.state id
+  pub due : DueStays b b' id
+  pub ended : has_ended b.state id ≡ true → has_ended b'.state id ≡ true
   pub period : period_by b'.script b'.state id ≡ period_by b.script b.state id
   pub count : mark_count b'.schedule id ≡ mark_count b.schedule id
   pub slot : slot_with h'.slots id ≡ slot_with h.slots id
   pub number_is : h'.number ≡ h.number
+
+-- a context that has ended has no deadline to come
+live-over : (o : Option Context) → is_some (elim o as (λ _. Option End) [ None ↦ None | Some r ↦ r.end ]) ≡ true → (elim o as (λ _. Option ℕ) [ None ↦ None | Some r ↦ live_deadline r ]) ≡ None
+live-over None h = refl
+live-over (Some r) h = by r.end h
+  where
+    by : (end : Option End) → is_some end ≡ true → cond (is_none end) r.own None ≡ None
+    by None h = cc
+    by (Some end) h = refl
+
+pub over-due : (script : Script) (s : State) (id : ℕ) → is_ctx script id ≡ true → has_ended s id ≡ true → due_by script s id ≡ None
+over-due script s id ctx ended = rw (lt-ltb id (length script.decls) (ctx_declared script id ctx), ctx) (live-over (context_at s id) ended)
+
+shows-stays : (b b' : BookView) (h h' : LazyHeap) (r : Rec) → Stays b b' h h' r.id → Shows b.script b.state r → Shows b'.script b'.state r
+shows-stays b b' h h' r st shows =
+    elim shows [
+      | inl is ↦ elim st.due [
+        | inl same ↦ inl (is ∙ sym same)
+        | inr over ↦ inr (subst (λ (s : Script). IsTrue (is_ctx s r.id)) (sym st.script_is) over.0, over.1)
+      ]
+      | inr over ↦ inr (subst (λ (s : Script). IsTrue (is_ctx s r.id)) (sym st.script_is) over.0, st.ended over.1)
+    ]
+
+none-stays : (b b' : BookView) (h h' : LazyHeap) (id : ℕ) → Stays b b' h h' id → due_by b.script b.state id ≡ None → due_by b'.script b'.state id ≡ None
+none-stays b b' h h' id st none =
+    elim st.due [
+      | inl same ↦ same ∙ none
+      | inr over ↦ over-due b'.script b'.state id (ap (λ (s : Script). is_ctx s id) st.script_is ∙ over.0) over.1
+    ]
 
 kept-stays : (b b' : BookView) (h h' : LazyHeap) (r : Rec) → Stays b b' h h' r.id → IsKept b h r → IsKept b' h' r
 kept-stays b b' h h' r st k = record {
   rec = record {
     agrees = record {
       kind = ap (λ s. kind_by s r.id) st.script_is ∙ k.rec.agrees.kind;
-      shown = k.rec.agrees.shown ∙ sym st.due;
+      shown = shows-stays b b' h h' r st k.rec.agrees.shown;
       period = k.rec.agrees.period ∙ sym st.period;
     };
     bits = k.rec.bits;
@@ -62,7 +102,7 @@ kind-stays b b' h h' noted noted' id r (Some kind) is st keeps at = watched-stay
 
 pub number-stays : (b b' : BookView) (h h' : LazyHeap) (noted noted' : Option ℕ) (id : ℕ) (o : Option Rec) → Stays b b' h h' id → KeepsNote noted noted'
     → AtNumber b h noted id o → AtNumber b' h' noted' id o
-number-stays b b' h h' noted noted' id None st keeps at = (st.due ∙ at.0, st.slot ∙ at.1)
+number-stays b b' h h' noted noted' id None st keeps at = (none-stays b b' h h' id st at.0, st.slot ∙ at.1)
 number-stays b b' h h' noted noted' id (Some r) st keeps at = record {
   id_is = at.id_is;
   watched = subst (AtKind b' h' noted' id r) (sym (ap (λ s. kind_by s id) st.script_is)) (kind-stays b b' h h' noted noted' id r (kind_by b.script id) at.id_is st keeps at.watched);
@@ -111,7 +151,7 @@ pub tended-touched : (x x' : Runner) (id : ℕ) (r r' : Rec) → IsTended x → 
 tended-touched x x' id r r' t c =
     let many : length x'.records.items ≡ length x.records.items = ap length c.records_are ∙ length-set x.records.items id r' in
     let records : record_count x'.book ≡ record_count x.book =
-    ap (λ (s : Script). length s.decls + most_goroutines x'.book.limits + 1) c.script_is ∙ ap (λ l. length x.book.script.decls + most_goroutines l + 1) c.limits in
+    ap (λ (s : Script). length s.decls + most_goroutines s x'.book.limits + 1) c.script_is ∙ ap (λ l. length x.book.script.decls + most_goroutines x.book.script l + 1) c.limits in
     let names : length x'.book.script.decls ≡ length x.book.script.decls = ap (λ (s : Script). length s.decls) c.script_is in
     let declared : length x.book.script.decls ≤ length x.records.items = t.declared in
     let all : length x.records.items + x.records.spare ≡ record_count x.book = t.record_room in
@@ -148,7 +188,7 @@ pub record Spares (x x' : Runner) : Type 0 where
 pub tended-spared : (x x' : Runner) → IsTended x → Spares x x' → IsTended x'
 tended-spared x x' t c =
     let records : record_count x'.book ≡ record_count x.book =
-    ap (λ (s : Script). length s.decls + most_goroutines x'.book.limits + 1) c.script_is ∙ ap (λ l. length x.book.script.decls + most_goroutines l + 1) c.limits in
+    ap (λ (s : Script). length s.decls + most_goroutines s x'.book.limits + 1) c.script_is ∙ ap (λ l. length x.book.script.decls + most_goroutines x.book.script l + 1) c.limits in
     let names : length x'.book.script.decls ≡ length x.book.script.decls = ap (λ (s : Script). length s.decls) c.script_is in
     let declared : length x.book.script.decls ≤ length x.records.items = t.declared in
     let all : length x.records.items + x.records.spare ≡ record_count x.book = t.record_room in

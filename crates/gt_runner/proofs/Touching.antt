@@ -1,5 +1,5 @@
 -- What each section does to a run: it touches one record, and leaves the others alone.
-use Rattle.std.proofs.Common.{◌≡◌, ◌≢◌, ℕ, ◌+◌, ◌-◌, ◌^◌, ◌<◌, ◌≤◌, nat_lt, cond, min, unwrap_or, ◌||◌, List, set, slice_get, refl, sym, ap, subst, ◌∙◌, arith, Option, None, Some, IsSome, IsSomeAnd, Bool, true, false, not, ◌&&◌, is_some, is_none}
+use Rattle.std.proofs.Common.{◌≡◌, ◌≢◌, ℕ, ◌+◌, ◌-◌, ◌^◌, ◌<◌, ◌≤◌, nat_lt, cond, min, unwrap_or, ◌||◌, List, set, slice_get, refl, sym, ap, subst, ◌∙◌, arith, Option, None, Some, IsSome, IsSomeAnd, Bool, true, false, not, ◌&&◌, is_some, is_none, inl}
 use Rattle.std.proofs.lemmas.Bool.{lt-ltb}
 use Rattle.gt_model.specs.declared.entry.Entry.{Entry}
 use Rattle.gt_rules.specs.Change.{change_of}
@@ -15,6 +15,7 @@ use Rattle.gt_rows.specs.declared.answers.SetDone.{SetDone}
 use Rattle.gt_rows.specs.Agrees.{kind_by}
 use Rattle.gt_rows.specs.Lent.{IsKept, Settles, joins}
 use Rattle.gt_rows.specs.Rows.{Arms}
+use Rattle.gt_rows.proofs.Owns.{ended-stays}
 use Rattle.gt_runner.specs.declared.runner.Runner.{Runner}
 use Rattle.gt_runner.specs.Served.{IsWatched, AtKind, IsAt, is_heaped, early_due, least_of, noted_with, noted_at}
 use Rattle.gt_runner.proofs.Marks.{count-marked_same, count-marked_other, count-unmarked_same, count-unmarked_other}
@@ -27,6 +28,7 @@ pub stays-enters : (old : BookView) (e : Entry) (new : BookView) (h h' : LazyHea
 stays-enters old e new h h' j lawful enters leaves slot number_is = record {
   script_is = enters-script old e new enters;
   due = leaves-due old e new lawful enters j leaves;
+  ended = λ h. ended-stays old e new j lawful enters h;
   period = leaves-period old e new lawful enters j leaves;
   count = enters-mark_count old e new enters j;
   slot = slot;
@@ -307,7 +309,7 @@ counts-room x x' r r' false q s =
 stays-marked : (b b' : BookView) (m : Schedule) (h h' : LazyHeap) (j : ℕ) → b' ≡ with_schedule b m → mark_count m j ≡ mark_count b.schedule j
     → slot_with h'.slots j ≡ slot_with h.slots j → h'.number ≡ h.number → Stays b b' h h' j
 stays-marked b b' m h h' j is count slot number_is =
-    subst (λ b'. Stays b b' h h' j) (sym is) (record { script_is = refl; due = refl; period = refl; count = count; slot = slot; number_is = number_is })
+    subst (λ b'. Stays b b' h h' j) (sym is) (record { script_is = refl; due = inl refl; ended = λ h. h; period = refl; count = count; slot = slot; number_is = number_is })
 
 pub counts-touches : (x x' : Runner) (id g : ℕ) (r r' : Rec) → Counts x x' id g r r' → Touches x x' id r r'
 counts-touches x x' id g r r' c =

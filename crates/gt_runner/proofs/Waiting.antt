@@ -73,7 +73,7 @@ after-stop x x' g t r r' reply ready next h there records_are spare noted_is hea
       spare = spare;
       notes = note-same x.noted x'.noted noted_is;
       enters = s.entered;
-      leaves = λ j n. record { timer = λ e. n (sym e); mover = inr (in_hand-awake x.book g ready.lawful ready.alone.in_hand, refl); partner = tt };
+      leaves = λ j n. record { timer = λ e. n (sym e); mover = inr (in_hand-awake x.book g ready.lawful ready.alone.in_hand, refl); partner = tt; tree = tt };
       slots = λ j n. ap (λ (h : LazyHeap). Rattle.gt_lazy.specs.Slots.slot_with h.slots j) heap_is;
       number_is = number_is;
       room = (let heaped = ap (λ (r : Rec). Rattle.gt_schedule.specs.Counts.as_number (is_heaped r)) s.rec in let free = ap (λ (h : LazyHeap). h.spare) heap_is in rw (heaped, free) refl);
@@ -112,7 +112,7 @@ after-sleep x x' g d id r r' reply ready next its h there records_are spare note
       noted_is = noted_is;
       arms = arms;
       kept = kept;
-      leaves = λ j n. record { timer = tt; mover = inl (λ e. n (sym e ∙ sym its)); partner = tt };
+      leaves = λ j n. record { timer = tt; mover = inl (λ e. n (sym e ∙ sym its)); partner = tt; tree = tt };
       served = (ready.alone.in_hand, tt);
       clock = tt;
     })
@@ -195,7 +195,7 @@ block-receives x x' ticket t r r' reply got en lent is row =
           spare = lent.spare;
           notes = notes;
           enters = enters;
-          leaves = λ j n. record { timer = λ e. n (sym e); mover = inr (stands-awake x.book g w.instr w.stands, refl); partner = tt };
+          leaves = λ j n. record { timer = λ e. n (sym e); mover = inr (stands-awake x.book g w.instr w.stands, refl); partner = tt; tree = tt };
           slots = λ j n. ap (λ (h : LazyHeap). Rattle.gt_lazy.specs.Slots.slot_with h.slots j) row.heap;
           number_is = number_is;
           room = (let heaped = ap (λ (r : Rec). Rattle.gt_schedule.specs.Counts.as_number (is_heaped r)) rec_is in let free = ap (λ (h : LazyHeap). h.spare) row.heap in rw (heaped, free) refl);
@@ -286,6 +286,9 @@ timer-channel (Some decl) kind h e = of_what decl.what kind h e
     of_what What.Mutex kind h e = cc
     of_what What.Wg kind h e = cc
     of_what (What.Cond mutex) kind h e = cc
+    of_what (What.Ctx parent form) kind h e = cc
+    of_what (What.Hook ctx func) kind h e = cc
+    of_what What.Error kind h e = cc
     of_what What.Function kind h e = cc
 
 pub channel-of : (x : Runner) (t : ℕ) (r : Rec) → is_timer x.book.script t ≡ true → HasRecord x t × (r.id ≡ t) × IsWatched x.book x.heap x.noted r → has_channel r.kind ≡ true
@@ -307,7 +310,7 @@ marks-few x ticket t en g =
           (few-awaited x.book.script x.book.state g en.counting.lawful.good) (en.counting.but.marks g n)
     ]
 
-pub count-room : (x : Runner) (ticket : Ticket) (t : ℕ) → IsEnrolled x ticket t → length x.book.schedule.statuses ≤ 200001 → mark_count x.book.schedule t + 1 ≤ 2 ^ 32 - 1
+pub count-room : (x : Runner) (ticket : Ticket) (t : ℕ) → IsEnrolled x ticket t → length x.book.schedule.statuses ≤ 204097 → mark_count x.book.schedule t + 1 ≤ 2 ^ 32 - 1
 count-room x ticket t en most =
     let few : mark_count x.book.schedule t ≤ 16 * length x.book.schedule.marks = count-few x.book.schedule t (marks-few x ticket t en) in
     let many : length x.book.schedule.marks ≡ length x.book.schedule.statuses = en.counting.marks_many in

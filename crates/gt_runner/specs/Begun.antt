@@ -9,7 +9,7 @@ use Rattle.gt_rec.specs.Rec.{Rec, BitsRight}
 use Rattle.gt_rec.specs.Changes.{unset_rec}
 use Rattle.gt_room.specs.Contents.{Contents}
 
--- the records of what is no timer are never set; their kind is none of their numbers'
+-- the records of what is no timer and no context are never set; their kind is none of their numbers'
 abbrev pub kind_at : What → RecKind
 kind_at What.Timer = RecKind.Timer
 kind_at What.Ticker = RecKind.Ticker
@@ -18,6 +18,9 @@ kind_at (What.Chan cap) = RecKind.Func
 kind_at What.Mutex = RecKind.Func
 kind_at What.Wg = RecKind.Func
 kind_at (What.Cond mutex) = RecKind.Func
+kind_at (What.Ctx parent form) = RecKind.Deadline
+kind_at (What.Hook ctx func) = RecKind.Func
+kind_at What.Error = RecKind.Func
 kind_at What.Function = RecKind.Func
 
 -- each declaration has a record with nothing set

@@ -108,3 +108,7 @@ pub record Grows (x x' : Runner) : Type 0 where
 -- g wants to sleep for a while
 abbrev pub IsSleep : BookView → ℕ → Type 0
 IsSleep b g = (d : ℕ) × (next_of b g ≡ Some (Step.Needs (TimerOp.Sleep d)))
+
+-- g wants to make context x, whose own deadline is to come
+abbrev pub IsDerive : BookView → ℕ → ℕ → Type 0
+IsDerive b g x = (due : ℕ) × (next_of b g ≡ Some (Step.Needs (TimerOp.Deadline x due)))

@@ -7,7 +7,7 @@ use Rattle.gt_model.specs.declared.entry.Limits.{Limits}
 use Rattle.gt_rules.specs.After.{first_state}
 use Rattle.gt_rules.specs.History.{AllJump}
 use Rattle.gt_schedule.specs.declared.status.RunStatus.{RunStatus}
-use Rattle.gt_schedule.specs.Schedule.{status_of, queued_count}
+use Rattle.gt_schedule.specs.Schedule.{status_of, queued_count, most_goroutines}
 use Rattle.gt_book.specs.View.{BookView, outcome_of}
 
 -- the program's clock moved by idle jumps alone so far
@@ -79,7 +79,7 @@ pub record IsUnderWay (script : Script) (limits : Limits) (b : BookView) : Type 
 
 -- how much is left of a run
 abbrev pub run_left : BookView → ℕ
-run_left b = (b.limits.entries + 1 - length b.history) * (b.limits.entries + 3) + queued_count b.schedule
+run_left b = (b.limits.entries + 1 - length b.history) * (most_goroutines b.script b.limits + 2) + queued_count b.schedule
 
 -- a complete run of the script within the limits
 pub record IsComplete (script : Script) (limits : Limits) (b : BookView) : Type 0 where

@@ -98,7 +98,7 @@ NamesTimers b = (g t : ℕ) → 0 < times t (marks_at b.schedule g) → is_timer
 
 -- how many records a run has at most
 abbrev pub record_count : BookView → ℕ
-record_count b = length b.script.decls + most_goroutines b.limits + 1
+record_count b = length b.script.decls + most_goroutines b.script b.limits + 1
 
 abbrev pub is_heaped : Rec → Bool
 is_heaped r = is_some r.heaped

@@ -11,6 +11,7 @@ use Rattle.gt_book.specs.Least.{NobodyRuns}
 use Rattle.gt_book.specs.View.{BookView, IsLawful, outcome_of, with_schedule}
 use Rattle.gt_runner.specs.declared.runner.Runner.{Runner}
 use Rattle.gt_runner.specs.Run.{Moves}
+use Rattle.gt_runner.specs.Settled.{is_over}
 use Rattle.gt_runner.specs.Served.{IsWatched, IsServed, IsServedBut}
 
 -- a goroutine was taken, and may be counted still where it waited
@@ -34,7 +35,7 @@ pub record IsIdleRun (x : Runner) : Type 0 where
   pub nobody : NobodyRuns x.book
   pub marks_many : length x.book.schedule.marks ≡ length x.book.schedule.statuses
 
--- the record of a number stands at the head, is not stale, and its time has come
+-- the record of a number stands at the head, is fit, and its time has come
 pub record IsDueHead (x : Runner) (id : ℕ) : Type 0 where
   pub rec : Rec
   pub there : slice_get x.records.items id ≡ Some rec
@@ -42,6 +43,7 @@ pub record IsDueHead (x : Runner) (id : ℕ) : Type 0 where
   pub watched : IsWatched x.book x.heap x.noted rec
   pub stands : StandsAt x.heap 0 rec
   pub fresh : is_stale rec ≡ false
+  pub going : is_over x.book rec ≡ false
   pub come : rec.key ≤ clock x.book.state 0
 
 -- an entry more at least, and the run is served as before where it goes on

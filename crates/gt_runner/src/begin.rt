@@ -17,18 +17,21 @@ use std::alloc::Global;
 /// The number of the heap.
 const HEAP: u32 = 0;
 
-/// The kind of the record of a declaration. That of what is no timer is never set.
+/// The kind of the record of a declaration. That of what is no timer and no context is never set.
 fn kind_of(what: &What) -> RecKind
     ensures { result ≡ kind_at what.now }
 {
     match what {
         What::Timer => RecKind::Timer,
         What::Ticker => RecKind::Ticker,
+        What::Ctx { .. } => RecKind::Deadline,
         What::AfterFunc { .. }
         | What::Chan { .. }
         | What::Mutex
         | What::Wg
         | What::Cond { .. }
+        | What::Hook { .. }
+        | What::Error
         | What::Function => RecKind::Func,
     }
 }

@@ -6,12 +6,12 @@ ghost use Rattle.gt_book.specs.declared.step.Step.{Step};
 ghost use Rattle.gt_rows.specs.Rows.{next_of};
 ghost use Rattle.gt_runner.specs.Served as served;
 ghost use Rattle.gt_runner.specs.Served.{IsTended, IsServed, operations_of, record_count};
-ghost use Rattle.gt_runner.specs.Calls.{Ready, After, WantsSet, IsSleep, IsEnrolled, Enrols, IsUncounted, EnrolsAll, Grows};
+ghost use Rattle.gt_runner.specs.Calls.{Ready, After, WantsSet, IsSleep, IsDerive, IsEnrolled, Enrols, IsUncounted, EnrolsAll, Grows};
 
 use crate::runner::Runner;
 use gt_book::{Did, TimerOp, timer_of};
 use gt_chtimer::{sec_block, sec_recv, sec_set, sec_stop};
-use gt_fire::sec_sleep;
+use gt_fire::{sec_deadline, sec_sleep};
 use gt_model::{CaseKind, Instr};
 use gt_rec::{RecKind, TimerRec};
 use gt_rows::BlockDone;
@@ -87,6 +87,21 @@ fn sleep(run: &mut Runner, g: u32)
     run.noted = noted_at(run.noted, run.records.at(id as usize));
 }
 
+/// Makes context `x`, whose own deadline is to come.
+fn derive(run: &mut Runner, g: u32, x: u32)
+    requires ready { Ready run.old g }
+    requires wants { IsDerive run.old.book g x }
+    ensures { After run.old run.new g }
+{
+    let _done = sec_deadline(
+        &mut run.heap,
+        run.records.at_mut(x as usize),
+        &mut run.book,
+        g,
+    );
+    run.noted = noted_at(run.noted, run.records.at(x as usize));
+}
+
 /// Receives from timer `t`, whose value has come, as a case of a choice with a default.
 fn poll(run: &mut Runner, g: u32, t: u32)
     requires ready { Ready run.old g }
@@ -153,6 +168,7 @@ pub fn call(run: &mut Runner, g: u32)
         TimerOp::Set { t, .. } => set(run, g, t),
         TimerOp::Stop(t) => stop(run, g, t),
         TimerOp::Sleep(_) => sleep(run, g),
+        TimerOp::Deadline { x, .. } => derive(run, g, x),
         TimerOp::Poll(t) => poll(run, g, t),
         TimerOp::Enrolled(ticket) => wait(run, ticket),
     }

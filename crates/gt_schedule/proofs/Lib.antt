@@ -3,6 +3,7 @@ pub mod Parties
 pub mod Counting
 pub mod Keeping
 pub mod Moving
+pub mod Begun
 pub mod Marked
 pub mod Back
 pub mod Cases

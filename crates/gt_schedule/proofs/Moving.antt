@@ -1,5 +1,5 @@
 -- A move of a goroutine keeps a schedule orderly.
-use Rattle.std.proofs.Common.{◌≡◌, ℕ, ◌+◌, ◌<◌, arith, drop, slice_get, Bool, true, false, length, Option, Some, None, refl, sym, ap, subst, ◌∙◌, inl, inr}
+use Rattle.std.proofs.Common.{◌≡◌, ℕ, ◌+◌, ◌<◌, ◌≤◌, arith, drop, slice_get, Bool, true, false, length, Option, Some, None, refl, sym, ap, subst, ◌∙◌, inl, inr}
 use Rattle.std.proofs.lemmas.Bool.{cases_eq}
 use Rattle.gt_model.specs.declared.script.CaseKind.{CaseKind}
 use Rattle.gt_model.specs.Tables.{change_numbered}
@@ -145,7 +145,7 @@ as_many-after : (m n : Scheduler) (o : Option (ℕ × Move)) → HasMoved m n o 
 as_many-after m n o moved = ap (λ (x : Schedule). length x.statuses) moved.schedule ∙ as_many-moved (schedule_of m) o
 
 pub spare-all_moved : (m mid n end : Scheduler) (c : Change) → HasMoved m mid c.mover → HasMoved mid n c.partner → HasSignalled n end c.broadcast
-    → length m.statuses.items < capacity m → length end.statuses.items < capacity end
+    → length m.statuses.items + length c.starts ≤ capacity m → length end.statuses.items + length c.starts ≤ capacity end
 spare-all_moved m mid n end c first second third spare =
     let once : length mid.statuses.items ≡ length m.statuses.items = as_many-after m mid c.mover first in
     let twice : length n.statuses.items ≡ length mid.statuses.items = as_many-after mid n c.partner second in

@@ -184,6 +184,9 @@ mutex-named (Some d) = named d.what
     named What.Mutex = refl
     named What.Wg = refl
     named (What.Cond mutex) = refl
+    named (What.Ctx parent form) = refl
+    named (What.Hook ctx func) = refl
+    named What.Error = refl
     named What.Function = refl
 
 pub mutex-script : (script : Script) (m : Schedule) (k : ℕ) → m.mutexes ≡ mutexes_in script.decls → mutex_at m k ≡ mutex_of script k

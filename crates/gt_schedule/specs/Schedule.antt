@@ -12,6 +12,7 @@ use Rattle.gt_model.specs.declared.entry.Party.{Party}
 use Rattle.gt_model.specs.declared.script.Case.{Case}
 use Rattle.gt_model.specs.declared.script.CaseKind.{CaseKind}
 use Rattle.gt_model.specs.Good.{most_cases}
+use Rattle.gt_model.specs.Script.{names_hook}
 use Rattle.gt_model.specs.Tables.{numbered, change_numbered}
 use Rattle.gt_rules.specs.declared.change.Move.{Move}
 use Rattle.gt_rules.specs.declared.change.Start.{Start}
@@ -29,9 +30,16 @@ pub record Schedule : Type 0 where
   pub marks : List (List ℕ)  -- by goroutine number, from 1: the timers whose records count it among those that wait there, the earliest first
   pub mutexes : List ℕ  -- by declaration: the mutex of a Cond; 0 of what is none
 
--- the greatest number of goroutines of a run: main's, and one for each entry
-abbrev pub most_goroutines : Limits → ℕ
-most_goroutines limits = limits.entries + 1
+-- how many hooks are declared
+abbrev pub is_hook_decl : Decl → Bool
+is_hook_decl d = names_hook (Some d.what)
+
+abbrev pub hook_count : Script → ℕ
+hook_count script = count_by is_hook_decl script.decls
+
+-- the greatest number of goroutines of a run: main's, one for each entry, and one for each hook
+abbrev pub most_goroutines : Script → Limits → ℕ
+most_goroutines script limits = limits.entries + 1 + hook_count script
 
 -- a goroutine at its plain instruction
 abbrev pub plainly : ℕ → Party
@@ -148,6 +156,9 @@ mutex_in (What.Chan cap) = 0
 mutex_in What.Mutex = 0
 mutex_in What.Wg = 0
 mutex_in (What.Cond mutex) = mutex
+mutex_in (What.Ctx parent form) = 0
+mutex_in (What.Hook ctx func) = 0
+mutex_in What.Error = 0
 mutex_in What.Function = 0
 
 abbrev pub mutex_at : Schedule → ℕ → ℕ

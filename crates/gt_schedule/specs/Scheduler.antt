@@ -54,10 +54,10 @@ pub record IsOrderly (m : Schedule) : Type 0 where
   pub receivers : AreParked m m.receivers
   pub senders : AreParked m m.senders
 
--- an entry can be made: its goroutine is where it has to be, the lists that it changes are there, and there is room for a new goroutine
+-- an entry can be made: its goroutine is where it has to be, the lists that it changes are there, and there is room for the goroutines that it starts
 pub record CanApply (m : Scheduler) (e : Entry) : Type 0 where
   pub kept : IsScheduler m
   pub orderly : IsOrderly (schedule_of m)
   pub served : Served (schedule_of m) e
   pub lists : HasListsIn (schedule_of m) (change_of e)
-  pub spare : length m.statuses.items < capacity m
+  pub spare : length m.statuses.items + length (change_of e).starts ≤ capacity m

@@ -1,6 +1,6 @@
 //! Who runs, who is to run and who waits.
 
-ghost use Rattle.std.specs.Prelude.{ℕ, ◌≡◌, ◌≢◌, ◌+◌, ◌<◌, ◌≤◌, ◌↔◌, [], length, slice_get, IsTrue, IsSome, IsNone, IfNone, IfSome, IfOk};
+ghost use Rattle.std.specs.Prelude.{ℕ, List, ◌≡◌, ◌≢◌, ◌+◌, ◌<◌, ◌≤◌, ◌↔◌, [], length, count_by, slice_get, IsTrue, IsSome, IsNone, IfNone, IfSome, IfOk};
 ghost use Rattle.std.specs.Option.{option_map};
 ghost use Rattle.std.specs.List.{All};
 ghost use Rattle.gt_model.specs.Good.{IsGood, AreLimits, most_cases};
@@ -8,21 +8,22 @@ ghost use Rattle.gt_model.specs.declared.entry.Party.{Party};
 ghost use Rattle.gt_model.specs.declared.script.Case.{Case};
 ghost use Rattle.gt_model.specs.Tables.{numbered, change_numbered};
 ghost use Rattle.gt_queue.specs.Contents.{waiting_in};
-ghost use Rattle.gt_rules.specs.Change.{change_of};
+ghost use Rattle.gt_rules.specs.Change.{change_of, all_started};
+ghost use Rattle.gt_rules.specs.declared.change.Start.{Start};
 ghost use Rattle.gt_select.specs.Waiting.{MayEnrol, MayWait, gone};
 ghost use Rattle.gt_schedule.specs.Counts.{times};
 ghost use Rattle.gt_schedule.specs.declared.status.RunStatus.{RunStatus};
 ghost use Rattle.gt_schedule.specs.Schedule as table;
-ghost use Rattle.gt_schedule.specs.Schedule.{first_schedule, status_of, with_status, with_new, parked, parked_at, waiting_at, at_case, waiting_at_cases, parked_cases, unparked, taken, turned, scheduled, is_parked, parties_at, ticket_of, marks_at, marked, unmarked, HasMarkRoom, object_of, put_back, given_back, in_hand, is_in_hand, IsLive, RunsQueued, MayMove, HasLists};
+ghost use Rattle.gt_schedule.specs.Schedule.{first_schedule, status_of, with_status, with_new, begun_by, parked, parked_at, waiting_at, at_case, waiting_at_cases, parked_cases, unparked, taken, turned, scheduled, is_parked, parties_at, ticket_of, marks_at, marked, unmarked, HasMarkRoom, object_of, put_back, given_back, in_hand, is_in_hand, IsLive, RunsQueued, MayMove, HasLists};
 ghost use Rattle.gt_schedule.specs.Scheduler.{schedule_of, capacity, list_of, IsScheduler, IsOrderly, CanApply};
 
 use crate::marks::Marks;
 use crate::relocking::mutexes_of;
 use crate::status::{RunStatus, Ticket};
-use gt_model::{Case, CaseKind, Entry, Limits, NoMemory, Party, Script};
+use gt_model::{Case, CaseKind, Decl, Entry, Limits, NoMemory, Party, Script, What};
 use gt_queue::Queues;
 use gt_room::Room;
-use gt_rules::{Move, broadcast_of, mover_of, partner_of, start_of};
+use gt_rules::{Move, Starts, broadcast_of, mover_of, partner_of, starts_of};
 use gt_select::Waiters;
 use std::alloc::Global;
 
@@ -51,12 +52,45 @@ pub struct Scheduler {
     pub mutexes: Vec<u32>,
 }
 
-/// The greatest number of goroutines of a run: main's, and one for each entry.
-pub fn most_goroutines(limits: Limits) -> u64
-    requires { AreLimits limits }
-    ensures { result ≡ table.most_goroutines limits }
+/// Whether a declaration is a hook.
+fn is_hook(decl: &Decl) -> bool
+    ensures { result ≡ table.is_hook_decl decl.now }
 {
-    limits.entries + 1
+    matches!(decl.what, What::Hook { .. })
+}
+
+/// How many hooks are declared.
+fn hook_count(decls: &[Decl]) -> u64
+    requires { length decls.now ≤ 4096 }
+    ensures { result ≡ count_by table.is_hook_decl decls.now }
+{
+    let mut count = 0;
+    for decl in decls {
+        if is_hook(decl) {
+            count += 1;
+        }
+    }
+    count
+}
+
+/// The greatest number of goroutines of a run: main's, one for each entry, and one for each hook.
+pub fn most_goroutines(script: &Script, limits: Limits) -> u64
+    requires good { IsGood script.now }
+    requires limits { AreLimits limits }
+    ensures { result ≡ table.most_goroutines script.now limits }
+{
+    limits.entries + 1 + hook_count(script.decls.as_slice())
+}
+
+/// How many goroutines an entry starts.
+fn start_count(starts: Starts) -> u32
+    ensures { result ≡ length (all_started starts) }
+{
+    match starts {
+        Starts::One(None) => 0,
+        Starts::One(Some(_)) => 1,
+        Starts::ByEnd { count, .. } => count,
+    }
 }
 
 /// A goroutine at its plain instruction.
@@ -86,16 +120,16 @@ fn let_go(waiters: &mut Waiters, g: u32)
 }
 
 impl Scheduler {
-    /// The schedule as a run begins: goroutine 1 is to be taken. There is room for all goroutines of a run of 1 to 200,000 entries. It alone takes
-    /// memory.
+    /// The schedule as a run begins: goroutine 1 is to be taken. There is room for all goroutines of a run of 1 to 200,000 entries, those of hooks among
+    /// them. It alone takes memory.
     pub fn begin(alloc: Global, script: &Script, limits: Limits) -> Result<Scheduler, NoMemory>
         requires good { IsGood script.now }
         requires limits { AreLimits limits }
         ensures schedule { IfOk result (λ made. schedule_of made ≡ first_schedule script.now) }
-        ensures room { IfOk result (λ made. capacity made ≡ table.most_goroutines limits) }
+        ensures room { IfOk result (λ made. capacity made ≡ table.most_goroutines script.now limits) }
         ensures kept { IfOk result IsScheduler }
     {
-        let most = most_goroutines(limits) as usize;
+        let most = most_goroutines(script, limits) as usize;
         let mut statuses = Room::with_room(alloc, most).map_err(|_| NoMemory)?;
         statuses.put(RunStatus::Queued);
         let mut marks = Room::with_room(alloc, most).map_err(|_| NoMemory)?;
@@ -307,7 +341,7 @@ impl Scheduler {
     /// A new goroutine stands in the run queue. It has the next number.
     fn start(&mut self)
         requires kept { IsScheduler self.old }
-        requires orderly { IsOrderly (schedule_of self.old) }
+        requires queued { RunsQueued (schedule_of self.old) }
         requires spare { length self.old.statuses.items < capacity self.old }
         ensures schedule { schedule_of self.new ≡ with_new (schedule_of self.old) }
         ensures room { capacity self.new ≡ capacity self.old }
@@ -317,6 +351,20 @@ impl Scheduler {
         self.statuses.put(RunStatus::Queued);
         self.marks.put(Marks::none());
         self.run_queue.enqueue(RUN_QUEUE, child);
+    }
+
+    /// So many new goroutines stand in the run queue, one after the other.
+    fn start_all(&mut self, count: u32)
+        requires kept { IsScheduler self.old }
+        requires queued { RunsQueued (schedule_of self.old) }
+        requires spare { length self.old.statuses.items + count ≤ capacity self.old }
+        ensures schedule { (starts : List Start) → count ≡ length starts → schedule_of self.new ≡ begun_by (schedule_of self.old) starts }
+        ensures room { capacity self.new ≡ capacity self.old }
+        ensures kept { IsScheduler self.new }
+    {
+        for _ in 0..count {
+            self.start();
+        }
     }
 
     /// Does to the schedule what an entry means for it.
@@ -335,9 +383,7 @@ impl Scheduler {
         if let Some(k) = broadcast_of(entry) {
             self.relock_all(k);
         }
-        if start_of(entry).is_some() {
-            self.start();
-        }
+        self.start_all(start_count(starts_of(entry)));
     }
 
     /// Marks a goroutine as one that the record of timer `t` counts among those that wait there.

@@ -128,16 +128,22 @@ fn earlier(line: u32, read: Result<Script, Unread>) -> Unread
 /// A text is UTF-8. Its lines end with a line feed, of which a carriage return in front is part, or with the text; words are
 /// separated by spaces and tabs; lines without words, and lines whose first word begins with `#`, are skipped. The other lines
 /// are `gotime script 1`, then declarations and functions in any order. A declaration is `timer T`, `ticker T`, `afterfunc T F`,
-/// `mutex M`, `wg W`, `cond K M`, a condition variable with its mutex, or `chan C N`, a channel that keeps at most N values, with
-/// N from 0 to 1,024; a function begins with `func F` and ends with `end`, and in between has instructions, each a keyword and
-/// what follows it, as the rows of [`gt_table::Keyword::form`] say: numbers of 32 bits, durations of at most [`gt_model::CAP`]
-/// nanoseconds, what is added to a counter, from -1,000,000 to 1,000,000, with `-` in front where it is below 0, and names that
-/// are declared as what is wanted there. Among them stand loops: a block `loop N` .. `end` with N from 0 to 1,000,000, up to four
-/// in one another, which holds something, and more than loops with 0 where N is above 0. And selects: a block `select` .. `end`
-/// of 1 to 16 cases, each a line `case recv O` or `case send C N` with its body behind it, and then, if wanted, a line `default`
-/// with its body; with a default at most one case receives from a timer. A select is an instruction. Up to 16 blocks stand in one
-/// another. One function is `main`. Each name is declared once, before or after its uses. A script has at most 4,096 names, 256
-/// functions among them, and 100,000 instructions.
+/// `mutex M`, `wg W`, `cond K M`, a condition variable with its mutex, `chan C N`, a channel that keeps at most N values, with
+/// N from 0 to 1,024, `error E`, `ctx X P FORM`, a context, or `hook S X F`, the function F that starts when the context X ends; a
+/// function begins with `func F` and ends with `end`, and in between has instructions, each a keyword and what follows it, as the
+/// rows of [`gt_table::Keyword::form`] say: numbers of 32 bits, durations of at most [`gt_model::CAP`] nanoseconds, what is added
+/// to a counter, from -1,000,000 to 1,000,000, with `-` in front where it is below 0, and names that are declared as what is wanted
+/// there. A context has a parent P, which is `root` or a context of an earlier line, and a FORM: `cancel`, `cause`, `timeout D`,
+/// `timeout D E` with the error E as its cause, or `without`. One of the form `without` is not canceled and not received from, and
+/// one is canceled with a cause, by `cancel X E`, where its form is `cause`. Among the instructions stand loops: a block `loop N` ..
+/// `end` with N from 0 to 1,000,000, up to four in one another, which holds something, and more than loops with 0 where N is above
+/// 0. And selects: a block `select` .. `end` of 1 to 16 cases, each a line `case recv O` or `case send C N` with its body behind it,
+/// and then, if wanted, a line `default` with its body; with a default at most one case receives from a timer. A select is an
+/// instruction. Up to 16 blocks stand in one another. One function is `main`. Each name is declared once, before or after its uses;
+/// only a parent is declared before. A script has at most 4,096 names, 256 functions among them, and 100,000 instructions.
+///
+/// A use on an earlier line takes a name as the first line that declares it, be that faulty or not: its first word tells what it is, and
+/// the fourth word of a context's line its form.
 ///
 /// # Errors
 ///

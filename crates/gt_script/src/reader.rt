@@ -15,7 +15,7 @@ use gt_grammar::{Progress, Statement, Why};
 use gt_lines::Line;
 use gt_model::{Case, CaseKind, Code, Decl, Decls, Func, Funcs, Instr, Script, Text, What};
 use gt_names::{Declared, NameTable};
-use gt_table::{Kind, Step};
+use gt_table::Step;
 use std::alloc::{AllocError, Global};
 use std::marker::Model;
 use std::mem;
@@ -74,7 +74,7 @@ fn is_function(declared: Option<Declared>) -> bool
 {
     match declared {
         None => false,
-        Some(d) => matches!(d.kind, Kind::Function),
+        Some(d) => d.kind.is_function(),
     }
 }
 
@@ -387,6 +387,8 @@ impl Reader {
         requires known { IsSome (step_with statement.now) }
         requires first { IfSome statement.now.first (λ v. v ≤ most_of (form_of statement.now.keyword).first) }
         requires second { IfSome statement.now.second (λ v. v ≤ most_of (form_of statement.now.keyword).second) }
+        requires third { IfSome statement.now.third (λ v. v ≤ most_of (form_of statement.now.keyword).third) }
+        requires fourth { IfSome statement.now.fourth (λ v. v ≤ most_of (form_of statement.now.keyword).fourth) }
         ensures progress { OnOk result (self.new.progress
             ≡ progress_with self.old.progress (role_of statement.now) (unwrap_or statement.now.first 0) statement.now.awaits) }
         ensures built { OnOk result (IfSome (step_with statement.now) (λ step.

@@ -4,16 +4,16 @@ ghost use Rattle.std.specs.Prelude.{◌≡◌, ◌+◌, ◌≤◌, IfSome, if◌
 ghost use Rattle.std.specs.Option.{option_map};
 ghost use Rattle.gt_model.specs.Good.{most_passes, most_capacity, most_added};
 ghost use Rattle.gt_model.specs.Times.{greatest_time};
-ghost use Rattle.gt_table.specs.Forms.{most_of};
+ghost use Rattle.gt_table.specs.Forms.{most_of, takes};
 ghost use Rattle.gt_names.specs.Known.{known};
 ghost use Rattle.gt_names.specs.Names.{is_free_name};
 ghost use Rattle.gt_grammar.specs.Duration.{duration_of};
-ghost use Rattle.gt_grammar.specs.Statements.{setting_place, channel_place, source_place, mutex_place, wg_place, cond_place, function_place, number_to, added_of, value_of};
+ghost use Rattle.gt_grammar.specs.Statements.{place_if, function_place, object_of, parent_of, number_to, added_of, value_of};
 
 use gt_dur::read_dur;
-use gt_lines::read_number;
+use gt_lines::{is_text, read_number};
 use gt_names::{Declared, NameTable, is_free_name};
-use gt_table::{Arg, Kind};
+use gt_table::Arg;
 
 /// The greatest number of passes of a loop.
 const MOST_PASSES: u32 = 1_000_000;
@@ -58,97 +58,36 @@ fn read_added(word: &[u8]) -> Option<u32>
     }
 }
 
-fn setting_place(d: Declared) -> Option<u32>
-    ensures { result ≡ setting_place d }
+// The place of what a name is declared as, if that may stand there.
+fn object_place(arg: Arg, d: Declared) -> Option<u32>
+    ensures { result ≡ place_if (takes arg) d }
 {
-    match d.kind {
-        Kind::Timer | Kind::Ticker | Kind::AfterFunc => Some(d.place),
-        Kind::Chan | Kind::Mutex | Kind::Wg | Kind::Cond | Kind::Function => None,
-    }
-}
-
-fn channel_place(d: Declared) -> Option<u32>
-    ensures { result ≡ channel_place d }
-{
-    match d.kind {
-        Kind::Chan => Some(d.place),
-        Kind::Timer
-        | Kind::Ticker
-        | Kind::AfterFunc
-        | Kind::Mutex
-        | Kind::Wg
-        | Kind::Cond
-        | Kind::Function => None,
-    }
-}
-
-fn source_place(d: Declared) -> Option<u32>
-    ensures { result ≡ source_place d }
-{
-    match d.kind {
-        Kind::Timer | Kind::Ticker | Kind::Chan => Some(d.place),
-        Kind::AfterFunc | Kind::Mutex | Kind::Wg | Kind::Cond | Kind::Function => None,
-    }
-}
-
-fn mutex_place(d: Declared) -> Option<u32>
-    ensures { result ≡ mutex_place d }
-{
-    match d.kind {
-        Kind::Mutex => Some(d.place),
-        Kind::Timer
-        | Kind::Ticker
-        | Kind::AfterFunc
-        | Kind::Chan
-        | Kind::Wg
-        | Kind::Cond
-        | Kind::Function => None,
-    }
-}
-
-fn wg_place(d: Declared) -> Option<u32>
-    ensures { result ≡ wg_place d }
-{
-    match d.kind {
-        Kind::Wg => Some(d.place),
-        Kind::Timer
-        | Kind::Ticker
-        | Kind::AfterFunc
-        | Kind::Chan
-        | Kind::Mutex
-        | Kind::Cond
-        | Kind::Function => None,
-    }
-}
-
-fn cond_place(d: Declared) -> Option<u32>
-    ensures { result ≡ cond_place d }
-{
-    match d.kind {
-        Kind::Cond => Some(d.place),
-        Kind::Timer
-        | Kind::Ticker
-        | Kind::AfterFunc
-        | Kind::Chan
-        | Kind::Mutex
-        | Kind::Wg
-        | Kind::Function => None,
-    }
+    arg.takes(d.kind).then_some(d.place)
 }
 
 fn function_place(d: Declared) -> Option<u32>
     ensures { result ≡ function_place d }
 {
-    match d.kind {
-        Kind::Function => Some(d.func),
-        Kind::Timer
-        | Kind::Ticker
-        | Kind::AfterFunc
-        | Kind::Chan
-        | Kind::Mutex
-        | Kind::Wg
-        | Kind::Cond => None,
+    d.kind.is_function().then_some(d.func)
+}
+
+// The value of an object's name: its place.
+fn read_object<'a>(names: &NameTable<'a>, arg: Arg, word: &'a [u8]) -> Option<u64>
+    ensures value { result ≡ object_of (known names.now) arg word.now }
+    ensures most { IfSome result (λ v. v ≤ 4294967295) }
+{
+    Some(u64::from(object_place(arg, names.find(word)?)?))
+}
+
+// The value of a parent: 0 for the root, and else one more than its place.
+fn read_parent<'a>(names: &NameTable<'a>, word: &'a [u8]) -> Option<u64>
+    ensures value { result ≡ parent_of (known names.now) word.now }
+    ensures most { IfSome result (λ v. v ≤ 4294967296) }
+{
+    if is_text(word, b"root") {
+        return Some(0);
     }
+    Some(read_object(names, Arg::Parent, word)? + 1)
 }
 
 fn new_place<'a>(names: &NameTable<'a>, word: &'a [u8]) -> Option<u32>
@@ -161,7 +100,7 @@ fn new_place<'a>(names: &NameTable<'a>, word: &'a [u8]) -> Option<u32>
 }
 
 /// What a word of this kind stands for, with these names; `None` where the word is wrong.
-// Each line comes here twice, mostly for a word that is not wanted.
+// Each line comes here four times, mostly for a word that is not wanted.
 #[inline(always)]
 pub(crate) fn read_value<'a>(names: &NameTable<'a>, arg: Arg, word: &'a [u8]) -> Option<u64>
     ensures value { result ≡ value_of (known names.now) arg word.now }
@@ -170,12 +109,18 @@ pub(crate) fn read_value<'a>(names: &NameTable<'a>, arg: Arg, word: &'a [u8]) ->
     match arg {
         Arg::Nothing => Some(0),
         Arg::NewName => Some(u64::from(new_place(names, word)?)),
-        Arg::Setting => Some(u64::from(setting_place(names.find(word)?)?)),
-        Arg::Channel => Some(u64::from(channel_place(names.find(word)?)?)),
-        Arg::Source => Some(u64::from(source_place(names.find(word)?)?)),
-        Arg::Mutex => Some(u64::from(mutex_place(names.find(word)?)?)),
-        Arg::WaitGroup => Some(u64::from(wg_place(names.find(word)?)?)),
-        Arg::Cond => Some(u64::from(cond_place(names.find(word)?)?)),
+        Arg::Setting
+        | Arg::Channel
+        | Arg::Source
+        | Arg::Mutex
+        | Arg::WaitGroup
+        | Arg::Cond
+        | Arg::Context
+        | Arg::Endable
+        | Arg::Causable
+        | Arg::Hook
+        | Arg::Error => read_object(names, arg, word),
+        Arg::Parent => read_parent(names, word),
         Arg::Function => Some(u64::from(function_place(names.find(word)?)?)),
         Arg::Duration => read_duration(word),
         Arg::Number => Some(u64::from(read_number(word)?)),

@@ -4,6 +4,15 @@ ghost use Rattle.std.specs.Prelude.{◌≡◌};
 
 use gt_model::{CaseKind, Instr, What};
 
+/// The word by which the line of a context tells its form.
+#[derive(Clone, Copy, Debug, PartialEq, Eq)]
+pub enum CtxForm {
+    Cancel,
+    Cause,
+    Timeout,
+    Without,
+}
+
 /// What kind of thing a name is declared as.
 #[derive(Clone, Copy, Debug, PartialEq, Eq)]
 pub enum Kind {
@@ -14,6 +23,10 @@ pub enum Kind {
     Mutex,
     Wg,
     Cond,
+    /// A context, with the form that its line tells, if that tells one.
+    Ctx { form: Option<CtxForm> },
+    Hook,
+    Error,
     Function,
 }
 
@@ -28,7 +41,7 @@ pub enum Arg {
     Setting,
     /// The name of a channel.
     Channel,
-    /// The name of a channel timer or of a channel.
+    /// The name of a channel timer, of a channel, or of a context that is not of the form `without`.
     Source,
     /// The name of a mutex.
     Mutex,
@@ -36,6 +49,18 @@ pub enum Arg {
     WaitGroup,
     /// The name of a Cond.
     Cond,
+    /// The name of a context that is declared on an earlier line, or `root`. Its value is 0 for `root`, and else one more than the context's place.
+    Parent,
+    /// The name of a context.
+    Context,
+    /// The name of a context that is not of the form `without`.
+    Endable,
+    /// The name of a context of the form `cause`.
+    Causable,
+    /// The name of a hook.
+    Hook,
+    /// The name of an error.
+    Error,
     /// The name of a function.
     Function,
     /// A duration.
@@ -69,12 +94,24 @@ pub enum Role {
     Defaults,
 }
 
-/// What a keyword makes of its line.
+/// What a keyword makes of its line: where that stands, and what follows the keyword, in this order. The word by which a context's line tells its form is part
+/// of the keyword.
 #[derive(Clone, Copy, Debug, PartialEq, Eq)]
 pub struct Form {
     pub role: Role,
     pub first: Arg,
     pub second: Arg,
+    pub third: Arg,
+    pub fourth: Arg,
+}
+
+/// What the words behind a keyword stand for: 0 where no word is wanted.
+#[derive(Clone, Copy, Debug, PartialEq, Eq)]
+pub struct Values {
+    pub first: u64,
+    pub second: u64,
+    pub third: u64,
+    pub fourth: u64,
 }
 
 /// What a line does.
@@ -98,9 +135,111 @@ pub enum Step {
     Close,
 }
 
+impl Kind {
+    ghost use Rattle.std.specs.Prelude.{◌≡◌};
+    ghost use Rattle.gt_table.specs.Forms.{is_kind_function, is_kind_setting, is_kind_timer, is_kind_chan, is_kind_source, is_kind_mutex, is_kind_wg, is_kind_cond, is_kind_ctx, is_kind_endable, is_kind_causable, is_kind_hook, is_kind_error};
+
+    /// Whether it is a function.
+    pub fn is_function(self) -> bool
+        ensures { result ≡ is_kind_function self }
+    {
+        matches!(self, Kind::Function)
+    }
+
+    /// Whether it is a timer that is set and stopped.
+    pub fn is_setting(self) -> bool
+        ensures { result ≡ is_kind_setting self }
+    {
+        matches!(self, Kind::Timer | Kind::Ticker | Kind::AfterFunc)
+    }
+
+    /// Whether it is a timer that is received from.
+    pub fn is_timer(self) -> bool
+        ensures { result ≡ is_kind_timer self }
+    {
+        matches!(self, Kind::Timer | Kind::Ticker)
+    }
+
+    /// Whether it is a channel.
+    pub fn is_chan(self) -> bool
+        ensures { result ≡ is_kind_chan self }
+    {
+        matches!(self, Kind::Chan)
+    }
+
+    /// Whether it is received from: a timer, a channel, or a context that is not of the form `without`.
+    pub fn is_source(self) -> bool
+        ensures { result ≡ is_kind_source self }
+    {
+        self.is_timer() || self.is_chan() || self.is_endable()
+    }
+
+    /// Whether it is a mutex.
+    pub fn is_mutex(self) -> bool
+        ensures { result ≡ is_kind_mutex self }
+    {
+        matches!(self, Kind::Mutex)
+    }
+
+    /// Whether it is a WaitGroup.
+    pub fn is_wg(self) -> bool
+        ensures { result ≡ is_kind_wg self }
+    {
+        matches!(self, Kind::Wg)
+    }
+
+    /// Whether it is a Cond.
+    pub fn is_cond(self) -> bool
+        ensures { result ≡ is_kind_cond self }
+    {
+        matches!(self, Kind::Cond)
+    }
+
+    /// Whether it is a context.
+    pub fn is_ctx(self) -> bool
+        ensures { result ≡ is_kind_ctx self }
+    {
+        matches!(self, Kind::Ctx { .. })
+    }
+
+    /// Whether it is a context that is not of the form `without`.
+    pub fn is_endable(self) -> bool
+        ensures { result ≡ is_kind_endable self }
+    {
+        match self {
+            Kind::Ctx { form } => !matches!(form, Some(CtxForm::Without)),
+            _ => false,
+        }
+    }
+
+    /// Whether it is a context of the form `cause`.
+    pub fn is_causable(self) -> bool
+        ensures { result ≡ is_kind_causable self }
+    {
+        match self {
+            Kind::Ctx { form } => matches!(form, Some(CtxForm::Cause)),
+            _ => false,
+        }
+    }
+
+    /// Whether it is a function that starts when a context ends.
+    pub fn is_hook(self) -> bool
+        ensures { result ≡ is_kind_hook self }
+    {
+        matches!(self, Kind::Hook)
+    }
+
+    /// Whether it is an error.
+    pub fn is_error(self) -> bool
+        ensures { result ≡ is_kind_error self }
+    {
+        matches!(self, Kind::Error)
+    }
+}
+
 impl Arg {
     ghost use Rattle.std.specs.Prelude.{◌≡◌};
-    ghost use Rattle.gt_table.specs.Forms.{is_wanted, is_amount};
+    ghost use Rattle.gt_table.specs.Forms.{is_wanted, is_amount, takes, is_parent};
 
     /// Whether a word is wanted there.
     pub fn is_wanted(self) -> bool
@@ -117,6 +256,35 @@ impl Arg {
             self,
             Arg::Duration | Arg::Number | Arg::Passes | Arg::Capacity | Arg::Added
         )
+    }
+
+    /// Whether a name that is declared as this kind may stand there.
+    pub fn takes(self, kind: Kind) -> bool
+        ensures { result ≡ takes self kind }
+    {
+        match self {
+            Arg::Setting => kind.is_setting(),
+            Arg::Channel => kind.is_chan(),
+            Arg::Source => kind.is_source(),
+            Arg::Mutex => kind.is_mutex(),
+            Arg::WaitGroup => kind.is_wg(),
+            Arg::Cond => kind.is_cond(),
+            Arg::Parent | Arg::Context => kind.is_ctx(),
+            Arg::Endable => kind.is_endable(),
+            Arg::Causable => kind.is_causable(),
+            Arg::Hook => kind.is_hook(),
+            Arg::Error => kind.is_error(),
+            Arg::Function => kind.is_function(),
+            Arg::Nothing | Arg::NewName => false,
+            Arg::Duration | Arg::Number | Arg::Passes | Arg::Capacity | Arg::Added => false,
+        }
+    }
+
+    /// Whether it is the parent of a context.
+    pub fn is_parent(self) -> bool
+        ensures { result ≡ is_parent self }
+    {
+        matches!(self, Arg::Parent)
     }
 }
 
@@ -151,7 +319,7 @@ impl Role {
         ensures { result ≡ opens self }
     {
         match self {
-            Role::Declares { kind } => matches!(kind, Kind::Function),
+            Role::Declares { kind } => kind.is_function(),
             Role::Closes
             | Role::Acts
             | Role::Loops
@@ -185,15 +353,18 @@ impl Role {
 
 impl Form {
     ghost use Rattle.std.specs.Prelude.{◌≡◌};
+    ghost use Rattle.gt_table.specs.Forms.{form_with};
 
-    /// This form.
+    /// The form with this role and at most two words behind the keyword.
     pub fn new(role: Role, first: Arg, second: Arg) -> Form
-        ensures { result ≡ record { role = role; first = first; second = second } }
+        ensures { result ≡ form_with role first second Arg.Nothing Arg.Nothing }
     {
         Form {
             role,
             first,
             second,
+            third: Arg::Nothing,
+            fourth: Arg::Nothing,
         }
     }
 }

@@ -4,5 +4,5 @@
 mod form;
 mod table;
 
-pub use form::{Arg, Form, Kind, Role, Step};
-pub use table::{Keyword, read_case, read_keyword};
+pub use form::{Arg, CtxForm, Form, Kind, Role, Step, Values};
+pub use table::{Keyword, cancel_keyword, read_case, read_ctx, read_ctx_form, read_keyword};

@@ -4,6 +4,8 @@
 #[cfg(test)]
 mod channels;
 #[cfg(test)]
+mod contexts;
+#[cfg(test)]
 mod durations;
 #[cfg(test)]
 mod scripts;

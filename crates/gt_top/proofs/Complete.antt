@@ -11,7 +11,8 @@ use Rattle.gt_rules.specs.History.{History, AllLegal, AllJump, state_after}
 use Rattle.gt_model.specs.Named.{AllNamed}
 use Rattle.gt_facts.proofs.Formed.{formed-first}
 use Rattle.gt_facts.proofs.Named.{AllNamed-legal}
-use Rattle.gt_laws.proofs.Laws.{each-in_order, each-in_time, each-fresh, each-passes_on, each-chooses_rightly, each-alone, each-adds_up, each-signalled}
+use Rattle.gt_laws.proofs.Laws.{each-in_order, each-in_time, each-fresh, each-passes_on, each-chooses_rightly, each-alone, each-adds_up, each-signalled, each-keeps, each-hooks}
+use Rattle.gt_laws.proofs.FirstCauses.{each-stays, one-cause}
 use Rattle.gt_laws.proofs.Made.{each-uses_rightly}
 use Rattle.gt_laws.proofs.Jumps.{each-jumps}
 use Rattle.gt_laws.proofs.Turns.{each-in_turn}
@@ -49,6 +50,10 @@ complete-IsRun script limits b outcome run lawful is =
       alone = each-alone script limits b.history outcome good complete;
       adds_up = each-adds_up script limits b.history outcome good complete;
       signals = each-signalled script limits b.history outcome good complete;
+      keeps = each-keeps script limits b.history outcome good complete;
+      one_cause = one-cause script limits b.history outcome good complete;
+      hooks = each-hooks script limits b.history outcome good complete;
+      hooks_stay = each-stays script limits b.history outcome good complete;
       ends = each-ends script limits b.history outcome good complete;
       ends_where_stuck = each-ends_where_stuck script limits 0 b.history outcome good complete jumps;
       jumps_to_least = each-jumps script limits 0 b.history outcome good complete jumps;

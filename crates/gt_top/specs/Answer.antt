@@ -10,7 +10,7 @@ use Rattle.gt_model.specs.declared.entry.Limits.{Limits}
 use Rattle.gt_model.specs.declared.entry.Outcome.{Outcome}
 use Rattle.gt_rules.specs.After.{first_state}
 use Rattle.gt_rules.specs.History.{History, AllJump}
-use Rattle.gt_laws.specs.Laws.{AtEach, InOrder, InTime, IsFresh, UsesRightly, PassesOn, ChoosesRightly, IsAlone, AddsUp, IsSignalled}
+use Rattle.gt_laws.specs.Laws.{AtEach, InOrder, InTime, IsFresh, UsesRightly, PassesOn, ChoosesRightly, IsAlone, AddsUp, IsSignalled, KeepsFirstCause, HasOneCause, HooksOnce, HooksStay}
 use Rattle.gt_laws.specs.Unrolled.{InTurn}
 use Rattle.gt_laws.specs.Ends.{EndsRightly, EndsWhereStuck, JumpsToLeast}
 use Rattle.gt_grammar.specs.Grammar.{IsFirstFault, Spells}
@@ -25,8 +25,9 @@ use Rattle.gt_top.specs.Call.{input_limit, SourceState, SinkState, Call, ReadsAl
 -- A complete history of the script: each entry legal in the one-thread machine, and its clock moved only where nothing else could happen. So
 -- each goroutine's calls come once and in order, loops repeated as often as they say, nothing comes before its time, no value of a setting that was
 -- ended is received, the values of a channel come out in the order in which they were sent, each once, no default passes over a case that gives, nobody
--- locks a mutex that somebody has, a wait goes on where the sum of the adds is 0, a signal wakes one that waits at its Cond where somebody does, each panic is a
--- misuse, the outcome has its cause, and a deadlock is reported exactly where nothing can go on
+-- locks a mutex that somebody has, a wait goes on where the sum of the adds is 0, a signal wakes one that waits at its Cond where somebody does, a context
+-- keeps the first cause of its end and ends once, at its own deadline or later where by that, a hook starts once or was stopped, each panic is a misuse, the
+-- outcome has its cause, and a deadlock is reported exactly where nothing can go on
 pub record IsRun (script : Script) (limits : Limits) (h : List Entry) (outcome : Outcome) : Type 0 where
   pub complete : History script limits h outcome
   pub jumps : AllJump script 0 (first_state script) h
@@ -41,6 +42,10 @@ pub record IsRun (script : Script) (limits : Limits) (h : List Entry) (outcome :
   pub alone : AtEach (IsAlone script) h
   pub adds_up : AtEach AddsUp h
   pub signals : AtEach (IsSignalled script) h
+  pub keeps : AtEach (KeepsFirstCause script) h
+  pub one_cause : HasOneCause h
+  pub hooks : AtEach (HooksOnce script) h
+  pub hooks_stay : AtEach (HooksStay script) h
   pub ends : AtEach (EndsRightly script limits) h
   pub ends_where_stuck : AtEach (EndsWhereStuck script limits) h
 

@@ -4,6 +4,8 @@
 #[cfg(test)]
 mod conds;
 #[cfg(test)]
+mod contexts;
+#[cfg(test)]
 mod selects;
 #[cfg(test)]
 mod syncs;

@@ -1,6 +1,7 @@
 //! What no clause says: that memory suffices, and how the answers read.
 
 use crate::conds::CONDS;
+use crate::contexts::CONTEXTS;
 use crate::selects::SELECTS;
 use crate::syncs::SYNCS;
 use gt_io::{SureSink, SureSource};
@@ -190,6 +191,7 @@ fn scripts_run(rt: HostRuntime) -> Result<(), Fail> {
     assert_eq!(rt; first_wrong(rt.alloc(), SELECTS)?, None);
     assert_eq!(rt; first_wrong(rt.alloc(), SYNCS)?, None);
     assert_eq!(rt; first_wrong(rt.alloc(), CONDS)?, None);
+    assert_eq!(rt; first_wrong(rt.alloc(), CONTEXTS)?, None);
     Ok(())
 }
 

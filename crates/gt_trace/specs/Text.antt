@@ -5,11 +5,13 @@ use Rattle.std.specs.List.{flat_map, join_with_byte}
 use Rattle.std.specs.declared.option.Option.{Option}
 use Rattle.std.specs.declared.option.Option.TheVariants.{None, Some}
 use Rattle.gt_model.specs.declared.script.Script.{Script}
+use Rattle.gt_model.specs.declared.context.ErrVal.{ErrVal}
+use Rattle.gt_model.specs.declared.context.CauseVal.{CauseVal}
 use Rattle.gt_model.specs.declared.entry.Entry.{Entry}
 use Rattle.gt_model.specs.declared.entry.Outcome.{Outcome}
 use Rattle.gt_model.specs.declared.entry.Party.{Party}
 use Rattle.gt_model.specs.declared.entry.Reason.{Reason}
-use Rattle.gt_model.specs.Parts.{Part, keyword, goroutine, maybe_goroutine, party, number, maybe_number, signed, timer, after_func, setting, channel, mutex, wait_group, cond, function, flag, reason, outcome, parts_of}
+use Rattle.gt_model.specs.Parts.{Part, keyword, goroutine, maybe_goroutine, party, number, maybe_number, signed, timer, after_func, setting, channel, mutex, wait_group, cond, function, context, hook, ended, error, cause, flag, reason, outcome, parts_of}
 
 -- the byte between two words
 abbrev pub space : ℕ
@@ -45,11 +47,29 @@ abbrev pub maybe_word : Option ℕ → List ℕ
 maybe_word None = codes "-"
 maybe_word (Some n) = decimal n
 
--- whether a timer was set, where that is told
+-- yes or no, where it is told
 abbrev pub flag_word : Option Bool → List ℕ
 flag_word None = codes "-"
 flag_word (Some true) = codes "true"
 flag_word (Some false) = codes "false"
+
+-- whether a context has ended at once
+abbrev pub ended_word : Bool → List ℕ
+ended_word true = codes "ended"
+ended_word false = codes "live"
+
+-- the error of a context
+abbrev pub error_word : Option ErrVal → List ℕ
+error_word None = codes "nil"
+error_word (Some ErrVal.Canceled) = codes "context canceled"
+error_word (Some ErrVal.DeadlineExceeded) = codes "context deadline exceeded"
+
+-- the cause of its end: one of the same texts, or a declared error
+abbrev pub cause_word : Script → Option CauseVal → List ℕ
+cause_word script None = codes "nil"
+cause_word script (Some CauseVal.Canceled) = codes "context canceled"
+cause_word script (Some CauseVal.DeadlineExceeded) = codes "context deadline exceeded"
+cause_word script (Some (CauseVal.Named e)) = codes "error " ++ name_of script e
 
 -- why a goroutine panics
 abbrev pub reason_word : Reason → List ℕ
@@ -67,7 +87,7 @@ outcome_word Outcome.Deadlock = codes "deadlock"
 outcome_word Outcome.Panic = codes "panic"
 outcome_word Outcome.Limit = codes "limit"
 
--- the word that a line says for a part
+-- what a line says for a part: a word, or for an error or a cause its text
 abbrev pub word_of : Script → Part → List ℕ
 word_of script (keyword word) = word
 word_of script (goroutine g) = goroutine_word g
@@ -84,6 +104,11 @@ word_of script (mutex m) = name_of script m
 word_of script (wait_group w) = name_of script w
 word_of script (cond k) = name_of script k
 word_of script (function f) = function_name script f
+word_of script (context x) = name_of script x
+word_of script (hook s) = name_of script s
+word_of script (ended so) = ended_word so
+word_of script (error err) = error_word err
+word_of script (cause why) = cause_word script why
 word_of script (flag b) = flag_word b
 word_of script (reason why) = reason_word why
 word_of script (outcome how) = outcome_word how

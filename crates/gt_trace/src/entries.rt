@@ -7,6 +7,9 @@ ghost use Rattle.gt_model.specs.Named.{IsNamed};
 ghost use Rattle.gt_trace.specs.Text.{space, goroutine_word, party_word, maybe_word, reason_word, outcome_word, words_of, line_of};
 
 use crate::channels::{fill_channel, fill_pair, fill_recv, fill_send};
+use crate::contexts::{
+    fill_after, fill_cancel, fill_cause, fill_done, fill_err, fill_expire, fill_unhook, fill_with,
+};
 use crate::line::{
     LINE_ROOM, Line, push_bytes, push_flag, push_goroutine, push_maybe_number, push_number,
     push_party, push_word,
@@ -61,6 +64,19 @@ fn fill_words(line: &mut Line, script: &Script, entry: &Entry)
         Entry::Broadcast { g, k, count } => fill_broadcast(line, script, g, k, count),
         Entry::Add { g, w, n } => fill_add(line, script, g, w, n),
         Entry::WgWait { g, w } => fill_wait_group(line, b"wait", script, g, w),
+        Entry::CtxMake { g, x, ended } => fill_with(line, script, g, x, ended),
+        Entry::Cancel {
+            g,
+            x,
+            newly,
+            starts,
+        } => fill_cancel(line, script, g, x, newly, starts),
+        Entry::Expire { x, starts } => fill_expire(line, script, x, starts),
+        Entry::CtxErr { g, x, err } => fill_err(line, script, g, x, err),
+        Entry::Cause { g, x, cause } => fill_cause(line, script, g, x, cause),
+        Entry::CtxDone { p, x } => fill_done(line, script, p, x),
+        Entry::CtxAfter { g, s, child } => fill_after(line, script, g, s, child),
+        Entry::CtxStop { g, s, stopped } => fill_unhook(line, script, g, s, stopped),
         Entry::Clock { world, at } => fill_clock(line, world, at),
         Entry::Panic { p, reason } => fill_panic(line, p, reason),
         Entry::Finish { outcome } => fill_outcome(line, outcome),

@@ -2,6 +2,7 @@
 #![tactic(auto)]
 
 mod channels;
+mod contexts;
 mod entries;
 mod line;
 mod names;

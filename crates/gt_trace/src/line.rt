@@ -112,7 +112,7 @@ pub fn push_maybe_number(line: &mut Line, number: Option<u64>)
     }
 }
 
-/// Appends a space and whether a timer was set, or `-` where that is not told.
+/// Appends a space and `true` or `false`, or `-` where that is not told.
 pub fn push_flag(line: &mut Line, flag: Option<bool>)
     requires { array_vec_len line.old + 6 ≤ LINE_ROOM }
     ensures appended { line.new.items ≡ line.old.items ++ space ∷ flag_word flag }

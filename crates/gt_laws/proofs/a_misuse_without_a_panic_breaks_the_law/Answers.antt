@@ -5,7 +5,7 @@ use Rattle.gt_model.specs.declared.entry.Entry.{Entry}
 use Rattle.gt_model.specs.declared.entry.Reason.{Reason}
 use Rattle.gt_laws.specs.GoesOn.{misuse_told}
 use Rattle.gt_laws.specs.Laws.{IsMisuse, UsesRightly}
-use Rattle.gt_laws.specs.Broken.{two_calls, one_stop, one_unmade, two_polls}
+use Rattle.gt_laws.specs.Broken.{two_calls, one_stop, one_unmade, two_polls, hook_stopped}
 use Rattle.gt_laws.proofs.a_misuse_without_a_panic_breaks_the_law.Goals as goal
 
 pub returns-clause-made_twice : goal.returns-clause-made_twice
@@ -71,3 +71,23 @@ pub returns-clause-without_a_lock : goal.returns-clause-without_a_lock
 returns-clause-without_a_lock c = λ h.
     let held : false ≡ true = h (Entry.Go 1 2 1 ∷ []) (Entry.CondWait 1 2) [] refl in
     cc held
+
+pub returns-clause-context_twice : goal.returns-clause-context_twice
+returns-clause-context_twice c = λ h.
+    let was : true ≡ false = (h (Entry.CtxMake 1 0 false ∷ []) (Entry.CtxMake 1 0 false) [] refl).0 in
+    cc was
+
+pub returns-clause-made_above : goal.returns-clause-made_above
+returns-clause-made_above c = λ h.
+    let was : false ≡ true = (h [] (Entry.CtxMake 1 1 false) [] refl).1 in
+    cc was
+
+pub returns-clause-registered_again : goal.returns-clause-registered_again
+returns-clause-registered_again c = λ h.
+    let was : true ≡ false = (h hook_stopped (Entry.CtxAfter 1 1 None) [] refl).0 in
+    cc was
+
+pub returns-clause-stopped_unregistered : goal.returns-clause-stopped_unregistered
+returns-clause-stopped_unregistered c = λ h.
+    let was : false ≡ true = h (Entry.CtxMake 1 0 false ∷ []) (Entry.CtxStop 1 1 false) [] refl in
+    cc was

@@ -5,6 +5,7 @@ use Rattle.gt_model.specs.declared.state.Ending.{Ending}
 use Rattle.gt_model.specs.Script.{is_func}
 use Rattle.gt_rules.specs.Ready.{is_due}
 use Rattle.gt_laws.specs.Told.{clock_told, due_told, owner_told}
+use Rattle.gt_laws.specs.Contexts.{ended_told, own_is_due}
 use Rattle.gt_laws.specs.Ends.{EndsRightly}
 use Rattle.gt_laws.specs.GoesOn.{IsStuckTold, goes_on_told}
 use Rattle.gt_laws.specs.Broken.{one_sleep, two_calls, one_wait, waits_in_vain}
@@ -48,8 +49,13 @@ no-func zero func = cc
 no-func (suc zero) func = cc
 no-func (suc (suc t)) func = cc
 
+no-deadline : (x : ℕ) → ended_told one_wait x waits_in_vain ≡ false → own_is_due one_wait x waits_in_vain ≡ false
+no-deadline zero going = refl
+no-deadline (suc zero) going = refl
+no-deadline (suc (suc x)) going = refl
+
 stuck : IsStuckTold one_wait waits_in_vain
-stuck = record { still = record { nobody = nobody; no_func = no-func }; none_counted = refl }
+stuck = record { still = record { nobody = nobody; no_func = no-func; no_deadline = no-deadline }; none_counted = refl }
 
 pub returns-clause-stuck : goal.returns-clause-stuck
 returns-clause-stuck c = stuck

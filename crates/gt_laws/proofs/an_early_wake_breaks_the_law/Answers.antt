@@ -1,5 +1,6 @@
-use Rattle.std.proofs.Common.{◌≡◌, ℕ, ◌≤◌, ◌<◌, [], ◌∷◌, Some, refl, arith}
+use Rattle.std.proofs.Common.{◌≡◌, ℕ, ◌≤◌, ◌<◌, [], ◌∷◌, Some, refl, arith, true, false}
 use Rattle.gt_model.specs.declared.entry.Entry.{Entry}
+use Rattle.gt_laws.specs.Broken.{almost_due}
 use Rattle.gt_laws.proofs.an_early_wake_breaks_the_law.Goals as goal
 
 pub returns-clause-early : goal.returns-clause-early
@@ -21,3 +22,8 @@ pub returns-clause-wrong_time : goal.returns-clause-wrong_time
 returns-clause-wrong_time c = λ h.
     let seen : ◌≡◌ {A = ℕ} 6 5 = h (Entry.Clock 0 5 ∷ []) (Entry.Now 1 6) [] refl in
     omega arith
+
+pub returns-clause-expires_early : goal.returns-clause-expires_early
+returns-clause-expires_early c = λ h.
+    let same : false ≡ true = h almost_due (Entry.Expire 0 0) [] refl in
+    cc same

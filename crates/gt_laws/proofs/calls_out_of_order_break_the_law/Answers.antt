@@ -1,11 +1,11 @@
-use Rattle.std.proofs.Common.{◌≡◌, ℕ, [], ◌∷◌, None, Some, true, false, refl, sym, subst}
+use Rattle.std.proofs.Common.{◌≡◌, ℕ, [], ◌∷◌, arith, None, Some, true, false, refl, sym, subst}
 use Rattle.gt_model.specs.declared.script.CaseKind.{CaseKind}
 use Rattle.gt_model.specs.declared.script.Instr.{Instr}
 use Rattle.gt_model.specs.declared.entry.Entry.{Entry}
 use Rattle.gt_rules.specs.Legal.{sleep_end}
 use Rattle.gt_laws.specs.Laws.{InOrder}
 use Rattle.gt_laws.specs.Told.{awake, signalled, suspended}
-use Rattle.gt_laws.specs.Broken.{case_taken, is_woken, one_sleep, one_start, value_waits}
+use Rattle.gt_laws.specs.Broken.{case_taken, hook_started, is_woken, one_sleep, one_start, value_waits}
 use Rattle.gt_laws.proofs.calls_out_of_order_break_the_law.Goals as goal
 
 pub returns-clause-swapped : goal.returns-clause-swapped
@@ -60,3 +60,8 @@ pub returns-clause-wakes_twice : goal.returns-clause-wakes_twice
 returns-clause-wakes_twice c = λ h.
     let wakes : awake ≡ signalled 2 = h is_woken (Entry.CondWake 1 2) [] refl in
     cc wakes
+
+pub returns-clause-number_of_a_hook : goal.returns-clause-number_of_a_hook
+returns-clause-number_of_a_hook c = λ h.
+    let next : ◌≡◌ {A = ℕ} 2 3 = (h hook_started (Entry.Go 1 2 1) [] refl).1 in
+    omega arith

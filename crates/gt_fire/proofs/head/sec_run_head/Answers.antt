@@ -2,7 +2,10 @@ use Rattle.std.proofs.Common.{◌∙◌, ℕ, ◌≤◌, sym, subst, refl}
 use Rattle.gt_rules.specs.State.{clock}
 use Rattle.gt_rec.specs.Rec.{Rec}
 use Rattle.gt_fire.specs.Fires.{MayFire, FiredAs}
-use Rattle.gt_fire.proofs.Heads.{fires-may, kept-shows, dropped-shows, kept-fired}
+use Rattle.gt_lazy.specs.Slots.{Scans}
+use Rattle.gt_lazy.specs.Running.{UnlessNotDue}
+use Rattle.gt_rows.specs.Rows.{Parts}
+use Rattle.gt_fire.proofs.Heads.{fired-row, fires-may, kept-shows, dropped-shows, kept-fired}
 use Rattle.gt_fire.proofs.head.sec_run_head.Goals as goal
 
 pub fire-requires : goal.fire-requires
@@ -32,5 +35,17 @@ returns-in-Fired-clause-kept c =
     let fired : FiredAs c.args.book.now r.id c.in-Fired.seq c.fire.new.book c.fire.result r.kind =
     subst (λ (r : Rec). FiredAs c.args.book.now r.id c.in-Fired.seq c.fire.new.book c.fire.result r.kind) c.rec.view_is c.fire.ensures in
     kept-fired c.args.book.now c.in-Fired.seq c.fire.new.book c.fire.result r.kind c.run_head.new.self r c.run_head.new.rec c.clock_of-now.result c.in-Fired.due c.in-Fired.seq c.in-Fired.next
-    c.lawful.ensures.lawful c.requires.lent.rec refl fired (sym c.in-Fired.ensures.answer) c.run_head.ensures.record c.in-Fired.ensures.fired.0
+    c.lawful.ensures.lawful c.requires.lent.rec c.lawful-2.ensures refl fired (sym c.in-Fired.ensures.answer) c.run_head.ensures.record c.in-Fired.ensures.fired.0
     c.run_head.ensures.settled c.run_head.ensures.bits
+
+pub returns-in-Fired-clause-row : goal.returns-in-Fired-clause-row
+returns-in-Fired-clause-row c =
+    let r : Rec = c.args.rec.now in
+    let old : Parts = record { heap = c.args.heap.now; rec = c.args.rec.now; book = c.args.book.now } in
+    let new : Parts = record { heap = c.run_head.new.self; rec = c.run_head.new.rec; book = c.fire.new.book } in
+    let fired : FiredAs c.args.book.now r.id c.in-Fired.seq c.fire.new.book c.fire.result r.kind =
+    subst (λ (r : Rec). FiredAs c.args.book.now r.id c.in-Fired.seq c.fire.new.book c.fire.result r.kind) c.rec.view_is c.fire.ensures in
+    let scans : Scans c.args.heap.now c.run_head.new.self 0 c.args.rec.now c.run_head.new.rec =
+    subst (λ a. UnlessNotDue a (Scans c.args.heap.now c.run_head.new.self 0 c.args.rec.now c.run_head.new.rec)) c.in-Fired.is c.run_head.ensures.scans in
+    fired-row old new c.fire.result c.clock_of-now.result c.in-Fired.due c.in-Fired.seq c.in-Fired.next (sym c.outcome.ensures ∙ c.in_default.is) c.clock_of-now.ensures
+    (sym c.in-Fired.ensures.answer) c.run_head.ensures.record scans fired

@@ -8,6 +8,7 @@ use Rattle.gt_runner.specs.Calls.{Enrols}
 use Rattle.gt_runner.proofs.Tending.{get-set_same}
 use Rattle.gt_runner.proofs.Calling.{record-within, record-lent, record-is}
 use Rattle.gt_runner.proofs.Waiting.{waits-record, waits-channel, count-room, waits_still, block-enrols, enrolled-stands, enrolled-room}
+use Rattle.gt_runner.proofs.Growing.{most-few}
 use Rattle.gt_runner.proofs.calls.block.Goals as goal
 use Rattle.gt_runner.proofs.calls.block.Goals.{After-noted_at-run}
 
@@ -55,7 +56,7 @@ enrols c =
     get-set_same x.records.items c.args.t c.at_mut.result.now c.sec_block-done.new.rec c.at_mut.ensures.value in
     let is : c.at.result.now ≡ c.sec_block-done.new.rec = cc in
     let most = c.lawful.ensures.few_goroutines in
-    let limit = c.lawful.ensures.lawful.limits.most in
+    let limit = most-few x.book.script x.book.limits c.lawful.ensures.lawful.good c.lawful.ensures.lawful.limits in
     block-enrols x (run_after c) c.args.ticket c.args.t c.at_mut.result.now c.sec_block-done.new.rec c.sec_block-done.result c.requires.enrolled
     (record {
       own = waits-record x c.args.ticket c.args.t c.requires.enrolled;

@@ -90,6 +90,27 @@ sleep-requires-clause-wants c =
     steps-timer x.book c.args.g c.step_plain.new.self c.in-Timer.wanted c.requires.ready.running (ap is_enrolled c.in-Sleep.is) c.in-Timer.ensures in
     (c.in-Sleep.field-0, subst (λ b. next_of b c.args.g ≡ Some (Step.Needs (TimerOp.Sleep c.in-Sleep.field-0))) (sym needs.same) (needs.needs ∙ ap (λ op. Some (Step.Needs op)) c.in-Sleep.is))
 
+pub derive-requires-clause-ready : goal.derive-requires-clause-ready
+derive-requires-clause-ready c =
+    let x = c.args.run.now in
+    let needs : NeedsOnly x.book c.args.g c.in-Timer.wanted c.step_plain.new.self =
+    steps-timer x.book c.args.g c.step_plain.new.self c.in-Timer.wanted c.requires.ready.running (ap is_enrolled c.in-Deadline.is) c.in-Timer.ensures in
+    ready-same x c.step_plain.new.self c.args.g needs.same c.requires.ready
+
+pub derive-requires-clause-wants : goal.derive-requires-clause-wants
+derive-requires-clause-wants c =
+    let x = c.args.run.now in
+    let needs : NeedsOnly x.book c.args.g c.in-Timer.wanted c.step_plain.new.self =
+    steps-timer x.book c.args.g c.step_plain.new.self c.in-Timer.wanted c.requires.ready.running (ap is_enrolled c.in-Deadline.is) c.in-Timer.ensures in
+    (c.in-Deadline.due, subst (λ b. next_of b c.args.g ≡ Some (Step.Needs (TimerOp.Deadline c.in-Deadline.x c.in-Deadline.due))) (sym needs.same) (needs.needs ∙ ap (λ op. Some (Step.Needs op)) c.in-Deadline.is))
+
+pub returns-in-Deadline : goal.returns-in-Deadline
+returns-in-Deadline c =
+    let x = c.args.run.now in
+    let needs : NeedsOnly x.book c.args.g c.in-Timer.wanted c.step_plain.new.self =
+    steps-timer x.book c.args.g c.step_plain.new.self c.in-Timer.wanted c.requires.ready.running (ap is_enrolled c.in-Deadline.is) c.in-Timer.ensures in
+    after-same x (record x { book = c.step_plain.new.self }) c.derive.new.run c.args.g needs.same c.derive.ensures
+
 pub returns-in-Stop : goal.returns-in-Stop
 returns-in-Stop c =
     let x = c.args.run.now in

@@ -1,4 +1,4 @@
-use Rattle.std.proofs.Common.{◌≡◌, ◌+◌, length, set, slice_get, refl, sym, ap, subst, ◌∙◌, Some, arith}
+use Rattle.std.proofs.Common.{◌≡◌, ◌+◌, ◌≤◌, length, set, slice_get, refl, sym, ap, subst, ◌∙◌, Some, arith}
 use Rattle.gt_model.specs.declared.script.Script.{Script}
 use Rattle.gt_book.specs.declared.answers.TimerOp.{TimerOp}
 use Rattle.gt_book.specs.declared.step.Step.{Step}
@@ -7,10 +7,30 @@ use Rattle.gt_rows.specs.Rows.{next_of}
 use Rattle.gt_runner.specs.Served.{noted_at}
 use Rattle.gt_runner.specs.Calls.{HasRecord, Ready}
 use Rattle.gt_runner.proofs.Tending.{get-set_same}
-use Rattle.gt_runner.proofs.Growing.{ready-grown, after-same}
+use Rattle.gt_runner.proofs.Growing.{ready-grown, after-same, most-few, hand-below}
+use Rattle.gt_schedule.specs.declared.status.RunStatus.{RunStatus}
+use Rattle.gt_schedule.specs.Schedule.{most_goroutines}
 use Rattle.gt_runner.proofs.Calling.{sleep-record, record-is, record-lent}
 use Rattle.gt_runner.proofs.Waiting.{sleep-sleeps, after-sleep}
 use Rattle.gt_runner.proofs.calls.sleep.Goals as goal
+
+pub overflow_add-id : goal.overflow_add-id
+overflow_add-id c =
+    let v : BookView = c.args.run.now.book in
+    let below : c.args.g ≤ length v.schedule.statuses = hand-below v.schedule.statuses c.args.g RunStatus.InHand c.requires.ready.alone.in_hand in
+    let few : length v.schedule.statuses ≤ most_goroutines v.script v.limits = c.lawful.ensures.few_goroutines in
+    let most : most_goroutines v.script v.limits ≤ 204097 = most-few v.script v.limits c.requires.ready.lawful.good c.requires.ready.lawful.limits in
+    let few_names : length v.script.decls ≤ 4096 = c.requires.ready.lawful.good.few_names in
+    let names : length c.as_slice.result.now ≡ length v.script.decls = ap length (c.as_slice.ensures ∙ ap (λ (s : Script). s.decls) c.script.ensures) in
+    omega arith
+
+pub grow-requires-clause-room : goal.grow-requires-clause-room
+grow-requires-clause-room c =
+    let v : BookView = c.args.run.now.book in
+    let below : c.args.g ≤ length v.schedule.statuses = hand-below v.schedule.statuses c.args.g RunStatus.InHand c.requires.ready.alone.in_hand in
+    let few : length v.schedule.statuses ≤ most_goroutines v.script v.limits = c.lawful.ensures.few_goroutines in
+    let names : length c.as_slice.result.now ≡ length v.script.decls = ap length (c.as_slice.ensures ∙ ap (λ (s : Script). s.decls) c.script.ensures) in
+    omega arith
 
 pub sec_sleep-done-requires-clause-lent : goal.sec_sleep-done-requires-clause-lent
 sec_sleep-done-requires-clause-lent c =

@@ -3,7 +3,7 @@ use Rattle.gt_lazy.specs.Slots.{LazyHeap}
 use Rattle.gt_runner.specs.Served.{IsTended}
 use Rattle.gt_runner.specs.Settled.{ScannedAreSettled}
 use Rattle.gt_runner.proofs.Tending.{tended-touched}
-use Rattle.gt_runner.proofs.Cleanings.{cleans-item, cleans-touches, entry-stands, inside-items, stands-item, bits-item, scanned-more, tended-unscanned, none-scanned, tended-unnoted, clean-scanned}
+use Rattle.gt_runner.proofs.Cleanings.{cleans-item, cleans-touches, entry-stands, inside-items, stands-item, bits-item, scanned-more, tended-unscanned, none-scanned, tended-unnoted}
 use Rattle.gt_runner.proofs.settling.pass.Goals as goal
 
 pub loop-place-init : goal.loop-place-init
@@ -43,9 +43,3 @@ loop-place-preserved c =
 
 pub returns-clause-tended : goal.returns-clause-tended
 returns-clause-tended c = tended-unnoted c.loop-place.run c.loop-place.invariant.0 c.loop-place.invariant.2 (c.in_default.ensures.none.0 refl)
-
-pub returns-clause-clean : goal.returns-clause-clean
-returns-clause-clean c =
-    let x = c.loop-place.run in
-    clean-scanned (record x { noted = Rattle.std.proofs.Common.None }) (tended-unnoted x c.loop-place.invariant.0 c.loop-place.invariant.2 (c.in_default.ensures.none.0 refl))
-    c.loop-place.invariant.2 (c.in_default.ensures.none.0 refl)

@@ -80,3 +80,27 @@ returns-in-100 c =
     let word : List ℕ = c.args.word.now in
     let is : word ≡ codes "default" = text_from_reads word (codes "default") (omega arith) (search rules) in
     rw is
+
+pub returns-in-error : goal.returns-in-error
+returns-in-error c =
+    let word : List ℕ = c.args.word.now in
+    let is : word ≡ codes "error" = text_from_reads word (codes "error") (omega arith) (search rules) in
+    rw is
+
+pub returns-in-cause : goal.returns-in-cause
+returns-in-cause c =
+    let word : List ℕ = c.args.word.now in
+    let is : word ≡ codes "cause" = text_from_reads word (codes "cause") (omega arith) (search rules) in
+    rw is
+
+pub returns-in-after : goal.returns-in-after
+returns-in-after c =
+    let word : List ℕ = c.args.word.now in
+    let is : word ≡ codes "after" = text_from_reads word (codes "after") (omega arith) (search rules) in
+    rw is
+
+pub returns-in-unhook : goal.returns-in-unhook
+returns-in-unhook c =
+    let word : List ℕ = c.args.word.now in
+    let is : word ≡ codes "unhook" = text_from_reads word (codes "unhook") (omega arith) (search rules) in
+    rw is

@@ -6,7 +6,7 @@ use Rattle.gt_book.specs.Run.{CanEnd}
 use Rattle.gt_book.specs.View.{BookView, Enters}
 use Rattle.gt_book.specs.Book.{seen}
 use Rattle.gt_book.proofs.Broadcasts.{can-broadcast, hand-seen}
-use Rattle.gt_book.proofs.Waking.{kept-ends, enters-ends}
+use Rattle.gt_book.proofs.Runs.{kept-ends, enters-ends}
 use Rattle.gt_book.proofs.book.Book.broadcast.Goals as goal
 
 pub broadcast-requires-clause-in_hand : goal.broadcast-requires-clause-in_hand

@@ -2,7 +2,7 @@ use Rattle.std.proofs.Common.{subst}
 use Rattle.gt_book.specs.Run.{CanEnd}
 use Rattle.gt_book.specs.View.{Enters}
 use Rattle.gt_book.specs.Book.{seen}
-use Rattle.gt_book.proofs.Waking.{can_enter-seen, kept-ends, enters-ends}
+use Rattle.gt_book.proofs.Runs.{can_enter-seen, kept-ends, enters-ends}
 use Rattle.gt_book.proofs.book.Book.enter.Goals as goal
 
 pub enter-requires-clause-can : goal.enter-requires-clause-can

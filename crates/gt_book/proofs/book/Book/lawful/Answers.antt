@@ -13,6 +13,6 @@ returns-clause-few c =
 
 pub returns-clause-few_goroutines : goal.returns-clause-few_goroutines
 returns-clause-few_goroutines c =
-    let room : capacity c.self.inside.run.scheduler ≡ most_goroutines c.self.inside.limits = c.self.invariant.rooms.schedule in
-    let few : length (seen c.self.inside).schedule.statuses ≤ most_goroutines (seen c.self.inside).limits = omega arith in
-    subst (λ (v : BookView). length v.schedule.statuses ≤ most_goroutines v.limits) c.self.view_is few
+    let room : capacity c.self.inside.run.scheduler ≡ most_goroutines c.self.inside.script c.self.inside.limits = c.self.invariant.rooms.schedule in
+    let few : length (seen c.self.inside).schedule.statuses ≤ most_goroutines (seen c.self.inside).script (seen c.self.inside).limits = omega arith in
+    subst (λ (v : BookView). length v.schedule.statuses ≤ most_goroutines v.script v.limits) c.self.view_is few

@@ -24,6 +24,11 @@ enter-requires-clause-alone c =
     let step : step_of c.args.self.now.script c.args.self.now.state c.args.self.now.schedule c.args.g ≡ Some (Step.Makes c.in-Makes.entry) = search rules in
     (makes-call c.args.self.now.script c.args.self.now.state c.args.self.now.schedule c.args.g c.in-Makes.entry step).alone
 
+pub enter-requires-clause-uncut : goal.enter-requires-clause-uncut
+enter-requires-clause-uncut c =
+    let step : step_of c.args.self.now.script c.args.self.now.state c.args.self.now.schedule c.args.g ≡ Some (Step.Makes c.in-Makes.entry) = search rules in
+    (makes-call c.args.self.now.script c.args.self.now.state c.args.self.now.schedule c.args.g c.in-Makes.entry step).uncut
+
 pub park_at-ticket-requires-clause-declared : goal.park_at-ticket-requires-clause-declared
 park_at-ticket-requires-clause-declared c =
     park-declared c.self.inside c.args.g (CaseKind.Recv c.in-Waits.t) c.self.invariant

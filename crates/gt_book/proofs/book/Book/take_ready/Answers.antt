@@ -1,4 +1,4 @@
-use Rattle.gt_book.proofs.Going.{kept-taken}
+use Rattle.gt_book.proofs.Scheduled.{kept-taken}
 use Rattle.gt_book.proofs.book.Book.take_ready.Goals as goal
 
 pub invariant_of-self : goal.invariant_of-self

@@ -1,4 +1,4 @@
-use Rattle.gt_book.proofs.Going.{kept-marked}
+use Rattle.gt_book.proofs.Scheduled.{kept-marked}
 use Rattle.gt_book.proofs.book.Book.unmark_blocked.Goals as goal
 
 pub invariant_of-self : goal.invariant_of-self

@@ -2,7 +2,7 @@ use Rattle.std.proofs.Common.{ap, sym, Some}
 use Rattle.gt_model.specs.declared.entry.Entry.{Entry}
 use Rattle.gt_rules.specs.State.{suspended_count}
 use Rattle.gt_machine.specs.Machine.{state_of}
-use Rattle.gt_book.proofs.Waking.{can-wake, entered-woken}
+use Rattle.gt_book.proofs.Runs.{can-wake, entered-woken}
 use Rattle.gt_book.proofs.run.Run.broadcast.Goals as goal
 
 pub make_broadcast-requires-clause-can : goal.make_broadcast-requires-clause-can

@@ -1,4 +1,4 @@
-use Rattle.std.proofs.Common.{sym}
+use Rattle.std.proofs.Common.{sym, refl}
 use Rattle.gt_rules.specs.State.{suspended_count}
 use Rattle.gt_machine.specs.Machine.{state_of}
 use Rattle.gt_book.proofs.Broadcasting.{can_make-signals, broadcast-may, broadcast-applies, broadcast-applied}
@@ -22,6 +22,6 @@ pub returns : goal.returns
 returns c = λ limits can.
     broadcast-applied c.args.script.now limits c.args.self.now c.signal_all-count.new.self c.args.g c.args.k (suspended_count (state_of c.args.self.now.machine) c.args.k)
     c.signal_all-count.result can c.signal_all-count.ensures c.requires.in_hand
-    (record { history = c.put.new.self; machine = c.apply.new.self; scheduler = c.apply-2.new.self })
-    (sym c.signal_all-count.ensures.counted) c.apply.ensures.state c.apply.ensures.room c.apply.ensures.channels c.apply-2.ensures.schedule c.apply-2.ensures.room c.apply-2.ensures.kept
+    (record { history = c.put.new.self; machine = c.apply.new.self; scheduler = c.apply-2.new.self; waking = c.signal_all-count.new.self.waking })
+    (sym c.signal_all-count.ensures.counted) c.apply.ensures.state c.apply.ensures.room c.apply.ensures.channels c.apply.ensures.contexts refl c.apply-2.ensures.schedule c.apply-2.ensures.room c.apply-2.ensures.kept
     c.put.ensures.items c.put.ensures.spare

@@ -48,7 +48,7 @@ loop-p-smaller c =
 pub loop-p-preserved : goal.loop-p-preserved
 loop-p-preserved c =
     signalling-more c.args.script.now c.args.self.now c.loop-p.self c.args.k c.loop-p.count c.loop-p.invariant c.in-Some.p (next c) c.relock.new.self c.relock-in-Some.new.self
-    c.relock.ensures.state c.relock-in-Some.ensures.schedule c.relock.ensures.many c.relock.ensures.spare c.relock.ensures.channels c.relock-in-Some.ensures.room c.relock-in-Some.ensures.kept
+    c.relock.ensures.state c.relock-in-Some.ensures.schedule c.relock.ensures.many c.relock.ensures.spare c.relock.ensures.channels c.relock.ensures.contexts c.relock-in-Some.ensures.room c.relock-in-Some.ensures.kept
 
 pub returns : goal.returns
 returns c =

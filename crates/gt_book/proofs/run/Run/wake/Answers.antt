@@ -4,7 +4,7 @@ use Rattle.gt_machine.specs.Outcomes.{due_outcome}
 use Rattle.gt_schedule.specs.Scheduler.{schedule_of}
 use Rattle.gt_book.specs.Woken.{next_woken}
 use Rattle.gt_book.specs.Run.{CanMake}
-use Rattle.gt_book.proofs.Waking.{waking-first, waking-lists, waking-can, waking-alone, waking-more, waking-less, wakes-none, wakes-due, none-due, some-due}
+use Rattle.gt_book.proofs.Runs.{waking-first, waking-lists, waking-can, waking-alone, waking-uncut, waking-more, waking-less, wakes-none, wakes-due, none-due, some-due}
 use Rattle.gt_book.proofs.run.Run.wake.Goals as goal
 
 pub loop-limits-init : goal.loop-limits-init
@@ -35,12 +35,17 @@ make-requires-clause-alone c =
     waking-alone c.args.script.now c.args.limits c.args.self.now c.loop-limits.self c.args.o c.in-Some.entry c.loop-limits.invariant (sym c.next_woken.ensures ∙ c.in-Some.is)
     (none-due c.args.limits c.loop-limits.self c.due_outcome.result c.is_none.result c.due_outcome.ensures c.is_none.ensures c.loop-limits-test.true)
 
+pub make-requires-clause-uncut : goal.make-requires-clause-uncut
+make-requires-clause-uncut c =
+    waking-uncut c.args.script.now c.args.limits c.args.self.now c.loop-limits.self c.args.o c.in-Some.entry c.loop-limits.invariant (sym c.next_woken.ensures ∙ c.in-Some.is)
+    (none-due c.args.limits c.loop-limits.self c.due_outcome.result c.is_none.result c.due_outcome.ensures c.is_none.ensures c.loop-limits-test.true)
+
 pub loop-limits-smaller : goal.loop-limits-smaller
 loop-limits-smaller c =
     let can : CanMake c.args.script.now c.args.limits c.loop-limits.self c.in-Some.entry =
     waking-can c.args.script.now c.args.limits c.args.self.now c.loop-limits.self c.args.o c.in-Some.entry c.loop-limits.invariant (sym c.next_woken.ensures ∙ c.in-Some.is)
     (none-due c.args.limits c.loop-limits.self c.due_outcome.result c.is_none.result c.due_outcome.ensures c.is_none.ensures c.loop-limits-test.true) in
-    waking-less c.args.script.now c.args.limits c.args.self.now c.loop-limits.self c.make.new.self c.args.o c.in-Some.entry can (c.make.ensures c.args.limits can)
+    waking-less c.args.script.now c.args.limits c.loop-limits.self c.make.new.self c.in-Some.entry can (c.make.ensures.makes c.args.limits can)
 
 pub loop-limits-preserved : goal.loop-limits-preserved
 loop-limits-preserved c =
@@ -49,7 +54,7 @@ loop-limits-preserved c =
     let next : next_woken c.args.script.now (state_of c.loop-limits.self.machine) (schedule_of c.loop-limits.self.scheduler) c.args.o ≡ Some c.in-Some.entry = sym c.next_woken.ensures ∙ c.in-Some.is in
     let can : CanMake c.args.script.now c.args.limits c.loop-limits.self c.in-Some.entry =
     waking-can c.args.script.now c.args.limits c.args.self.now c.loop-limits.self c.args.o c.in-Some.entry c.loop-limits.invariant next none in
-    waking-more c.args.script.now c.args.limits c.args.self.now c.loop-limits.self c.args.o c.in-Some.entry c.loop-limits.invariant next none c.make.new.self (c.make.ensures c.args.limits can)
+    waking-more c.args.script.now c.args.limits c.args.self.now c.loop-limits.self c.args.o c.in-Some.entry c.loop-limits.invariant next none c.make.new.self (c.make.ensures.makes c.args.limits can)
 
 pub returns : goal.returns
 returns c =

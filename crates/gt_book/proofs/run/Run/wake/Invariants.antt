@@ -1,5 +1,5 @@
 use Rattle.std.proofs.Common.{◌-◌}
-use Rattle.gt_book.proofs.Waking.{Waking}
+use Rattle.gt_book.proofs.Runs.{Waking}
 use Rattle.gt_book.proofs.run.Run.wake.Given as goal
 
 abbrev pub invariant-loop-limits : goal.invariant-loop-limits

@@ -1,5 +1,6 @@
 use Rattle.std.proofs.Common.{rules, ◌≡◌, ◌+◌, ◌≤◌, ◌∷◌, ◌++◌, [], map, length, length-set, replicate, arith, refl, ap, sym, subst, ◌∙◌, ℕ, zero, suc}
 use Rattle.std.proofs.lemmas.List.{length-replicate}
+use Rattle.std.proofs.lemmas.List.Sums.{count_by-le-length}
 use Rattle.std.specs.List.{Contains}
 use Rattle.gt_queue.specs.Contents.{waiting_in}
 use Rattle.gt_queue.proofs.Members.{Contains-nil}
@@ -7,7 +8,7 @@ use Rattle.gt_select.specs.Waiting.{Waiting, nobody_waits}
 use Rattle.gt_schedule.specs.declared.status.RunStatus.{RunStatus}
 use Rattle.gt_schedule.specs.declared.scheduler.Scheduler.{Scheduler}
 use Rattle.gt_model.specs.declared.script.Decl.{Decl}
-use Rattle.gt_schedule.specs.Schedule.{most_goroutines, mutex_in}
+use Rattle.gt_schedule.specs.Schedule.{most_goroutines, hook_count, is_hook_decl, mutex_in}
 use Rattle.gt_schedule.proofs.Keeping.{begun-is, hold-first}
 use Rattle.gt_schedule.proofs.scheduler.Scheduler.begin.Goals as goal
 
@@ -17,14 +18,14 @@ returns-clause-schedule c =
     let no_marks : c.in_ok-marks.marks.items ≡ [] = search rules in
     let made : c.in_ok-run_queue.run_queue.queues ≡ replicate 1 [] = search rules in
     let names : ℕ = length c.args.script.now.decls in
-    let begun : c.in_ok-waiters.waiters ≡ nobody_waits (most_goroutines c.args.limits) (names + names) = search rules in
+    let begun : c.in_ok-waiters.waiters ≡ nobody_waits (most_goroutines c.args.script.now c.args.limits) (names + names) = search rules in
     let mutexes : c.in_ok-mutexes.mutexes.items ≡ map (λ (d : Decl). mutex_in d.what) c.args.script.now.decls = search rules in
-    begun-is (record { statuses = c.put.new.self; declared = length c.as_slice-declared.result.now; run_queue = c.enqueue.new.self; waiters = c.in_ok-waiters.waiters; parks = 0; running = 0; marks = c.put-2.new.self; mutexes = c.in_ok-mutexes.mutexes }) c.args.script.now c.in_ok-run_queue.run_queue.queues (most_goroutines c.args.limits)
+    begun-is (record { statuses = c.put.new.self; declared = length c.as_slice-declared.result.now; run_queue = c.enqueue.new.self; waiters = c.in_ok-waiters.waiters; parks = 0; running = 0; marks = c.put-2.new.self; mutexes = c.in_ok-mutexes.mutexes }) c.args.script.now c.in_ok-run_queue.run_queue.queues (most_goroutines c.args.script.now c.args.limits)
     (c.put.ensures.items ∙ ap (λ xs. xs ++ RunStatus.Queued ∷ []) empty) (ap length c.as_slice-declared.ensures) made c.enqueue.ensures.queues begun refl (c.put-2.ensures.items ∙ (ap (λ ts. c.in_ok-marks.marks.items ++ ts ∷ []) c.none.ensures ∙ ap (λ xs. xs ++ [] ∷ []) no_marks)) mutexes
 
 pub returns-clause-room : goal.returns-clause-room
 returns-clause-room c =
-    let spare : c.in_ok-statuses.statuses.spare ≡ most_goroutines c.args.limits = search (rules, c.most_goroutines-most.ensures, c.with_room.ensures.spare, c.map_err.ensures, c.in_ok-statuses.was) in
+    let spare : c.in_ok-statuses.statuses.spare ≡ most_goroutines c.args.script.now c.args.limits = search (rules, c.most_goroutines-most.ensures, c.with_room.ensures.spare, c.map_err.ensures, c.in_ok-statuses.was) in
     let empty : c.in_ok-statuses.statuses.items ≡ [] = search (rules, c.with_room.ensures.empty, c.map_err.ensures, c.in_ok-statuses.was) in
     let one : length c.put.new.self.items ≡ 1 = ap length (c.put.ensures.items ∙ ap (λ xs. xs ++ RunStatus.Queued ∷ []) empty) in
     let less : c.put.new.self.spare + 1 ≡ c.in_ok-statuses.statuses.spare = c.put.ensures.spare in
@@ -32,7 +33,7 @@ returns-clause-room c =
 
 pub returns-clause-kept : goal.returns-clause-kept
 returns-clause-kept c =
-    let most : ℕ = most_goroutines c.args.limits in
+    let most : ℕ = most_goroutines c.args.script.now c.args.limits in
     let names : ℕ = length c.args.script.now.decls in
     let m : Scheduler = record { statuses = c.put.new.self; declared = length c.as_slice-declared.result.now; run_queue = c.enqueue.new.self; waiters = c.in_ok-waiters.waiters; parks = 0; running = 0; marks = c.put-2.new.self; mutexes = c.in_ok-mutexes.mutexes } in
     let empty : c.in_ok-statuses.statuses.items ≡ [] = search (rules, c.with_room.ensures.empty, c.map_err.ensures, c.in_ok-statuses.was) in
@@ -44,6 +45,7 @@ returns-clause-kept c =
     let begun : c.in_ok-waiters.waiters ≡ nobody_waits most (names + names) = search rules in
     let few_names : names ≤ 4096 = search rules in
     let few_entries : c.args.limits.entries ≤ 200000 = search rules in
+    let few_hooks : hook_count c.args.script.now ≤ names = count_by-le-length is_hook_decl c.args.script.now.decls in
     let statuses : c.put.new.self.items ≡ RunStatus.Queued ∷ [] = c.put.ensures.items ∙ ap (λ xs. xs ++ RunStatus.Queued ∷ []) empty in
     let marks : c.put-2.new.self.items ≡ [] ∷ [] = c.put-2.ensures.items ∙ (ap (λ ts. c.in_ok-marks.marks.items ++ ts ∷ []) c.none.ensures ∙ ap (λ xs. xs ++ [] ∷ []) no_marks) in
     let one : length c.put.new.self.items ≡ 1 = ap length statuses in

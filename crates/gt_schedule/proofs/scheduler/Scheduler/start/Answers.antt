@@ -10,7 +10,7 @@ pub enqueue-requires-clause-free : goal.enqueue-requires-clause-free
 enqueue-requires-clause-free c =
     let m = c.args.self.now in
     let none : status_of (schedule_of m) (c.len.result + 1) ≡ None = numbered-next m.statuses.items (c.len.result + 1) (ap (λ k. k + 1) c.len.ensures) in
-    free-unqueued m (c.len.result + 1) c.requires.kept c.requires.orderly.queued (ap is_queued none)
+    free-unqueued m (c.len.result + 1) c.requires.kept c.requires.queued (ap is_queued none)
 
 pub returns-clause-kept : goal.returns-clause-kept
 returns-clause-kept c =

@@ -27,7 +27,7 @@ go_on-requires-clause-room c =
 pub go_on-requires-clause-known : goal.go_on-requires-clause-known
 go_on-requires-clause-known c =
     step-IsSome (known c.args.names.now)
-    (command c.in-Some.command.keyword c.in-Some.command.first.now c.in-Some.command.second.now)
+    (command c.in-Some.command.keyword c.in-Some.command.first.now c.in-Some.command.second.now c.in-Some.command.third.now c.in-Some.command.fourth.now)
     c.read-statement.result c.args.is_last c.lacks_main-lacks_main.result c.args.self.now.progress c.read-statement.ensures.value
     (right-at _ c.args.self.now c.args.is_last c.lacks_main-lacks_main.result c.read-statement.result c.self.view_is c.in-None.ensures)
 
@@ -35,7 +35,7 @@ pub returns-in-Ok-clause-progress : goal.returns-in-Ok-clause-progress
 returns-in-Ok-clause-progress c =
     c.in-Ok.ensures.progress
     ∙ passed (known c.args.names.now) c.args.self.now.progress (line_at c.args.line.now)
-    (command c.in-Some.command.keyword c.in-Some.command.first.now c.in-Some.command.second.now)
+    (command c.in-Some.command.keyword c.in-Some.command.first.now c.in-Some.command.second.now c.in-Some.command.third.now c.in-Some.command.fourth.now)
     c.read-statement.result c.in-Some.ensures c.read-statement.ensures.value
 
 pub returns-in-Ok-clause-built : goal.returns-in-Ok-clause-built
@@ -44,7 +44,7 @@ returns-in-Ok-clause-built c =
     let new = c.go_on.new.self in
     goes (known c.args.names.now) old.progress old.built new.built
     (line_at c.args.line.now)
-    (command c.in-Some.command.keyword c.in-Some.command.first.now c.in-Some.command.second.now)
+    (command c.in-Some.command.keyword c.in-Some.command.first.now c.in-Some.command.second.now c.in-Some.command.third.now c.in-Some.command.fourth.now)
     c.read-statement.result new.progress.inside c.args.is_last c.lacks_main-lacks_main.result
     c.in-Some.ensures c.read-statement.ensures.value
     (right-at _ old c.args.is_last c.lacks_main-lacks_main.result c.read-statement.result c.self.view_is c.in-None.ensures)
@@ -56,7 +56,7 @@ returns-in-Ok-clause-agrees c =
     let old = c.args.self.now in
     let new = c.go_on.new.self in
     agrees (known c.args.names.now) old.progress new.progress old.built new.built
-    (command c.in-Some.command.keyword c.in-Some.command.first.now c.in-Some.command.second.now)
+    (command c.in-Some.command.keyword c.in-Some.command.first.now c.in-Some.command.second.now c.in-Some.command.third.now c.in-Some.command.fourth.now)
     c.read-statement.result _ c.args.is_last c.lacks_main-lacks_main.result c.read-statement.ensures.value
     (right-at _ old c.args.is_last c.lacks_main-lacks_main.result c.read-statement.result c.self.view_is c.in-None.ensures)
     c.requires c.in-Ok.ensures.progress c.in-Ok.ensures.built

@@ -1,0 +1,7 @@
+use Rattle.std.proofs.Common.{refl, lit<}
+use Rattle.gt_rules.specs.Contexts.{line_of}
+use Rattle.gt_examples.proofs.goes_on_without_an_end.Goals as goal
+
+pub returns : goal.returns
+unfolding line_of
+returns c = ((record { ending = refl; room = lit< tt }, (record { stands = refl; calm = refl }, refl)), (λ h. cc h.1.2))

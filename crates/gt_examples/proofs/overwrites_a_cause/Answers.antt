@@ -1,0 +1,7 @@
+use Rattle.std.proofs.Common.{refl, lit<, lit≤, Some}
+use Rattle.gt_rules.specs.Contexts.{line_of}
+use Rattle.gt_examples.proofs.overwrites_a_cause.Goals as goal
+
+pub returns : goal.returns
+unfolding line_of
+returns c = ((record { ending = refl; room = lit< tt }, (record { stands = refl; calm = refl }, refl)), ((record { ending = refl; room = lit< tt }, (record { stands = refl; calm = refl }, refl)), ((record { ending = refl; room = lit< tt }, (record { stands = refl; calm = refl }, refl)), ((record { ending = refl; room = lit< tt }, (record { stands = refl; calm = refl }, refl)), ((record { ending = refl; room = lit< tt }, (record { stands = refl; calm = refl }, refl)), ((record { ending = refl; room = lit< tt }, (5000000, record { stands = refl; calm = refl }, refl)), ((record { ending = refl; room = lit< tt }, (lit< tt, lit≤ tt)), ((record { ending = refl; room = lit< tt }, lit≤ tt), ((record { ending = refl; room = lit< tt }, ((Some 0), record { stands = refl; calm = refl }, refl, refl)), ((record { ending = refl; room = lit< tt }, record { stands = refl; calm = refl }), ((record { ending = refl; room = lit< tt }, (record { stands = refl; calm = refl }, refl)), ((record { ending = refl; room = lit< tt }, (record { stands = refl; calm = refl }, refl)), ((record { ending = refl; room = lit< tt }, (lit< tt, lit≤ tt)), ((record { ending = refl; room = lit< tt }, ((refl, refl), refl)), ((record { ending = refl; room = lit< tt }, (record { stands = refl; calm = refl }, refl, refl)), ((record { ending = refl; room = lit< tt }, (record { stands = refl; calm = refl }, refl)), ((record { ending = refl; room = lit< tt }, (record { stands = refl; calm = refl }, refl)), ((record { ending = refl; room = lit< tt }, (record { stands = refl; calm = refl }, refl)), (λ h. cc h.1.1)))))))))))))))))))

@@ -1,0 +1,15 @@
+use Rattle.std.proofs.Common.{refl, lit<, lit≤}
+use Rattle.gt_rules.specs.Contexts.{line_of}
+use Rattle.gt_examples.proofs.Idle.{idle-computed}
+use Rattle.gt_examples.proofs.passes_a_deadline.Goals as goal
+
+pub returns-clause-history : goal.returns-clause-history
+unfolding line_of
+returns-clause-history c = record {
+  legal = ((record { ending = refl; room = lit< tt }, (record { stands = refl; calm = refl }, refl)), ((record { ending = refl; room = lit< tt }, (record { stands = refl; calm = refl }, refl)), ((record { ending = refl; room = lit< tt }, (record { stands = refl; calm = refl }, refl)), ((record { ending = refl; room = lit< tt }, (record { stands = refl; calm = refl }, refl)), ((record { ending = refl; room = lit< tt }, (lit< tt, lit≤ tt)), ((record { ending = refl; room = lit< tt }, ((refl, refl), refl)), ((record { ending = refl; room = lit< tt }, (record { stands = refl; calm = refl }, refl, refl)), ((record { ending = refl; room = lit< tt }, (record { stands = refl; calm = refl }, refl)), ((record { ending = refl; room = lit< tt }, (record { stands = refl; calm = refl }, refl)), ((record { ending = refl; room = lit< tt }, record { stands = refl; calm = refl }), (refl, tt)))))))))));
+  over = refl;
+}
+
+pub returns-clause-jumps : goal.returns-clause-jumps
+unfolding line_of
+returns-clause-jumps c = (tt, (tt, (tt, (tt, (record { idle = idle-computed _ _ refl refl refl; to_least = refl }, (tt, (tt, (tt, (tt, (tt, (tt, tt)))))))))))

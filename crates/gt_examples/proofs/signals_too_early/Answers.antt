@@ -1,0 +1,21 @@
+use Rattle.std.proofs.Common.{refl, lit<}
+use Rattle.gt_examples.proofs.Idle.{idle-computed}
+use Rattle.gt_examples.proofs.signals_too_early.Goals as goal
+
+pub returns-clause-history : goal.returns-clause-history
+returns-clause-history c = record {
+  legal = (
+    (record { ending = refl; room = lit< tt }, (record { stands = refl; calm = refl }, refl)),
+    (
+      (record { ending = refl; room = lit< tt }, (record { stands = refl; calm = refl }, refl, refl)),
+      (
+        (record { ending = refl; room = lit< tt }, record { stands = refl; calm = refl }),
+        ((record { ending = refl; room = lit< tt }, idle-computed _ _ refl refl refl, refl), tt),
+      ),
+    ),
+  );
+  over = refl;
+}
+
+pub returns-clause-jumps : goal.returns-clause-jumps
+returns-clause-jumps c = (tt, (tt, (tt, (tt, tt))))
