@@ -74,6 +74,26 @@ script() {
         local i
         for i in $(seq 16); do printf 'func f%s\nloop %s\nsend c%s 1\nend\nend\n' "$i" "$(($2 / 16))" "$i"; done
         ;;
+    chain | star)
+        # a tree of names, made, canceled at its root, and looked at
+        local names=$(($2 / 2))
+        if [ "$names" -gt 4000 ]; then names=4000; fi
+        echo "ctx x0 root cancel"
+        if [ "$1" = chain ]; then seq "$names" | awk '{print "ctx x" $1 " x" $1 - 1 " cancel"}'; else seq -f 'ctx x%g x0 cancel' "$names"; fi
+        printf 'func main\n' && seq -f 'with x%g' 0 "$names" && echo "cancel x0" && seq -f 'err x%g' "$names" && echo "end"
+        ;;
+    ends)
+        # contexts that are made and canceled one after the other, below one that lives, each with its deadline
+        local names=$(($2 / 2))
+        if [ "$names" -gt 4000 ]; then names=4000; fi
+        echo "ctx x0 root cancel" && seq -f 'ctx x%g x0 timeout 1s' "$names"
+        printf 'func main\nwith x0\n' && seq "$names" | sed 's/.*/with x&\ncancel x&/' && echo "end"
+        ;;
+    waiters)
+        local waiting=$(($2 / 3))
+        printf 'ctx x root cancel\nctx y x cancel\nfunc main\nwith x\nwith y\n' && repeated "go a" "$((waiting / 2))" && repeated "go b" "$((waiting / 2))"
+        printf 'sleep 1ms\ncancel x\nsleep 1ms\nend\nfunc a\nrecv x\nend\nfunc b\nrecv y\nend\n'
+        ;;
     go) printf 'timer t\nfunc main\nnew t 1ms\nstop t\ngo a\nrecv t\nend\nfunc a\ngo a\nend\n' ;;
     esac
 }
@@ -84,8 +104,8 @@ instructions() {
     sed -n 's/.*Collected : \([0-9]*\).*/\1/p' "$work/log"
 }
 
-# A chain of goroutines goes on until its limit, the others to their end. A script has fewer than 4,096 timers.
-for kind in say loop sleep reset receive go sleepers timers buffered pairs senders closed cases ticks wg mutex cond signals; do
+# A chain of goroutines goes on until its limit, the others to their end. A script has at most 4,096 names.
+for kind in say loop sleep reset receive go sleepers timers buffered pairs senders closed cases ticks wg mutex cond signals chain star ends waiters; do
     for count in 1000 99000; do
         limit=200000
         if [ "$kind" = timers ] && [ "$count" -gt 12000 ]; then count=12000; fi

@@ -1,5 +1,5 @@
 -- The making of a context: what it asks for, and the record of its deadline afterwards.
-use Rattle.std.proofs.Common.{◌≡◌, ℕ, ◌≤◌, ◌+◌, cond, min, nat_lt, length, Bool, true, false, refl, sym, ap, subst, ◌∙◌, Option, None, Some, IfSome, is_some, is_none, MatchOption, arith}
+use Rattle.std.proofs.Common.{IsTrue, ◌≡◌, ℕ, ◌≤◌, ◌+◌, cond, min, nat_lt, length, Bool, true, false, refl, sym, ap, subst, ◌∙◌, Option, None, Some, IfSome, is_some, is_none, MatchOption, arith}
 use Rattle.std.proofs.lemmas.Bool.{lt-ltb, eq-eqb}
 use Rattle.gt_model.specs.Times.{greatest_time}
 use Rattle.gt_model.specs.Good.{NamesRightly}
@@ -26,7 +26,7 @@ use Rattle.gt_facts.proofs.Lookups.{Standing, standing}
 use Rattle.gt_facts.proofs.Named.{names-instr_at}
 use Rattle.gt_rec.specs.declared.RecKind.{RecKind}
 use Rattle.gt_rec.specs.Rec.{Rec, BitsRight, shown}
-use Rattle.gt_rec.specs.Changes.{armed}
+use Rattle.gt_rec.specs.Changes.{armed, disarmed}
 use Rattle.gt_lazy.specs.Slots.{LazyHeap}
 use Rattle.gt_schedule.specs.declared.status.RunStatus.{RunStatus}
 use Rattle.gt_schedule.specs.Schedule.{at_case, status_of}
@@ -42,10 +42,10 @@ use Rattle.gt_book.proofs.Deadlines.{may-derive, MayDerive}
 use Rattle.gt_rows.specs.declared.answers.SetDone.{SetDone}
 use Rattle.gt_rows.specs.Agrees.{Agrees, period_of_timer}
 use Rattle.gt_rows.specs.Frames.{touched}
-use Rattle.gt_rows.specs.Lent.{IsLent, IsKept, IsPlaced, Settles, joins}
+use Rattle.gt_rows.specs.Lent.{IsLent, IsLentRec, IsKept, IsPlaced, Settles, joins}
 use Rattle.gt_rows.specs.Rows.{Answers, Parts, Arms, DerivesAt, DerivesBy, DeriveRow, derives, next_of, set_answer}
 use Rattle.gt_rows.proofs.Frames.{enters-fits}
-use Rattle.gt_rows.proofs.Keeping.{IsOfSame, agrees-entered, period-still}
+use Rattle.gt_rows.proofs.Keeping.{IsOfSame, agrees-entered, agrees-over, period-still}
 use Rattle.gt_rows.proofs.Tickers.{shown-own, kind-other}
 use Rattle.gt_fire.proofs.Sleeping.{Tells, IsArmed, armed-settles}
 
@@ -394,10 +394,8 @@ derive-kept old new g due did answer reply m lent ctx placed bits =
 
 -- ---- a deadline that is dropped
 
--- a context that has ended was declared as one
-pub ended-ctx : (b : BookView) (x : ℕ) → IsLawful b → has_ended b.state x ≡ true → is_ctx b.script x ≡ true
-ended-ctx b x lawful ended =
-    elim (context_at b.state x) as (λ o. context_at b.state x ≡ o → is_some (elim o as (λ o. Option End) [ None ↦ None | Some r ↦ r.end ]) ≡ true → is_ctx b.script x ≡ true) [
-      | None ↦ λ e h. cc
-      | Some r ↦ λ e h. (lawful.formed.ctxs x r e).named
-    ] refl ended
+pub drop-kept : (b : BookView) (r now : Rec) → now ≡ disarmed r → BitsRight now → IsLentRec b r → IsTrue (is_ctx b.script r.id) → IsTrue (has_ended b.state r.id) → IsLentRec b now
+drop-kept b r now is bits lent ctx ended = record {
+  agrees = agrees-over b.script b.state r now lent.agrees (record { id = ap (λ (r : Rec). r.id) is; kind = ap (λ (r : Rec). r.kind) is }) (ap (λ (r : Rec). r.period) is) ctx ended;
+  bits = bits;
+}

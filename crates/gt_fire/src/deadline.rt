@@ -1,12 +1,14 @@
 //! The deadline of a context.
 
-ghost use Rattle.std.specs.Prelude.{◌≡◌, Some, None, false};
+ghost use Rattle.std.specs.Prelude.{◌≡◌, Some, None, false, IsTrue};
+ghost use Rattle.gt_model.specs.Script.{is_ctx};
+ghost use Rattle.gt_rules.specs.State.{has_ended};
 ghost use Rattle.gt_model.specs.declared.entry.Entry.{Entry};
 ghost use Rattle.gt_schedule.specs.declared.status.RunStatus.{RunStatus};
 ghost use Rattle.gt_schedule.specs.Schedule.{status_of};
 ghost use Rattle.gt_book.specs.declared.step.Step.{Step};
 ghost use Rattle.gt_book.specs.declared.answers.TimerOp.{TimerOp};
-ghost use Rattle.gt_book.specs.View.{outcome_of};
+ghost use Rattle.gt_book.specs.View.{BookView, outcome_of};
 ghost use Rattle.gt_rows.specs.Lent.{IsLent, IsLentRec, IsKept};
 ghost use Rattle.gt_rows.specs.Rows.{Arms, DerivesAt, DeriveRow, DropRow, next_of};
 
@@ -57,15 +59,11 @@ fn derive(heap: &mut Lazy, rec: &mut TimerRec, book: &mut Book, g: u32, due: u64
     }
 }
 
-/// Ends the setting of the deadline of a context that has ended, as cancellations leave it to whoever finds the record at the head of a heap. Its heap
-/// learns of it later.
-pub fn sec_drop_deadline(rec: &mut TimerRec, book: &Book)
-    requires lent { IsLentRec book.now rec.old }
-    ensures row { DropRow (record { rec = rec.old; book = book.now }) (record { rec = rec.new; book = book.now }) }
-    ensures kept { IsLentRec book.now rec.new }
+/// Ends the setting of the deadline of a context that has ended, which an end leaves to whoever finds its record. The heap learns of it later. The record stays right
+/// beside each book in which that context has ended; it never lives again.
+pub fn sec_drop_deadline(rec: &mut TimerRec)
+    ensures row { DropRow rec.old rec.new }
+    ensures kept { (b : BookView) → IsLentRec b rec.old → IsTrue (is_ctx b.script rec.old.id) → IsTrue (has_ended b.state rec.old.id) → IsLentRec b rec.new }
 {
-    book.lawful();
-    if book.has_ended(rec.id) {
-        rec.disarm();
-    }
+    rec.disarm();
 }

@@ -180,9 +180,9 @@ DerivesBy old g new reply None = ⊥
 abbrev pub DeriveRow : Parts → ℕ → Parts → SetDone → Type 0
 DeriveRow old g new reply = UnlessOver old.book SetDone.Over reply (new ≡ old) (DerivesBy old g new reply (next_of old.book g))
 
--- the record of a context that has ended is set no more; another one stays as it is
-abbrev pub DropRow : Pair → Pair → Type 0
-DropRow old new = (new.book ≡ old.book) × (new.rec ≡ cond (has_ended old.book.state old.rec.id) (disarmed old.rec) old.rec)
+-- the record of a context's deadline is set no more
+abbrev pub DropRow : Rec → Rec → Type 0
+DropRow old new = new ≡ disarmed old
 
 -- ---- stopping a timer
 

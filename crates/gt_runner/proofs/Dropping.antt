@@ -1,6 +1,7 @@
 -- A deadline that is over leaves the heap once its record is at the head.
-use Rattle.std.proofs.Common.{◌≡◌, ℕ, ◌+◌, ◌<◌, ◌≤◌, if◌then◌else◌, ◌&&◌, ◌||◌, cond, zero, suc, List, [], ◌∷◌, length, set, slice_get, count_by, refl, sym, ap, subst, ◌∙◌, arith, Option, Some, IsSome, IsSomeAnd, Bool, true, false, is_some, inl}
+use Rattle.std.proofs.Common.{IsTrue, ◌≡◌, ℕ, ◌+◌, ◌<◌, ◌≤◌, if◌then◌else◌, ◌&&◌, ◌||◌, cond, zero, suc, List, [], ◌∷◌, length, set, slice_get, count_by, refl, sym, ap, subst, ◌∙◌, arith, Option, Some, IsSome, IsSomeAnd, Bool, true, false, is_some, inl}
 use Rattle.std.proofs.lemmas.Option.{slice_get_within}
+use Rattle.gt_model.specs.Script.{is_ctx}
 use Rattle.gt_rules.specs.State.{has_ended}
 use Rattle.gt_rec.specs.declared.RecKind.{RecKind}
 use Rattle.gt_rec.specs.Rec.{Rec, needs_heap, has_channel}
@@ -11,6 +12,7 @@ use Rattle.gt_schedule.specs.Counts.{as_number}
 use Rattle.gt_book.specs.View.{BookView}
 use Rattle.gt_rows.specs.Lent.{IsLentRec, IsPlaced}
 use Rattle.gt_rows.specs.Rows.{DropRow}
+use Rattle.gt_rows.proofs.Tickers.{kind-deadline}
 use Rattle.gt_runner.specs.declared.runner.Runner.{Runner}
 use Rattle.gt_runner.specs.Served.{IsWatched, IsTended, is_heaped}
 use Rattle.gt_runner.specs.Settled.{Held, UnfitHead, Drops, dropped, is_deadline, is_over, is_unfit, unfit_count}
@@ -67,12 +69,25 @@ pub record DropsOver (x x' : Runner) (id : ℕ) (r r1 : Rec) : Type 0 where
   pub book_is : x'.book ≡ x.book
   pub heap_is : x'.heap ≡ x.heap
   pub noted_is : x'.noted ≡ x.noted
-  pub row : DropRow (record { rec = r; book = x.book }) (record { rec = r1; book = x.book })
+  pub row : DropRow r r1
   pub lent : IsLentRec x.book r1
 
 dropped-is : (x x' : Runner) (id : ℕ) (r r1 : Rec) → DropsOver x x' id r r1 → r1 ≡ disarmed r
-dropped-is x x' id r r1 d =
-    d.row.1 ∙ ap (λ b. cond b (disarmed r) r) (right-of (is_deadline r.kind) (has_ended x.book.state r.id) d.over)
+dropped-is x x' id r r1 d = d.row
+
+is-deadline : (kind : RecKind) → is_deadline kind ≡ true → kind ≡ RecKind.Deadline
+is-deadline RecKind.Timer h = cc
+is-deadline RecKind.Ticker h = cc
+is-deadline RecKind.Func h = cc
+is-deadline RecKind.Sleep h = cc
+is-deadline RecKind.Deadline h = refl
+
+-- one that is over is of a context that has ended, so it stays right when it is dropped
+pub over-lent : (b : BookView) (r r1 : Rec) → is_over b r ≡ true → IsLentRec b r
+    → ((b : BookView) → IsLentRec b r → IsTrue (is_ctx b.script r.id) → IsTrue (has_ended b.state r.id) → IsLentRec b r1) → IsLentRec b r1
+over-lent b r r1 over lent kept =
+    kept b lent (kind-deadline b.script r.id (lent.agrees.kind ∙ ap Some (is-deadline r.kind (left-of (is_deadline r.kind) (has_ended b.state r.id) over))))
+    (right-of (is_deadline r.kind) (has_ended b.state r.id) over)
 
 same-item : {X : Type 0} (o : Option X) (x y : X) → o ≡ Some x → o ≡ Some y → x ≡ y
 same-item o x y e f = cc

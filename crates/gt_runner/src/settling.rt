@@ -58,7 +58,7 @@ fn drop_head(run: &mut Runner, id: u32)
 {
     let rec = run.records.at_mut(id as usize);
     if is_over(&run.book, rec) {
-        sec_drop_deadline(rec, &run.book);
+        sec_drop_deadline(rec);
     }
 }
 

@@ -76,7 +76,7 @@ pub(crate) const CONTEXTS: &[(&str, &str, Outcome)] = &[
          err g1 c context deadline exceeded\nend g1\nexit\n",
         Outcome::Exit,
     ),
-    // neither is one at the same time
+    // one at the same time is kept, and whichever is served first ends both
     (
         "ctx p root timeout 5ms\nctx c p timeout 5ms\nfunc main\nwith p\nwith c\nrecv c\nerr c\nerr p\nend\n",
         "with g1 p live\nwith g1 c live\nclock 0 5000000\nexpire p 0\nctxdone g1 c\n\

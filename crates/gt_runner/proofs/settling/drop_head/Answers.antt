@@ -1,14 +1,11 @@
 use Rattle.std.proofs.Common.{refl, sym}
 use Rattle.gt_runner.proofs.Tending.{tended-touched}
 use Rattle.gt_runner.proofs.Cleanings.{inside-items}
-use Rattle.gt_runner.proofs.Dropping.{drops-touches, over-drops, rests-drops, rests-tended, head-lent}
+use Rattle.gt_runner.proofs.Dropping.{over-lent, drops-touches, over-drops, rests-drops, rests-tended, head-lent}
 use Rattle.gt_runner.proofs.settling.drop_head.Goals as goal
 
 pub at_mut-rec-requires : goal.at_mut-rec-requires
 at_mut-rec-requires c = inside-items c.args.run.now c.args.id c.requires.head.slot c.requires.head.held
-
-pub sec_drop_deadline-requires : goal.sec_drop_deadline-requires
-sec_drop_deadline-requires c = record { lent = head-lent c.args.run.now c.args.id c.at_mut-rec.result.now c.requires.head c.at_mut-rec.ensures.value }
 
 pub returns-then-is_over-clause-tended : goal.returns-then-is_over-clause-tended
 returns-then-is_over-clause-tended c =
@@ -24,7 +21,8 @@ returns-then-is_over-clause-tended c =
       heap_is = refl;
       noted_is = refl;
       row = c.sec_drop_deadline.ensures.row;
-      lent = c.sec_drop_deadline.ensures.kept;
+      lent = over-lent x.book c.at_mut-rec.result.now c.sec_drop_deadline.new.rec (sym c.if-is_over.ensures)
+          (head-lent x c.args.id c.at_mut-rec.result.now c.requires.head c.at_mut-rec.ensures.value) c.sec_drop_deadline.ensures.kept;
     }))
 
 pub returns-then-is_over-clause-drops : goal.returns-then-is_over-clause-drops
@@ -40,7 +38,8 @@ returns-then-is_over-clause-drops c =
       heap_is = refl;
       noted_is = refl;
       row = c.sec_drop_deadline.ensures.row;
-      lent = c.sec_drop_deadline.ensures.kept;
+      lent = over-lent x.book c.at_mut-rec.result.now c.sec_drop_deadline.new.rec (sym c.if-is_over.ensures)
+          (head-lent x c.args.id c.at_mut-rec.result.now c.requires.head c.at_mut-rec.ensures.value) c.sec_drop_deadline.ensures.kept;
     })
 
 pub returns-else-is_over-clause-tended : goal.returns-else-is_over-clause-tended
